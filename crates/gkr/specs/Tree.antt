@@ -1,0 +1,36 @@
+-- The fraction tree: a node is the sum of its two children, not reduced; the leaves are the rows.
+-- Assumes nothing.
+use mathlib.Core.List.{List}
+use Prim.Native.Nat.{ℕ, zero, suc}
+use Rattle.ring.specs.Ring.{CommRing}
+use Rattle.multilinear.specs.Table
+use Rattle.multilinear.specs.Table.{even, odd}
+use Rattle.multilinear.specs.RoundSum.{Claims}
+use Rattle.multilinear.specs.Forms
+use Rattle.gkr.specs.Run.{Frac}
+
+module _ (K : CommRing) where
+  open CommRing K using (carrier as R, add as _+_, mul as _*_)
+
+  infixl 65 _+_
+  infixl 70 _*_
+  -- the sum of the two fractions that the claims on a layer name
+  abbrev pub compute-recursive-relations : Claims R → Frac R
+  compute-recursive-relations c = record { p = c .p0 * c .q1 + c .p1 * c .q0; q = c .q0 * c .q1 }
+
+  -- the fractions below node y, left and right
+  abbrev pub children : (ℕ → Frac R) → ℕ → Claims R
+  children f y = record { p0 = f (even y) .p; q0 = f (even y) .q; p1 = f (odd y) .p; q1 = f (odd y) .q }
+
+  -- the nodes at height h over the rows f
+  unfoldable pub tree : (ℕ → Frac R) → ℕ → ℕ → Frac R
+  tree f zero i = f i
+  tree f (suc h) i = compute-recursive-relations (children (tree f h) i)
+
+  -- the values of the columns p and q at a point
+  abbrev pub value : (ℕ → Frac R) → List R → Frac R
+  value f zs = record { p = Table.value K (λ i. f i .p) zs; q = Table.value K (λ i. f i .q) zs }
+
+  -- the claims on the left and the right, brought together at mu
+  abbrev pub reduce-to-single-evaluation : Claims R → R → Frac R
+  reduce-to-single-evaluation c mu = record { p = Forms.line K (c .p0) (c .p1) mu; q = Forms.line K (c .q0) (c .q1) mu }
