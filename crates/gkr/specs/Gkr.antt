@@ -10,7 +10,7 @@ use Rattle.ring.specs.Field.{Field}
 use Rattle.multilinear.specs.Table
 use Rattle.multilinear.specs.RoundSum
 use Rattle.multilinear.specs.RoundSum.{Claims}
-use Rattle.gkr.specs.Run.{Transcript, Frac, Cubic}
+use Rattle.gkr.specs.Run.{Transcript, Frac, Cubic, Proof}
 use Rattle.gkr.specs.Tree
 use Rattle.gkr.specs.Sumcheck
 
@@ -20,13 +20,6 @@ module _ (F : Field) where
 
   infixl 65 _+_
   infixl 70 _*_
-  -- THE PROOF
-
-  pub record Proof : Type 0 where
-    pub q0 : R
-    pub claims : List (Claims R)
-    pub polys : List (List (Cubic R))
-
   module _ (S : Transcript R) where
     open Transcript S using (Log, observe, draw, drawn)
 
@@ -52,7 +45,7 @@ module _ (F : Field) where
 
     pub record Proved : Type 0 where
       pub sum : Frac R
-      pub proof : Proof
+      pub proof : Proof R
       pub point : List R
       pub log : Log
 
@@ -64,6 +57,10 @@ module _ (F : Field) where
         let t₁ = observe-layer-claims c (observe (root .q) t) in
         let P = send f m (draw t₁ ∷ []) (drawn t₁) in
         record { sum = root; proof = record { q0 = root .q; claims = c ∷ P .claims; polys = P .polys }; point = P .point; log = P .log }
+
+    -- no rows: the sum is (0, 1), and nothing is observed or sampled
+    abbrev pub no-rows : Log → Proved
+    no-rows t = record { sum = record { p = nil; q = one }; proof = record { q0 = one; claims = []; polys = [] }; point = []; log = t }
 
     pub data Answer : Type 0 where
       done : Proved → Answer
@@ -113,6 +110,6 @@ module _ (F : Field) where
         let polys = cond (eqb (length mss) m) (root q0 c cs mss t) (poly-count m (length mss)) in
         cond (eqb (length cs) m) polys (layer-count (suc m) (suc (length cs)))
 
-    unfoldable pub verify-gkr : ℕ → Proof → Log → Verdict
+    unfoldable pub verify-gkr : ℕ → Proof R → Log → Verdict
     verify-gkr zero π t = zero-rounds
     verify-gkr (suc m) π t = counted m (π .q0) (π .claims) (π .polys) t

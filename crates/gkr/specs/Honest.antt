@@ -13,7 +13,7 @@ use Rattle.multilinear.specs.Table
 use Rattle.multilinear.specs.RoundSum
 use Rattle.multilinear.specs.RoundSum.{Claims}
 use Rattle.multilinear.specs.RoundSumLaws
-use Rattle.gkr.specs.Run.{Transcript, Frac, Cubic}
+use Rattle.gkr.specs.Run.{Transcript, Frac, Cubic, Proof}
 use Rattle.gkr.specs.Tree
 use Rattle.gkr.specs.TreeLaws
 use Rattle.gkr.specs.Sumcheck
@@ -81,7 +81,7 @@ module _ (F : Field) (S : Transcript (F .ring .carrier)) where
   abbrev counted : ℕ → R → List (Claims R) → List (List (Cubic R)) → Log → Verdict
   counted = Gkr.counted F S
 
-  abbrev verify-gkr : ℕ → Gkr.Proof F → Log → Verdict
+  abbrev verify-gkr : ℕ → Proof R → Log → Verdict
   verify-gkr = Gkr.verify-gkr F S
 
   same-true : (x y : R) → x ≡ y → same x y ≡ true
