@@ -1,0 +1,5 @@
+-- The stored forms of a sheet and of a proof.
+pub mod Layout
+pub mod Parse
+pub mod Shapes
+pub mod ParseLaws
