@@ -3,3 +3,4 @@ pub mod Layout
 pub mod Parse
 pub mod Shapes
 pub mod ParseLaws
+pub mod ReadWords

@@ -1,8 +1,12 @@
 // The stored form of a proof: its shape, its elements, and the search for a bad word in it.
 ghost use mathlib.Core.Path.{_≡_};
+ghost use mathlib.Core.Bool.{true};
 ghost use Prim.Native.Nat.{_+_, _*_, _≤_};
 ghost use lib.ListN.{length, drop};
-ghost use Rattle.stored.specs.Parse.{parse, entriesFit, claimsOf, cubicOf};
+ghost use Rattle.wire.specs.Words.{allCanonical, firstBad};
+ghost use Rattle.stored.specs.Layout.{polysWords, proofWords};
+ghost use Rattle.stored.specs.Parse.{parse, entriesFit, entriesFrom, proofOf, claimsOf, cubicOf};
+ghost use Rattle.stored.specs.ParseLaws.{Shaped};
 ghost use Rattle.stored.specs.Shapes.{shapeOf, claimsIn, cubicIn};
 use field::Ext;
 use refusal::Refusal;
@@ -104,4 +108,51 @@ pub fn read_subround(proof: &[u8], at: usize) -> SubroundEvals
         s_2: wire::element_at(proof, at + 16),
         s_3: wire::element_at(proof, at + 32),
     }
+}
+
+// The place of the first bad word among the polynomial entries from a place on: left by the label at that word's sub-round.
+fn first_bad_in_entries(proof: &[u8], from: usize, count: usize) -> usize
+    requires { ⌜ (from ≤ length (now proof)) × (entriesFit count (drop from (now proof)) ≡ true) ⌝ }
+    ensures { λ r. ⌜ (r ≡ firstBad (polysWords (entriesFrom count (drop from (now (proof .entry)))))) × (4 * r ≤ length (now (proof .entry))) ⌝ }
+{
+    let mut place = 0;
+    let mut at = from;
+    'entries: for k in 0..count {
+        let subrounds = wire::wide(proof[at]) as usize;
+        at += 1;
+        for j in 0..subrounds {
+            let bad = wire::first_bad_stored(proof, at, 12);
+            place += bad;
+            if bad < 12 {
+                break 'entries;
+            }
+            at += 48;
+        }
+    }
+    place
+}
+
+// The place of the first bad word of a proof, counted over the words of its elements; their number if there is none.
+pub fn first_bad_in_proof(proof: &[u8], outline: Outline) -> usize
+    requires { ⌜ Shaped (now proof) outline ⌝ }
+    ensures { λ r. ⌜ r ≡ firstBad (proofWords (proofOf (now (proof .entry)))) ⌝ }
+{
+    let root = wire::first_bad_stored(proof, 5, 4);
+    if root < 4 {
+        return root;
+    }
+    let words = 16 * outline.layers;
+    let claims = wire::first_bad_stored(proof, 22, words);
+    if claims < words {
+        return 4 + claims;
+    }
+    4 + words + first_bad_in_entries(proof, outline.polys, outline.entries)
+}
+
+// Whether every word of a proof is canonical.
+pub fn canonical_proof(proof: &[u8], outline: Outline) -> bool
+    requires { ⌜ Shaped (now proof) outline ⌝ }
+    ensures { λ r. ⌜ r ≡ allCanonical (proofWords (proofOf (now (proof .entry)))) ⌝ }
+{
+    first_bad_in_proof(proof, outline) == (proof.len() - 7 - outline.entries) / 4
 }
