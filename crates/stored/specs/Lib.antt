@@ -4,3 +4,5 @@ pub mod Parse
 pub mod Shapes
 pub mod ParseLaws
 pub mod ReadWords
+pub mod RoundTrip
+pub mod Lengths
