@@ -6,3 +6,6 @@ pub mod ParseLaws
 pub mod ReadWords
 pub mod RoundTrip
 pub mod Lengths
+pub mod Sheet
+pub mod SheetReads
+pub mod SheetLaws

@@ -11,6 +11,8 @@ ghost use Rattle.stored.specs.Shapes.{shapeOf, claimsIn, cubicIn};
 use field::Ext;
 use refusal::Refusal;
 
+pub mod sheet;
+
 // The counts of the two lists, and the place of the first polynomial entry.
 pub struct Outline {
     pub layers: usize,
@@ -20,6 +22,12 @@ pub struct Outline {
 
 pub enum Shape {
     Good(Outline),
+    Refused(Refusal),
+}
+
+// What reading or writing a sheet ends with.
+pub enum SheetAnswer {
+    Done(usize),
     Refused(Refusal),
 }
 
