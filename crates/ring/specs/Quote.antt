@@ -9,7 +9,8 @@ use mathlib.Core.List.{List, [], _∷_}
 use native.Mathlib.Nat.{zero-add, add-zero, add-suc, suc-add}
 use Rattle.ring.specs.Ring.{CommRing, num}
 use Rattle.ring.specs.RingLaws.{eq-of-sub, sub-of-eq, mul-nil}
-use Rattle.ring.specs.Solver.{vanishes, nth, den, Checks, E, var, #_, 𝟎, 𝟏, _⊕_, _⊖_, _⊗_, ⊝_}
+use Rattle.ring.specs.Expression.{nth, den, Checks, E, var, #_, 𝟎, 𝟏, _⊕_, _⊖_, _⊗_, ⊝_}
+use Rattle.ring.specs.Solver.{vanishes}
 
 -- The first index of these three types is always `R .one`. It says nothing: `search` finds a ring that is a definition, as `ExtRing`, only
 -- where what it looks for names one of the ring's fields.
