@@ -3,7 +3,7 @@
 -- `ring-by R (a ∷ b ∷ []) (c ▷ h ∷ []) (search quote) tt` may also use h : l ≡ r, taken c times.
 -- `Quote R ρ u t` holds the ways to write t over the list ρ.
 -- Assumes nothing.
-use Prim.Native.Nat.{ℕ, zero, suc, _+_}
+use Prim.Native.Nat.{ℕ, suc, _+_}
 use mathlib.Core.Path.{_≡_, refl, sym, _∙_, ap, ap₂}
 use mathlib.Core.List.{List, [], _∷_}
 use native.Mathlib.Nat.{zero-add, add-zero, add-suc, suc-add}

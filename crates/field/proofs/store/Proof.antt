@@ -4,8 +4,6 @@ use native.Mathlib.Omega.{arith}
 use borrow.Author.Needs.{needs}
 use Rattle.field.proofs.store.Statement.{statement}
 use Rattle.field.proofs.store.Tie as tie
-use Rattle.field.proofs.store.Reads as reads
-use Rattle.field.proofs.store.Lts as lts
 
 mul-k : tie.Need-mul-k
 mul-k c = search needs
