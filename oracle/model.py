@@ -434,9 +434,9 @@ def base(f):
     return lambda *a: f(*((w, 0, 0, 0) for w in a))[:1]
 
 
-SINGLE = {1: add, 2: sub, 3: lambda a: sub(ZERO, a), 4: lambda a: add(a, a), 5: mul, 6: lambda a: mul(a, a),
+SINGLE = {1: add, 2: sub, 3: lambda a: sub(ZERO, a), 4: lambda a: add(a, a), 5: lambda a, b: mul(a, b), 6: lambda a: mul(a, a),
           7: lambda a: scale(a, HALF), 8: lambda a, b: scale(a, b)}
-SINGLE.update({11: base(add), 12: base(sub), 13: base(SINGLE[3]), 14: base(SINGLE[4]), 15: base(mul), 16: base(SINGLE[6]),
+SINGLE.update({11: base(add), 12: base(sub), 13: base(SINGLE[3]), 14: base(SINGLE[4]), 15: base(SINGLE[5]), 16: base(SINGLE[6]),
                17: base(SINGLE[7])})
 
 

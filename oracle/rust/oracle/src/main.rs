@@ -32,7 +32,10 @@ fn words(s: &str) -> Vec<u32> {
 
 /// Words that are not canonical are taken by their remainders.
 fn base(s: &str) -> Vec<BabyBear> {
-    words(s).into_iter().map(|w| BabyBear::from_u64(w as u64)).collect()
+    words(s)
+        .into_iter()
+        .map(|w| BabyBear::from_u64(w as u64))
+        .collect()
 }
 
 fn ext(s: &str) -> Vec<Ext> {
@@ -45,12 +48,18 @@ fn bytes(s: &str) -> Vec<u8> {
     if s == "-" {
         return vec![];
     }
-    (0..s.len() / 2).map(|i| u8::from_str_radix(&s[2 * i..2 * i + 2], 16).expect("a byte")).collect()
+    (0..s.len() / 2)
+        .map(|i| u8::from_str_radix(&s[2 * i..2 * i + 2], 16).expect("a byte"))
+        .collect()
 }
 
 fn list<T: ToString>(v: impl IntoIterator<Item = T>) -> String {
     let v: Vec<String> = v.into_iter().map(|x| x.to_string()).collect();
-    if v.is_empty() { "-".into() } else { v.join(",") }
+    if v.is_empty() {
+        "-".into()
+    } else {
+        v.join(",")
+    }
 }
 
 fn hex(v: &[u8]) -> String {
@@ -70,7 +79,9 @@ fn panic_text(e: Box<dyn Any + Send>) -> String {
 fn prove(assert_zero: bool, rows: Vec<Ext>, challenges: Vec<BabyBear>) -> String {
     let rows: Vec<Frac<Ext>> = rows.chunks(2).map(|c| Frac::new(c[0], c[1])).collect();
     let mut ts = Scripted::new(challenges);
-    let run = catch_unwind(AssertUnwindSafe(|| fractional_sumcheck::<SC, _>(&mut ts, &rows, assert_zero)));
+    let run = catch_unwind(AssertUnwindSafe(|| {
+        fractional_sumcheck::<SC, _>(&mut ts, &rows, assert_zero)
+    }));
     let left = format!("used={} log={}", ts.used, list(&ts.log));
     match run {
         Err(e) => format!("panic text={} {left}", panic_text(e)),
@@ -78,7 +89,11 @@ fn prove(assert_zero: bool, rows: Vec<Ext>, challenges: Vec<BabyBear>) -> String
         Ok(Ok((proof, xi))) => {
             let (p, q) = proof.fractional_sum;
             let stored = stored::store(q, &proof.claims_per_layer, &proof.sumcheck_polys);
-            format!("ok p={p} q={q} proof={} point={} {left}", hex(&stored), list(&xi))
+            format!(
+                "ok p={p} q={q} proof={} point={} {left}",
+                hex(&stored),
+                list(&xi)
+            )
         }
     }
 }
@@ -90,12 +105,16 @@ fn verify(rounds: usize, proof: &[u8], challenges: Vec<BabyBear>) -> String {
         Err(no) => return format!("err no={no} used=0 log=-"),
     };
     let mut ts = Scripted::new(challenges);
-    let run = catch_unwind(AssertUnwindSafe(|| verify_gkr::<SC, _>(&proof, &mut ts, rounds)));
+    let run = catch_unwind(AssertUnwindSafe(|| {
+        verify_gkr::<SC, _>(&proof, &mut ts, rounds)
+    }));
     let left = format!("used={} log={}", ts.used, list(&ts.log));
     match run {
         Err(e) => format!("panic text={} {left}", panic_text(e)),
         Ok(Err(e)) => format!("err {} {left}", error(&e)),
-        Ok(Ok((numer, denom, xi))) => format!("ok numer={numer} denom={denom} point={} {left}", list(&xi)),
+        Ok(Ok((numer, denom, xi))) => {
+            format!("ok numer={numer} denom={denom} point={} {left}", list(&xi))
+        }
     }
 }
 
@@ -103,14 +122,28 @@ fn error(e: &GkrVerificationError<Ext>) -> String {
     use GkrVerificationError::*;
     match e {
         InvalidZeroRoundValue { .. } => unreachable!("the Rust never constructs it"),
-        IncorrectLayerCount { expected, actual } => format!("no=14 expected={expected} actual={actual}"),
-        IncorrectSumcheckPolyCount { expected, actual } => format!("no=15 expected={expected} actual={actual}"),
+        IncorrectLayerCount { expected, actual } => {
+            format!("no=14 expected={expected} actual={actual}")
+        }
+        IncorrectSumcheckPolyCount { expected, actual } => {
+            format!("no=15 expected={expected} actual={actual}")
+        }
         ZeroCheckFailed { actual } => format!("no=16 actual={actual}"),
-        RootConsistencyCheckFailed { expected, actual } => format!("no=17 expected={expected} actual={actual}"),
-        IncorrectSubroundCount { round, expected, actual } => {
+        RootConsistencyCheckFailed { expected, actual } => {
+            format!("no=17 expected={expected} actual={actual}")
+        }
+        IncorrectSubroundCount {
+            round,
+            expected,
+            actual,
+        } => {
             format!("no=18 round={round} expected={expected} actual={actual}")
         }
-        LayerConsistencyCheckFailed { round, expected, actual } => {
+        LayerConsistencyCheckFailed {
+            round,
+            expected,
+            actual,
+        } => {
             format!("no=19 round={round} expected={expected} actual={actual}")
         }
     }
@@ -119,13 +152,20 @@ fn error(e: &GkrVerificationError<Ext>) -> String {
 /// round_poly VARIABLES LAMBDA EQ COLUMNS: the prover's closure over eq and the columns p0, q0, p1, q1.
 fn round_poly(variables: usize, lambda: Ext, eq: Vec<Ext>, columns: Vec<Ext>) -> String {
     let (eq, pq) = (ColMajorMatrix::new(eq, 1), ColMajorMatrix::new(columns, 4));
-    let [s] = sumcheck_round_poly_evals(variables, 3, &[eq.as_view(), pq.as_view()], |_x, _y, row| {
-        let eq_xi = row[0][0];
-        let &[p_j0, q_j0, p_j1, q_j1] = row[1].as_slice() else { unreachable!("four columns") };
-        let p_prev = p_j0 * q_j1 + p_j1 * q_j0;
-        let q_prev = q_j0 * q_j1;
-        [eq_xi * (p_prev + lambda * q_prev)]
-    });
+    let [s] = sumcheck_round_poly_evals(
+        variables,
+        3,
+        &[eq.as_view(), pq.as_view()],
+        |_x, _y, row| {
+            let eq_xi = row[0][0];
+            let &[p_j0, q_j0, p_j1, q_j1] = row[1].as_slice() else {
+                unreachable!("four columns")
+            };
+            let p_prev = p_j0 * q_j1 + p_j1 * q_j0;
+            let q_prev = q_j0 * q_j1;
+            [eq_xi * (p_prev + lambda * q_prev)]
+        },
+    );
     list(&s)
 }
 
@@ -150,9 +190,16 @@ fn helper(t: &[&str]) -> String {
         "base_mul" => (word(1) * word(2)).to_string(),
         "base_square" => word(1).square().to_string(),
         "base_halve" => word(1).halve().to_string(),
-        "linear" => interpolate_linear_at_01(&all(1).try_into().expect("two values"), one(2)).to_string(),
-        "quadratic" => interpolate_quadratic_at_012(&all(1).try_into().expect("three values"), one(2)).to_string(),
-        "cubic" => interpolate_cubic_at_0123(&all(1).try_into().expect("four values"), one(2)).to_string(),
+        "linear" => {
+            interpolate_linear_at_01(&all(1).try_into().expect("two values"), one(2)).to_string()
+        }
+        "quadratic" => {
+            interpolate_quadratic_at_012(&all(1).try_into().expect("three values"), one(2))
+                .to_string()
+        }
+        "cubic" => {
+            interpolate_cubic_at_0123(&all(1).try_into().expect("four values"), one(2)).to_string()
+        }
         "eval_eq_mle" => eval_eq_mle(&all(1), &all(2)).to_string(),
         "eval_mle_evals_at_point" => {
             let mut table = all(1);
@@ -188,6 +235,8 @@ fn main() {
         }
         let said = catch_unwind(AssertUnwindSafe(|| answer(&t)))
             .unwrap_or_else(|e| format!("panic text={}", panic_text(e)));
-        writeln!(out, "{said}").and_then(|()| out.flush()).expect("standard output");
+        writeln!(out, "{said}")
+            .and_then(|()| out.flush())
+            .expect("standard output");
     }
 }

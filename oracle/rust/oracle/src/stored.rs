@@ -34,7 +34,10 @@ fn put(out: &mut Vec<u8>, e: Ext) {
 
 /// The proof that the bytes hold, or document 01's number: 12, 13, or 6 once the whole layout is known to be good.
 pub fn load(bytes: &[u8]) -> Result<GkrProof<SC>, u32> {
-    let mut c = Cursor { rest: bytes, bad_word: false };
+    let mut c = Cursor {
+        rest: bytes,
+        bad_word: false,
+    };
     if c.byte() != Ok(1) {
         return Err(12);
     }
@@ -46,7 +49,12 @@ pub fn load(bytes: &[u8]) -> Result<GkrProof<SC>, u32> {
     let mut claims_per_layer = vec![];
     for _ in 0..c.byte()? {
         let (p_xi_0, q_xi_0, p_xi_1, q_xi_1) = (c.ext()?, c.ext()?, c.ext()?, c.ext()?);
-        claims_per_layer.push(GkrLayerClaims { p_xi_0, p_xi_1, q_xi_0, q_xi_1 });
+        claims_per_layer.push(GkrLayerClaims {
+            p_xi_0,
+            p_xi_1,
+            q_xi_0,
+            q_xi_1,
+        });
     }
     let mut sumcheck_polys = vec![];
     for _ in 0..c.byte()? {
@@ -62,7 +70,12 @@ pub fn load(bytes: &[u8]) -> Result<GkrProof<SC>, u32> {
     if c.bad_word {
         return Err(6);
     }
-    Ok(GkrProof { logup_pow_witness: BabyBear::ZERO, q0_claim, claims_per_layer, sumcheck_polys })
+    Ok(GkrProof {
+        logup_pow_witness: BabyBear::ZERO,
+        q0_claim,
+        claims_per_layer,
+        sumcheck_polys,
+    })
 }
 
 struct Cursor<'a> {
@@ -78,7 +91,12 @@ impl Cursor<'_> {
     }
 
     fn word(&mut self) -> Result<u32, u32> {
-        Ok(u32::from_be_bytes([self.byte()?, self.byte()?, self.byte()?, self.byte()?]))
+        Ok(u32::from_be_bytes([
+            self.byte()?,
+            self.byte()?,
+            self.byte()?,
+            self.byte()?,
+        ]))
     }
 
     fn ext(&mut self) -> Result<Ext, u32> {

@@ -45,7 +45,11 @@ pub struct Scripted {
 
 impl Scripted {
     pub fn new(challenges: Vec<BabyBear>) -> Self {
-        Self { challenges, used: 0, log: vec![] }
+        Self {
+            challenges,
+            used: 0,
+            log: vec![],
+        }
     }
 }
 

@@ -16,7 +16,10 @@ pub trait TwoAdicSubgroupDft<F: TwoAdicField> {
         let n = v.len();
         let w_inv = F::two_adic_generator(log2(n)).inverse();
         let n_inv = F::from_usize(n).inverse();
-        eval_all(&v, F::ONE, w_inv).into_iter().map(|x| x * n_inv).collect()
+        eval_all(&v, F::ONE, w_inv)
+            .into_iter()
+            .map(|x| x * n_inv)
+            .collect()
     }
     fn coset_dft(&self, v: Vec<F>, shift: F) -> Vec<F> {
         let w = F::two_adic_generator(log2(v.len()));

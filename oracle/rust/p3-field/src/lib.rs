@@ -57,7 +57,10 @@ pub trait PrimeCharacteristicRing:
         r
     }
     fn powers(&self) -> Powers<Self> {
-        Powers { base: self.clone(), current: Self::ONE }
+        Powers {
+            base: self.clone(),
+            current: Self::ONE,
+        }
     }
     fn zero_vec(len: usize) -> Vec<Self> {
         vec![Self::ZERO; len]
@@ -170,7 +173,11 @@ impl serde::Serialize for BabyBear {
 impl<'de> serde::Deserialize<'de> for BabyBear {
     fn deserialize<D: serde::Deserializer<'de>>(d: D) -> Result<Self, D::Error> {
         let x = <u32 as serde::Deserialize>::deserialize(d)?;
-        if x < P { Ok(Self::new(x)) } else { Err(serde::de::Error::custom("not canonical")) }
+        if x < P {
+            Ok(Self::new(x))
+        } else {
+            Err(serde::de::Error::custom("not canonical"))
+        }
     }
 }
 impl Add for BabyBear {
@@ -221,7 +228,11 @@ impl PrimeCharacteristicRing for BabyBear {
 impl Field for BabyBear {
     const GENERATOR: Self = Self::new(31);
     fn try_inverse(&self) -> Option<Self> {
-        if *self == Self::ZERO { None } else { Some(self.exp_u64(P as u64 - 2)) }
+        if *self == Self::ZERO {
+            None
+        } else {
+            Some(self.exp_u64(P as u64 - 2))
+        }
     }
 }
 impl PrimeField for BabyBear {}

@@ -29,7 +29,11 @@ pub mod dense {
             self.width
         }
         fn height(&self) -> usize {
-            if self.width == 0 { 0 } else { self.values.len() / self.width }
+            if self.width == 0 {
+                0
+            } else {
+                self.values.len() / self.width
+            }
         }
     }
 }

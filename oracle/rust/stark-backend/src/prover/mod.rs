@@ -32,12 +32,18 @@ pub struct StridedColMajorMatrixView<'a, F> {
     width: usize,
     height: usize,
 }
-macro_rules! dims { ($t:ty) => {
-    impl<F> MatrixDimensions for $t {
-        fn height(&self) -> usize { self.height }
-        fn width(&self) -> usize { self.width }
-    }
-} }
+macro_rules! dims {
+    ($t:ty) => {
+        impl<F> MatrixDimensions for $t {
+            fn height(&self) -> usize {
+                self.height
+            }
+            fn width(&self) -> usize {
+                self.width
+            }
+        }
+    };
+}
 dims!(ColMajorMatrix<F>);
 dims!(ColMajorMatrixView<'_, F>);
 dims!(StridedColMajorMatrixView<'_, F>);
@@ -45,10 +51,18 @@ impl<F> ColMajorMatrix<F> {
     pub fn new(values: Vec<F>, width: usize) -> Self {
         assert_eq!(values.len() % width, 0);
         let height = values.len() / width;
-        Self { values, width, height }
+        Self {
+            values,
+            width,
+            height,
+        }
     }
     pub fn as_view(&self) -> ColMajorMatrixView<'_, F> {
-        ColMajorMatrixView { values: &self.values, width: self.width, height: self.height }
+        ColMajorMatrixView {
+            values: &self.values,
+            width: self.width,
+            height: self.height,
+        }
     }
     pub fn column(&self, j: usize) -> &[F] {
         &self.values[j * self.height..(j + 1) * self.height]
@@ -64,7 +78,11 @@ impl<'a, F> ColMajorMatrixView<'a, F> {
 }
 impl<'a, F> From<ColMajorMatrixView<'a, F>> for StridedColMajorMatrixView<'a, F> {
     fn from(v: ColMajorMatrixView<'a, F>) -> Self {
-        Self { values: v.values, width: v.width, height: v.height }
+        Self {
+            values: v.values,
+            width: v.width,
+            height: v.height,
+        }
     }
 }
 impl<F> MatrixView<F> for StridedColMajorMatrixView<'_, F> {
