@@ -9,7 +9,10 @@ HERE = os.path.dirname(os.path.abspath(__file__))
 
 
 def program(build="release"):
+    """The oracle's path; ORACLE in the environment puts another in the place of the release build."""
     path = f"{HERE}/rust/target/{build}/oracle"
+    if build == "release":
+        path = os.environ.get("ORACLE", path)
     if not os.path.exists(path):
         raise SystemExit("build the oracle first: oracle/build RUST_DIR")
     return path

@@ -9,9 +9,16 @@ P = m.P
 TOP = (1 << 32) - 1
 EDGE = [0, 1, 2, P - 1]
 BAD = [P, P + 1, 1 << 31, TOP]
-# The longest lists and buffers of any case, for programs that read them into arrays.
-LARGEST = {"rows": 16400, "challenges": 320, "proof room": 2900, "point": 48, "log": 1000, "workspace": 32800,
-           "proof": 16400, "sheet": 65600, "sheet rows": 16400, "poly list": 8200}
+# The longest lists and buffers of a case, by its arguments, for programs that read them into arrays (lists of poly: 8,200).
+LARGEST = {40: (1, 1, 16400, 320, 2900, 48, 1000, 32800), 50: ((1 << 64) - 1, 16400, 320, 48, 1000), 60: (65600, 16400)}
+
+
+def within(code, a):
+    """Whether a case keeps to LARGEST."""
+    if FORMS[code][0] == "poly":
+        rooms = a[-2:-1] if code in (26, 27, 30) else []
+        return all(len(x) <= 8200 for x in a if isinstance(x, list)) and all(r <= 8200 for r in rooms)
+    return all((len(x) if isinstance(x, list) else x) <= most for x, most in zip(a, LARGEST.get(code, ())))
 
 
 class Make:
@@ -107,7 +114,7 @@ class Make:
             rows = [1] * 8 * self.r.choice([m.ROWS + 1, 2 * m.ROWS, self.r.randrange(m.ROWS, 2 * m.ROWS)])
         live, asserted = self.r.randrange(2), self.r.randrange(2)
         count = len(rows) // 8
-        n = count.bit_length() - 1 if m.power_of_two(count) else 0
+        n = count.bit_length() - 1 if m.power_of_two(count) and count <= m.ROWS else 0
         needed = self.spoil(self.challenges(n), 0.04)
         challenges = (needed + [self.r.choice(BAD + EDGE) for _ in range(self.r.randrange(0, 6))])[:self.near(len(needed) + 4, 0.05)]
         return 40, [live, asserted, self.spoil(rows, 0.04), challenges, self.near(m.proof_bytes(n), 0.03),
