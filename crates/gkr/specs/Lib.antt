@@ -1,6 +1,7 @@
 -- The run: definitions (Run, Tree, Sumcheck, Gkr, Transcripts), and what is proved of them.
 pub mod Run
 pub mod Sizes
+pub mod Tests
 pub mod Tree
 pub mod TreeLaws
 pub mod Sumcheck
@@ -8,6 +9,8 @@ pub mod SumcheckLaws
 pub mod Gkr
 pub mod Honest
 pub mod Count
+pub mod VerifierCount
+pub mod Keeps
 pub mod Transcripts
 pub mod TranscriptLaws
 pub mod Cases
