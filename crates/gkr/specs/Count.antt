@@ -87,10 +87,11 @@ module _ (F : Field) (S : Transcript (F .ring .carrier)) where
   send-point f zero xi t = omega arith
   send-point f (suc h) xi t = send-point f h _ _ ∙ ap (λ n. h + suc n) (sub-point (length xi) _ _ _ _) ∙ omega arith
 
-  send-claims : (f : ℕ → Frac R) (h : ℕ) (xi : List R) (t : Log) → length (Gkr.send F S f h xi t .claims) ≡ h
+  -- as many claims and polynomial entries as layers
+  pub send-counts : (f : ℕ → Frac R) (h : ℕ) (xi : List R) (t : Log) → let P = Gkr.send F S f h xi t in (length (P .claims) ≡ h) × (length (P .polys) ≡ h)
   unfolding Gkr.send
-  send-claims f zero xi t = refl
-  send-claims f (suc h) xi t = ap suc (send-claims f h _ _)
+  send-counts f zero xi t = (refl, refl)
+  send-counts f (suc h) xi t = let ih = send-counts f h _ _ in (ap suc (ih .0), ap suc (ih .1))
 
   send-polys : (f : ℕ → Frac R) (h : ℕ) (xi : List R) (t : Log) → map length (Gkr.send F S f h xi t .polys) ≡ lengths h (length xi)
   unfolding Gkr.send lengths
@@ -105,7 +106,7 @@ module _ (F : Field) (S : Transcript (F .ring .carrier)) where
   -- n layers' claims, and 1, 2, .. n - 1 sub-rounds
   pub claims-length : (m : ℕ) (f : ℕ → Frac R) (t : Log) → length (Gkr.run F S m f t .proof .claims) ≡ suc m
   unfolding Gkr.run
-  claims-length m f t = ap suc (send-claims f m _ _)
+  claims-length m f t = ap suc (send-counts f m _ _ .0)
 
   pub polys-lengths : (m : ℕ) (f : ℕ → Frac R) (t : Log) → map length (Gkr.run F S m f t .proof .polys) ≡ lengths m 1
   unfolding Gkr.run

@@ -5,10 +5,11 @@ use mathlib.Core.Bool.{Bool, true, false, cond}
 use mathlib.Core.List.{List, [], _∷_}
 use Prim.Native.Nat.{ℕ, zero, suc}
 use lib.ListN.{length}
-use lib.Dec.{T, eqb, eqb-refl}
+use lib.Dec.{eqb}
+use borrow.Author.Tests.{eq-eqb}
 use Rattle.ring.specs.Ring.{CommRing}
 use Rattle.ring.specs.Field.{Field}
-use Rattle.multilinear.specs.Identities
+use Rattle.ring.specs.RingLaws
 use Rattle.multilinear.specs.Table
 use Rattle.multilinear.specs.RoundSum
 use Rattle.multilinear.specs.RoundSum.{Claims}
@@ -19,21 +20,9 @@ use Rattle.gkr.specs.TreeLaws
 use Rattle.gkr.specs.Sumcheck
 use Rattle.gkr.specs.SumcheckLaws
 use Rattle.gkr.specs.Gkr
+use Rattle.gkr.specs.Count
+use Rattle.gkr.specs.Tests.{pass, fail}
 use Rattle.gkr.specs.Gkr.{done, accepted, zero-check, root-check, subround-count, layer-check}
-
--- a test that passes, and one that fails
-pass : {A : Type 0} (b : Bool) (x y : A) → b ≡ true → cond b x y ≡ x
-pass b x y e = ap (λ c. cond c x y) e
-
-fail : {A : Type 0} (b : Bool) (x y : A) → b ≡ false → cond b x y ≡ y
-fail b x y e = ap (λ c. cond c x y) e
-
-is-true : (b : Bool) → T b → b ≡ true
-is-true true t = refl
-is-true false t = absurd t
-
-eqb-true : (m n : ℕ) → m ≡ n → eqb m n ≡ true
-eqb-true m n e = ap (eqb m) (sym e) ∙ is-true (eqb m m) (eqb-refl m)
 
 module _ (F : Field) (S : Transcript (F .ring .carrier)) where
   open Field F using (ring as K, same, same-refl)
@@ -103,7 +92,7 @@ module _ (F : Field) (S : Transcript (F .ring .carrier)) where
       ≡ v
   honest-round g z l t P C H mss cs v rest =
       let t₂ = observe-layer-claims (P .last) (P .log) in
-      pass _ _ _ (eqb-true _ _ (H .count))
+      pass _ _ _ (eq-eqb _ _ (H .count))
       ∙ pass _ _ _ (same-true _ _ (H .holds))
       ∙ ap₂ (λ u pt. let t₁ = observe-layer-claims (P .last) u in rounds mss cs (reduce-to-single-evaluation (P .last) (draw t₁)) (draw t₁ ∷ pt) (drawn t₁)) (H .logs) (H .points)
       ∙ ap (λ v. rounds mss cs v (draw t₂ ∷ P .point) (drawn t₂)) (ap (λ c. reduce-to-single-evaluation c (draw t₂)) (H .lasts) ∙ TreeLaws.reduce-value K g (draw t₂) (P .point))
@@ -118,18 +107,13 @@ module _ (F : Field) (S : Transcript (F .ring .carrier)) where
       let t₁ = observe-layer-claims (P .last) (P .log) in
       let rest = send f h (draw t₁ ∷ P .point) (drawn t₁) in
       honest-round (tree f h) z (draw t) (drawn t) P _
-      (SumcheckLaws.honest F S z (draw t) (Table.weight K z) (children (tree f h)) (drawn t) one _ (λ i y. Identities.one-mul K (Table.weight K z y) i) (TreeLaws.claim-total K (tree f h) (draw t) z))
+      (SumcheckLaws.honest F S z (draw t) (Table.weight K z) (children (tree f h)) (drawn t) one _ (λ i y. sym (RingLaws.one-mul K (Table.weight K z y)) i) (TreeLaws.claim-total K (tree f h) (draw t) z))
       (rest .polys) (rest .claims) _ (honest-rounds f h (draw t₁ ∷ P .point) (drawn t₁))
-
-  send-counts : (f : ℕ → Frac R) (h : ℕ) (z : List R) (t : Log) → let P = send f h z t in (length (P .claims) ≡ h) × (length (P .polys) ≡ h)
-  unfolding Gkr.send
-  send-counts f zero z t = (refl, refl)
-  send-counts f (suc h) z t = let ih = send-counts f h _ _ in (ap suc (ih .0), ap suc (ih .1))
 
   right-counts : (m : ℕ) (q0 : R) (c : Claims R) (cs : List (Claims R)) (mss : List (List (Cubic R))) (t : Log)
       → (length cs ≡ m) × (length mss ≡ m) → counted m q0 (c ∷ cs) mss t ≡ root q0 c cs mss t
   unfolding Gkr.counted
-  right-counts m q0 c cs mss t n = pass _ _ _ (eqb-true _ _ (n .0)) ∙ pass _ _ _ (eqb-true _ _ (n .1))
+  right-counts m q0 c cs mss t n = pass _ _ _ (eq-eqb _ _ (n .0)) ∙ pass _ _ _ (eq-eqb _ _ (n .1))
 
   -- THE THEOREM: an honest proof of a sum of zero is accepted, with the values of the rows' columns at the prover's point and with the prover's log
   pub honest : (m : ℕ) (f : ℕ → Frac R) (t : Log) → tree f (suc m) 0 .p ≡ nil → let P = run m f t in
@@ -141,7 +125,7 @@ module _ (F : Field) (S : Transcript (F .ring .carrier)) where
       let z = draw t₁ ∷ [] in
       let P = send f m z (drawn t₁) in (
         pass _ _ _ (same-true _ _ h),
-        right-counts m _ _ (P .claims) (P .polys) t (send-counts f m z (drawn t₁))
+        right-counts m _ _ (P .claims) (P .polys) t (Count.send-counts F S f m z (drawn t₁))
             ∙ pass _ _ _ (same-true _ _ h)
             ∙ pass _ _ _ (same-refl _)
             ∙ ap (λ v. rounds (P .polys) (P .claims) v z (drawn t₁)) (ap (λ c. reduce-to-single-evaluation c (draw t₁)) (sym (RoundSumLaws.values-nil F (children g))) ∙ TreeLaws.reduce-value K g (draw t₁) [])
@@ -152,4 +136,4 @@ module _ (F : Field) (S : Transcript (F .ring .carrier)) where
   pub not-zero : (m : ℕ) (f : ℕ → Frac R) (t u : Log) → let s = tree f (suc m) 0 in same (s .p) nil ≡ false
       → verify-gkr (suc m) (run m f t .proof) u ≡ zero-check (s .p) (observe-layer-claims (children (tree f m) 0) (observe (s .q) u))
   unfolding Gkr.run Gkr.verify-gkr Gkr.root Tree.tree
-  not-zero m f t u h = right-counts m _ _ _ _ u (send-counts f m _ _) ∙ fail _ _ _ h
+  not-zero m f t u h = right-counts m _ _ _ _ u (Count.send-counts F S f m _ _) ∙ fail _ _ _ h

@@ -13,4 +13,7 @@ pub mod VerifierCount
 pub mod Keeps
 pub mod Transcripts
 pub mod TranscriptLaws
+pub mod Compute
 pub mod Cases
+pub mod Order
+pub mod Recorded

@@ -42,6 +42,14 @@ module _ (K : CommRing) where
   abbrev reduce-to-single-evaluation : Claims R → R → Frac R
   reduce-to-single-evaluation = Tree.reduce-to-single-evaluation K
 
+  -- a node is the sum of its two children
+  pub node-plus : (f : ℕ → Frac R) (h i : ℕ) → tree f (suc h) i ≡ Tree.plus K (tree f h (even i)) (tree f h (odd i))
+  unfolding Tree.tree
+  node-plus f h i =
+      let a = tree f h (even i) in
+      let b = tree f h (odd i) in
+      ap (λ x. record { p = a .p * b .q + x; q = a .q * b .q }) (mul-comm (b .p) (a .q))
+
   -- One numbering of all nodes: row i is node 2 ^ n + i, and node k is the sum of the nodes 2k and 2k + 1. Then node 2 ^ d + i is node i at height n - d.
   pub heap : (n : ℕ) (f node : ℕ → Frac R)
       → ((i : ℕ) → i < 2 ^ n → node (2 ^ n +ℕ i) ≡ f i)

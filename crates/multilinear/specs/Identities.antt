@@ -31,15 +31,6 @@ module _ (K : CommRing) where
 
   -- TABLES
 
-  pub swap : (a b c d : R) → (a + b) + (c + d) ≡ (a + c) + (b + d)
-  swap a b c d = ring K (a ∷ b ∷ c ∷ d ∷ []) (search quote) tt
-
-  pub mul-nil : (a : R) → a * nil ≡ nil
-  mul-nil a = ring K (a ∷ []) (search quote) tt
-
-  pub one-mul : (a : R) → a ≡ one * a
-  one-mul a = ring K (a ∷ []) (search quote) tt
-
   pub alone : (a : R) → nil + a * one ≡ a
   alone a = ring K (a ∷ []) (search quote) tt
 
