@@ -3,8 +3,7 @@
 use mathlib.Core.Path.{_≡_, refl}
 use mathlib.Core.Bool.{true, false}
 use mathlib.Core.List.{List, [], _∷_}
-use Prim.Native.Nat.{ℕ, _+_, _^_}
-use Rattle.field.specs.Base.{P}
+use Prim.Native.Nat.{ℕ}
 use Rattle.field.specs.Ext.{Ext}
 use Rattle.field.specs.ExtRing.{arithmetic}
 use Rattle.field.specs.Extension.{Extension}
@@ -100,10 +99,17 @@ K3·proof = record {
   polys = (cubic (minus 4) (minus 40) (minus 112) ∷ []) ∷ [];
 }
 
-pub k3 : Gkr.run Extension K3·S 1 K3 [] .proof ≡ K3·proof
+-- the log after lambda = 1, and all of it
+abbrev pub K3·begun : List (Event Ext)
+K3·begun = sampled (el 1) ∷ sampled (el 2) ∷ observed (el 1) ∷ observed (minus 3) ∷ observed (el 1) ∷ observed (el 3) ∷ observed (el 1) ∷ []
+
+abbrev pub K3·log : List (Event Ext)
+K3·log = sampled (el 4) ∷ observed (el 1) ∷ observed (minus 10) ∷ observed (el 1) ∷ observed (minus 5) ∷ sampled (el 3) ∷ observed (minus 112) ∷ observed (minus 40) ∷ observed (minus 4) ∷ K3·begun
+
+pub k3 : Gkr.fractional-sumcheck Extension K3·S true 1 K3 [] ≡ done (record { sum = frac (el 0) (el 1); proof = K3·proof; point = el 4 ∷ el 3 ∷ []; log = K3·log })
 unfolding model arithmetic
 k3 = refl
 
-pub k3·verdict : Gkr.verify-gkr Extension K3·S 2 K3·proof [] ≡ accepted (frac (minus 25) (el 1)) (el 4 ∷ el 3 ∷ []) (Gkr.run Extension K3·S 1 K3 [] .log)
+pub k3·verdict : Gkr.verify-gkr Extension K3·S 2 K3·proof [] ≡ accepted (frac (minus 25) (el 1)) (el 4 ∷ el 3 ∷ []) K3·log
 unfolding model arithmetic
 k3·verdict = refl

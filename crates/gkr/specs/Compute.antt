@@ -1,6 +1,6 @@
 -- What the worked examples are written with: what unfolds when the model computes, and small elements, fractions and rows.
 -- Assumes nothing.
-use mathlib.Core.List.{List, [], _∷_}
+use mathlib.Core.List.{List}
 use Prim.Native.Nat.{ℕ, _-_}
 use lib.ListN.{getD}
 use Rattle.ring.specs.Ring.{num}
@@ -18,7 +18,7 @@ use Rattle.gkr.specs.Gkr
 
 -- `unfolding model arithmetic` opens all that closed runs compute by
 unfoldable pub model : Unit {0}
-unfolding Gkr.fractional-sumcheck Gkr.run Gkr.send Gkr.verify-gkr Gkr.counted Gkr.root Gkr.rounds Tree.tree Sumcheck.send Sumcheck.verify-gkr-sumcheck RoundSum.s RoundSum.total Interpolate.cubic Table.value Table.sum Table.fold Table.weight Table.bit num X.same
+unfolding Gkr.fractional-sumcheck Gkr.run Gkr.send Gkr.verify-gkr Gkr.counted Gkr.root Gkr.rounds Tree.tree Sumcheck.send Sumcheck.verify-gkr-sumcheck RoundSum.s RoundSum.total Interpolate.cubic Table.value Table.sum Table.fold Table.merge Table.weight Table.bit num X.same
 model = tt
 
 -- the integers n and −n

@@ -72,15 +72,15 @@ module _ (F : Field) (S : Transcript (F .ring .carrier)) where
 
   -- THE SHAPE
 
-  sub-point : (k : ℕ) (l : R) (e : ℕ → R) (c : ℕ → Claims R) (t : Log) → length (Sumcheck.send F S k l e c t .point) ≡ k
+  sub-point : (k : ℕ) (lambda : R) (eq : ℕ → R) (pq : ℕ → Claims R) (t : Log) → length (Sumcheck.send F S k lambda eq pq t .point) ≡ k
   unfolding Sumcheck.send
-  sub-point zero l e c t = refl
-  sub-point (suc k) l e c t = ap suc (sub-point k l _ _ _)
+  sub-point zero lambda eq pq t = refl
+  sub-point (suc k) lambda eq pq t = ap suc (sub-point k lambda _ _ _)
 
-  sub-polys : (k : ℕ) (l : R) (e : ℕ → R) (c : ℕ → Claims R) (t : Log) → length (Sumcheck.send F S k l e c t .polys) ≡ k
+  sub-polys : (k : ℕ) (lambda : R) (eq : ℕ → R) (pq : ℕ → Claims R) (t : Log) → length (Sumcheck.send F S k lambda eq pq t .polys) ≡ k
   unfolding Sumcheck.send
-  sub-polys zero l e c t = refl
-  sub-polys (suc k) l e c t = ap suc (sub-polys k l _ _ _)
+  sub-polys zero lambda eq pq t = refl
+  sub-polys (suc k) lambda eq pq t = ap suc (sub-polys k lambda _ _ _)
 
   send-point : (f : ℕ → Frac R) (h : ℕ) (xi : List R) (t : Log) → length (Gkr.send F S f h xi t .point) ≡ h + length xi
   unfolding Gkr.send
@@ -142,10 +142,10 @@ module _ (F : Field) (S : Transcript (F .ring .carrier)) where
     pub claims-size : (c : Claims R) (t : Log) → size (Gkr.observe-layer-claims F S c t) ≡ size t + 4 * o
     claims-size c t = more _ _ ∙ ap (λ n. n + o) (more _ _ ∙ ap (λ n. n + o) (more _ _ ∙ ap (λ n. n + o) (more _ t))) ∙ omega arith
 
-    sub-size : (k : ℕ) (l : R) (e : ℕ → R) (c : ℕ → Claims R) (t : Log) → size (Sumcheck.send F S k l e c t .log) ≡ size t + k * (3 * o + d)
+    sub-size : (k : ℕ) (lambda : R) (eq : ℕ → R) (pq : ℕ → Claims R) (t : Log) → size (Sumcheck.send F S k lambda eq pq t .log) ≡ size t + k * (3 * o + d)
     unfolding Sumcheck.send
-    sub-size zero l e c t = omega arith
-    sub-size (suc k) l e c t = sub-size k l _ _ _ ∙ ap (λ n. n + k * (3 * o + d)) (drew _ ∙ ap (λ n. n + d) (cubic-size _ t)) ∙ omega arith
+    sub-size zero lambda eq pq t = omega arith
+    sub-size (suc k) lambda eq pq t = sub-size k lambda _ _ _ ∙ ap (λ n. n + k * (3 * o + d)) (drew _ ∙ ap (λ n. n + d) (cubic-size _ t)) ∙ omega arith
 
     send-size : (f : ℕ → Frac R) (h : ℕ) (xi : List R) (t : Log) → size (Gkr.send F S f h xi t .log) ≡ size t + layers-cost o d h (length xi)
     unfolding Gkr.send layers-cost

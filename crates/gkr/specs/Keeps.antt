@@ -29,10 +29,10 @@ module _ (F : Field) (S : Transcript (F .ring .carrier)) (I : S .Log → Type 0)
 
   -- THE PROVER
 
-  sub-keep : (k : ℕ) (l : R) (e : ℕ → R) (c : ℕ → Claims R) (t : Log) → I t → I (Sumcheck.send F S k l e c t .log)
+  sub-keep : (k : ℕ) (lambda : R) (eq : ℕ → R) (pq : ℕ → Claims R) (t : Log) → I t → I (Sumcheck.send F S k lambda eq pq t .log)
   unfolding Sumcheck.send
-  sub-keep zero l e c t h = h
-  sub-keep (suc k) l e c t h = sub-keep k l _ _ _ (drew _ (cubic-keep _ t h))
+  sub-keep zero lambda eq pq t h = h
+  sub-keep (suc k) lambda eq pq t h = sub-keep k lambda _ _ _ (drew _ (cubic-keep _ t h))
 
   send-keep : (f : ℕ → Frac R) (n : ℕ) (xi : List R) (t : Log) → I t → I (Gkr.send F S f n xi t .log)
   unfolding Gkr.send

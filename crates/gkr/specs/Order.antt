@@ -1,14 +1,12 @@
 -- The order of the verifier's checks, pinned by computed cases: which number answers where two would, and the log that is left.
 -- Assumes nothing.
 use mathlib.Core.Path.{_≡_, refl}
-use mathlib.Core.List.{List, [], _∷_, _++_}
-use Rattle.field.specs.Ext.{Ext}
+use mathlib.Core.List.{[], _∷_, _++_}
 use Rattle.field.specs.ExtRing.{arithmetic}
 use Rattle.field.specs.Extension.{Extension}
-use Rattle.gkr.specs.Run.{Transcript}
 use Rattle.gkr.specs.Compute.{model, el, minus, claims, cubic}
-use Rattle.gkr.specs.Transcripts.{Event, observed, sampled, supplied}
-use Rattle.gkr.specs.Cases.{five, K2·proof, K6·proof, K3·S, K3·proof}
+use Rattle.gkr.specs.Transcripts.{observed, sampled}
+use Rattle.gkr.specs.Cases.{five, K2·proof, K6·proof, K3·S, K3·proof, K3·begun, K3·log}
 use Rattle.gkr.specs.Gkr
 use Rattle.gkr.specs.Gkr.{zero-rounds, layer-count, poly-count, zero-check, subround-count, layer-check}
 
@@ -37,23 +35,19 @@ numerator-first : Gkr.verify-gkr Extension five 1 (record { q0 = el 5; claims = 
 unfolding model arithmetic
 numerator-first = refl
 
--- K3's root with a wrong sub-round count, and a wrong numerator: 16, and nothing is sampled
+-- the numerator and a sub-round count wrong: 16, and nothing is sampled
 root-before-subrounds : Gkr.verify-gkr Extension K3·S 2 (record { q0 = el 1; claims = K6·proof .claims ++ K6·proof .claims; polys = [] ∷ [] }) []
     ≡ zero-check (el 2) (observed (el 1) ∷ observed (el 1) ∷ observed (el 1) ∷ observed (el 1) ∷ observed (el 1) ∷ [])
 unfolding model arithmetic
 root-before-subrounds = refl
 
--- K3's log after mu = 2 and lambda = 1
-abbrev lambda-log : List (Event Ext)
-lambda-log = sampled (el 1) ∷ sampled (el 2) ∷ observed (el 1) ∷ observed (minus 3) ∷ observed (el 1) ∷ observed (el 3) ∷ observed (el 1) ∷ []
-
 -- no sub-round, or one too many: 18 after lambda, with the log so far, and no message is observed
-too-few : Gkr.verify-gkr Extension K3·S 2 (record { q0 = el 1; claims = K3·proof .claims; polys = [] ∷ [] }) [] ≡ subround-count 1 1 0 lambda-log
+too-few : Gkr.verify-gkr Extension K3·S 2 (record { q0 = el 1; claims = K3·proof .claims; polys = [] ∷ [] }) [] ≡ subround-count 1 1 0 K3·begun
 unfolding model arithmetic
 too-few = refl
 
 too-many : Gkr.verify-gkr Extension K3·S 2 (record { q0 = el 1; claims = K3·proof .claims; polys = (cubic (el 0) (el 0) (el 0) ∷ cubic (el 0) (el 0) (el 0) ∷ []) ∷ [] }) []
-    ≡ subround-count 1 1 2 lambda-log
+    ≡ subround-count 1 1 2 K3·begun
 unfolding model arithmetic
 too-many = refl
 
@@ -64,7 +58,7 @@ layer-before-subrounds : Gkr.verify-gkr Extension K3·S 3 (record {
   polys = (cubic (minus 4) (minus 40) (minus 112) ∷ []) ∷ [] ∷ [];
 }) []
     ≡ layer-check 1 (el 0) (minus 112)
-    (observed (el 0) ∷ observed (el 0) ∷ observed (el 0) ∷ observed (el 0) ∷ sampled (el 3) ∷ observed (minus 112) ∷ observed (minus 40) ∷ observed (minus 4) ∷ lambda-log)
+    (observed (el 0) ∷ observed (el 0) ∷ observed (el 0) ∷ observed (el 0) ∷ sampled (el 3) ∷ observed (minus 112) ∷ observed (minus 40) ∷ observed (minus 4) ∷ K3·begun)
 unfolding model arithmetic
 layer-before-subrounds = refl
 
@@ -75,6 +69,6 @@ subrounds-later : Gkr.verify-gkr Extension K3·S 3 (record {
   polys = (cubic (minus 4) (minus 40) (minus 112) ∷ []) ∷ [] ∷ [];
 }) []
     ≡ subround-count 2 2 0
-    (sampled (el 0) ∷ sampled (el 4) ∷ observed (el 1) ∷ observed (minus 10) ∷ observed (el 1) ∷ observed (minus 5) ∷ sampled (el 3) ∷ observed (minus 112) ∷ observed (minus 40) ∷ observed (minus 4) ∷ lambda-log)
+    (sampled (el 0) ∷ K3·log)
 unfolding model arithmetic
 subrounds-later = refl

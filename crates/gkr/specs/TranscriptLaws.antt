@@ -1,9 +1,9 @@
 -- Over challenges lent or supplied beforehand: how many a run samples, how many words it leaves in the log, and that the k-th sample is the k-th challenge.
 -- Assumes nothing.
-use mathlib.Core.Path.{_≡_, refl, sym, _∙_, ap, ap₂, subst}
+use mathlib.Core.Path.{_≡_, refl, _∙_, ap, ap₂, subst}
 use mathlib.Core.Bool.{Bool, true, false, cond}
 use mathlib.Core.List.{List, [], _∷_, _++_, map, append-nil}
-use Prim.Native.Nat.{ℕ, zero, suc, _≤_, _+_, _*_, _^_}
+use Prim.Native.Nat.{ℕ, zero, suc, _≤_, _+_, _^_}
 use native.Mathlib.Nat.{zero-add}
 use native.Mathlib.Omega.{arith}
 use lib.ListN.{length, length-append, length-map, getD}

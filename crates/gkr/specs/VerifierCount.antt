@@ -3,7 +3,7 @@
 use mathlib.Core.Path.{_≡_, refl, sym, _∙_, ap, ap₂, subst, subst₂}
 use mathlib.Core.Bool.{Bool, true, false, cond}
 use mathlib.Core.List.{List, [], _∷_}
-use Prim.Native.Nat.{ℕ, zero, suc, _≤_, _+_, _*_}
+use Prim.Native.Nat.{ℕ, suc, _≤_, _+_, _*_}
 use native.Mathlib.Nat.{suc-inj, suc-ne-zero, le-of-eq}
 use native.Mathlib.Omega.{arith}
 use lib.ListN.{length}

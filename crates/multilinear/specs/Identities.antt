@@ -1,7 +1,7 @@
 -- The identities of a commutative ring that tables, interpolation and sumcheck need, each by the solver.
 -- Assumes nothing.
 use mathlib.Core.Path.{_≡_}
-use mathlib.Core.List.{List, [], _∷_}
+use mathlib.Core.List.{[], _∷_}
 use Rattle.ring.specs.Ring.{CommRing, num}
 use Rattle.ring.specs.Quote.{ring, ring-by, quote, _▷_}
 use Rattle.multilinear.specs.Forms

@@ -4,7 +4,7 @@ use mathlib.Core.Path.{_≡_, refl, sym, _∙_, ap, ap₂, fun-ext, subst}
 use mathlib.Core.List.{List, [], _∷_, _++_, append-nil, append-assoc}
 use mathlib.Core.Bool.{Bool, true, false, cond, not}
 use Prim.Native.Nat.{ℕ, zero, suc, _≤_, _<_, _/_, _%_, _^_}
-use Prim.Native.Nat.{_+_ as _+ℕ_, _*_ as _*ℕ_, _-_ as _-ℕ_}
+use Prim.Native.Nat.{_+_ as _+ℕ_, _-_ as _-ℕ_}
 use native.Mathlib.Nat.{pow-succ', suc-inj, suc-ne-zero, le-step, le-refl}
 use native.Mathlib.Numerals.{add-one}
 use native.Mathlib.Omega.{arith}
