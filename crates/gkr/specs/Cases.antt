@@ -1,4 +1,4 @@
--- Document 01's worked examples K2, K3, K4, K6 and K10, computed by the model over the extension.
+-- Document 01's worked examples K1, K2, K3, K4, K6 and K10, computed by the model over the extension.
 -- Assumes nothing.
 use mathlib.Core.Path.{_≡_, refl}
 use mathlib.Core.Bool.{true, false}
@@ -17,6 +17,11 @@ use Rattle.gkr.specs.Gkr.{done, non-zero-root-sum, accepted, zero-check,
 
 abbrev pub five : Transcript Ext
 five = supplied (el 5 ∷ []) (el 0)
+
+-- K1: no rows
+pub k1 : Gkr.no-rows Extension five [] .sum ≡ frac (el 0) (el 1)
+unfolding arithmetic
+k1 = refl
 
 abbrev pub K2 : ℕ → Frac Ext
 K2 = rows (frac (el 1) (el 2) ∷ frac (minus 1) (el 2) ∷ [])

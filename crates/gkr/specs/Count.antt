@@ -133,6 +133,10 @@ module _ (F : Field) (S : Transcript (F .ring .carrier)) where
       go true = refl
       go false = refl
 
+  pub done-point : (asserted : Bool) (m : ℕ) (f : ℕ → Frac R) (t : Log) (P : Gkr.Proved F S)
+      → Gkr.fractional-sumcheck F S asserted m f t ≡ done P → length (P .point) ≡ suc m
+  done-point asserted m f t P e = ap (λ Q. length (Q .point)) (done-run asserted m f t P e) ∙ point-length m f _
+
   -- THE COST: a size of the log that grows by o at an observation and by d at a challenge
 
   module _ (size : Log → ℕ) (o d : ℕ) (more : (x : R) (t : Log) → size (observe x t) ≡ size t + o) (drew : (t : Log) → size (drawn t) ≡ size t + d) where

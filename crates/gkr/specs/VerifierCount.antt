@@ -155,3 +155,8 @@ module _ (F : Field) (S : Transcript (F .ring .carrier)) (size : S .Log → ℕ)
   -- accepted or not: at most a whole run
   pub left-size : (m : ℕ) (π : Proof R) (t : Log) → size (Gkr.log-after F S t (Gkr.verify-gkr F S (suc m) π t)) ≤ size t + run-cost o d m
   left-size m π t = left-within _ (suc m) t _ (omega arith) (verify-within m π t)
+
+-- accepted: a point of n
+pub accepted-point : (F : Field) (S : Transcript (F .ring .carrier)) (m : ℕ) (π : Proof (F .ring .carrier)) (t : S .Log) (v : Frac (F .ring .carrier)) (xi : List (F .ring .carrier)) (u : S .Log)
+    → Gkr.verify-gkr F S (suc m) π t ≡ accepted v xi u → length xi ≡ suc m
+accepted-point F S m π t v xi u e = accepted-size F S (λ _. 0) 0 0 (λ _ _. refl) (λ _. refl) m π t v xi u e .1
