@@ -48,12 +48,12 @@ unfolding run-cost
 draws m = omega (arith, draws-cost m 1) ∙ ap (λ k. 2 * suc m - 1 + suc m * k / 2) (sym (less m))
 
 -- r sub-rounds in the first of h layers, one more in each after it
-pub lengths : (h r : ℕ) → List ℕ
+unfoldable pub lengths : (h r : ℕ) → List ℕ
 lengths zero r = []
 lengths (suc h) r = r ∷ lengths h (suc r)
 
 -- the bytes of polynomial entries of these lengths: a byte each, and 48 for each sub-round
-pub entry-bytes : List ℕ → ℕ
+unfoldable pub entry-bytes : List ℕ → ℕ
 entry-bytes [] = 0
 entry-bytes (r ∷ rs) = 1 + 48 * r + entry-bytes rs
 

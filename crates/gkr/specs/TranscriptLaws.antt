@@ -20,7 +20,7 @@ use Rattle.gkr.specs.VerifierCount
 use Rattle.gkr.specs.Keeps
 
 -- the words of a log that were sampled: those with the top bit set
-pub sampled-words : List ℕ → List ℕ
+unfoldable pub sampled-words : List ℕ → List ℕ
 sampled-words [] = []
 sampled-words (w ∷ ws) = cond (leb (2 ^ 31) w) (w ∷ sampled-words ws) (sampled-words ws)
 
@@ -113,7 +113,7 @@ module _ (F : Field) (words : F .ring .carrier → List ℕ) (challenge : ℕ �
   -- THE ORDER, where no word of an element has its top bit set
 
   -- the first k challenges as they stand in the log
-  pub firsts : (k : ℕ) → List ℕ
+  unfoldable pub firsts : (k : ℕ) → List ℕ
   firsts zero = []
   firsts (suc k) = firsts k ++ map mark (words (challenge k))
 
@@ -153,7 +153,7 @@ module _ (F : Field) (words : F .ring .carrier → List ℕ) (challenge : ℕ �
 
 -- IN A LOG OF EVENTS: the k-th sample is the k-th challenge
 
-pub InOrder : {A : Type 0} (challenge : ℕ → A) → List (Event A) → Type 0
+unfoldable pub InOrder : {A : Type 0} (challenge : ℕ → A) → List (Event A) → Type 0
 InOrder challenge [] = Unit
 InOrder challenge (observed x ∷ t) = InOrder challenge t
 InOrder challenge (sampled x ∷ t) = (x ≡ challenge (count t)) × InOrder challenge t
