@@ -1,0 +1,132 @@
+// The refusals of every call, by document 01's names, and the number and fields of each; and the limits on sizes.
+ghost use mathlib.Core.Path.{_≡_};
+ghost use Rattle.refusal.specs.Numbers.{plain, elements, reportOf};
+use field::Ext;
+
+// The most rounds, and so the most rows, that a call takes.
+pub const MAX_ROUNDS: usize = 10;
+
+pub const MAX_ROWS: usize = 1024;
+
+pub enum Refusal {
+    RaggedRows,
+    TooManyRows,
+    NotPowerOfTwo,
+    ShortChallenges,
+    ShortRoom,
+    BadWord,
+    ZeroDenominator {
+        row: usize,
+    },
+    NonZeroRootSum,
+    SingleRow,
+    ZeroRounds,
+    TooManyRounds,
+    BadVersion,
+    BadLength,
+    IncorrectLayerCount {
+        expected: usize,
+        actual: usize,
+    },
+    IncorrectSumcheckPolyCount {
+        expected: usize,
+        actual: usize,
+    },
+    ZeroCheckFailed {
+        actual: Ext,
+    },
+    RootConsistencyCheckFailed {
+        expected: Ext,
+        actual: Ext,
+    },
+    IncorrectSubroundCount {
+        round: usize,
+        expected: usize,
+        actual: usize,
+    },
+    LayerConsistencyCheckFailed {
+        round: usize,
+        expected: Ext,
+        actual: Ext,
+    },
+}
+
+// A refusal as document 01's table has it: its number, its plain fields and its elements in order, zero where it has none.
+pub struct Report {
+    pub number: u32,
+    pub first: usize,
+    pub second: usize,
+    pub third: usize,
+    pub left: Ext,
+    pub right: Ext,
+}
+
+fn plain_report(number: u32, first: usize, second: usize, third: usize) -> Report
+    ensures { λ r. ⌜ r ≡ plain number first second third ⌝ }
+{
+    Report {
+        number,
+        first,
+        second,
+        third,
+        left: Ext::ZERO,
+        right: Ext::ZERO,
+    }
+}
+
+fn element_report(number: u32, first: usize, left: Ext, right: Ext) -> Report
+    ensures { λ r. ⌜ r ≡ elements number first left right ⌝ }
+{
+    Report {
+        number,
+        first,
+        second: 0,
+        third: 0,
+        left,
+        right,
+    }
+}
+
+pub fn number_and_fields(refusal: Refusal) -> Report
+    ensures { λ r. ⌜ r ≡ reportOf refusal ⌝ }
+{
+    match refusal {
+        Refusal::RaggedRows => plain_report(1, 0, 0, 0),
+        Refusal::TooManyRows => plain_report(2, 0, 0, 0),
+        Refusal::NotPowerOfTwo => plain_report(3, 0, 0, 0),
+        Refusal::ShortChallenges => plain_report(4, 0, 0, 0),
+        Refusal::ShortRoom => plain_report(5, 0, 0, 0),
+        Refusal::BadWord => plain_report(6, 0, 0, 0),
+        Refusal::ZeroDenominator { row } => plain_report(7, row, 0, 0),
+        Refusal::NonZeroRootSum => plain_report(8, 0, 0, 0),
+        Refusal::SingleRow => plain_report(9, 0, 0, 0),
+        Refusal::ZeroRounds => plain_report(10, 0, 0, 0),
+        Refusal::TooManyRounds => plain_report(11, 0, 0, 0),
+        Refusal::BadVersion => plain_report(12, 0, 0, 0),
+        Refusal::BadLength => plain_report(13, 0, 0, 0),
+        Refusal::IncorrectLayerCount { expected, actual } => plain_report(14, expected, actual, 0),
+        Refusal::IncorrectSumcheckPolyCount { expected, actual } => plain_report(
+            15,
+            expected,
+            actual,
+            0,
+        ),
+        Refusal::ZeroCheckFailed { actual } => element_report(16, 0, actual, Ext::ZERO),
+        Refusal::RootConsistencyCheckFailed { expected, actual } => element_report(
+            17,
+            0,
+            expected,
+            actual,
+        ),
+        Refusal::IncorrectSubroundCount {
+            round,
+            expected,
+            actual,
+        } => plain_report(18, round, expected, actual),
+        Refusal::LayerConsistencyCheckFailed {
+            round,
+            expected,
+            actual,
+        } => element_report(19, round, expected, actual),
+    }
+}
