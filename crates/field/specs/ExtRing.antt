@@ -7,6 +7,7 @@ use mathlib.Core.Bool.{Bool, true, false, _&&_}
 use lib.Dec.{eqb}
 use borrow.Author.Tests.{eqb-true, eq-eqb}
 use Rattle.ring.specs.Ring.{CommRing, num}
+use Rattle.ring.specs.RingLaws.{nil-add}
 use Rattle.ring.specs.Quote.{ring, quote}
 use Rattle.field.specs.Base as B
 use Rattle.field.specs.Base.{F, of}
@@ -82,6 +83,17 @@ ExtRing =
       mul-add = e-mul-add;
     }
 
+pub from-zero : (a : Ext) → add (ext 0 0 0 0) (neg a) ≡ neg a
+unfolding nil emb ext B.nil
+from-zero a = nil-add ExtRing (neg a)
+
+-- a product by a base element is one product a coordinate
+pub mul-emb : (a : Ext) (b : F) → mul a (emb b) ≡ record { c0 = B.mul (a .c0) b; c1 = B.mul (a .c1) b; c2 = B.mul (a .c2) b; c3 = B.mul (a .c3) b }
+unfolding mul emb
+mul-emb a b =
+    let ρ : List F = b ∷ words a a a in
+    Ext-path (ring Base ρ (search quote depth 20 fits 9999) tt) (ring Base ρ (search quote depth 20 fits 9999) tt) (ring Base ρ (search quote depth 20 fits 9999) tt) (ring Base ρ (search quote depth 20 fits 9999) tt)
+
 -- ---- by computation: `unfolding arithmetic` opens all that closed elements compute by
 unfoldable pub arithmetic : Unit {0}
 unfolding ext emb add neg mul nil one two x half sixth eleven B.add B.mul B.neg B.nil B.one B.half B.sixth of
@@ -128,7 +140,7 @@ unfolding sixth
 six-sixth = ap (λ t. mul t (emb B.sixth)) (num-ext 6 ∙ ap emb (L.num-of 6)) ∙ sym (emb-mul (of 6) B.sixth) ∙ ap emb L.six-sixth ∙ (unfold one in refl)
 
 -- ---- the test of equality
-both : (p q : Bool) → (p && q) ≡ true → (p ≡ true) × (q ≡ true)
+pub both : (p q : Bool) → (p && q) ≡ true → (p ≡ true) × (q ≡ true)
 both true q e = (refl, e)
 both false q e = (e, cc)
 

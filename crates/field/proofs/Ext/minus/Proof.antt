@@ -5,7 +5,7 @@ use Rattle.field.proofs.Ext.minus.Statement.{statement}
 use Rattle.field.proofs.Ext.minus.Tie as tie
 use Rattle.field.proofs.Ext.minus.Reads as reads
 use Rattle.field.proofs.Ext.minus.Lts as lts
-use Rattle.field.proofs.sub_word.Reads as sub-word-reads
+use Rattle.field.proofs.words.sub_word.Reads as sub-word-reads
 
 -- src/lib.rt:93:17
 sub-word-requires : tie.Need-sub-word-requires

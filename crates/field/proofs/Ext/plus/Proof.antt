@@ -5,7 +5,7 @@ use Rattle.field.proofs.Ext.plus.Statement.{statement}
 use Rattle.field.proofs.Ext.plus.Tie as tie
 use Rattle.field.proofs.Ext.plus.Reads as reads
 use Rattle.field.proofs.Ext.plus.Lts as lts
-use Rattle.field.proofs.add_word.Reads as add-word-reads
+use Rattle.field.proofs.words.add_word.Reads as add-word-reads
 
 -- src/lib.rt:81:17
 add-word-requires : tie.Need-add-word-requires

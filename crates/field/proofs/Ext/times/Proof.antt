@@ -1,14 +1,14 @@
 use Rattle.field.specs.Base.{of}
 use Rattle.field.specs.Ext as E
-use Rattle.field.proofs.Words.{coord0, coord1, coord2}
+use Rattle.field.proofs.Residues.{coord0, coord1, coord2}
 use native.Mathlib.Omega.{arith}
 use borrow.Author.Needs.{needs}
 use Rattle.field.proofs.Ext.times.Statement.{statement}
 use Rattle.field.proofs.Ext.times.Tie as tie
 use Rattle.field.proofs.Ext.times.Reads as reads
 use Rattle.field.proofs.Ext.times.Lts as lts
-use Rattle.field.proofs.dot.Reads as dot-reads
-use Rattle.field.proofs.eleven.Reads as eleven-reads
+use Rattle.field.proofs.words.dot.Reads as dot-reads
+use Rattle.field.proofs.words.eleven.Reads as eleven-reads
 
 -- src/lib.rt:108:13
 eleven-requires : tie.Need-eleven-requires

@@ -3,10 +3,10 @@ use Rattle.field.specs.BaseRing.{of-mod, of-mul}
 use Rattle.field.specs.Ext as E
 use native.Mathlib.Omega.{arith}
 use borrow.Author.Needs.{needs}
-use Rattle.field.proofs.eleven.Statement.{statement}
-use Rattle.field.proofs.eleven.Tie as tie
-use Rattle.field.proofs.eleven.Reads as reads
-use Rattle.field.proofs.eleven.Lts as lts
+use Rattle.field.proofs.words.eleven.Statement.{statement}
+use Rattle.field.proofs.words.eleven.Tie as tie
+use Rattle.field.proofs.words.eleven.Reads as reads
+use Rattle.field.proofs.words.eleven.Lts as lts
 
 -- src/lib.rt:50:6
 mul-result : tie.Need-mul-result

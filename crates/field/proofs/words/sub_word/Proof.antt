@@ -1,11 +1,11 @@
 use Rattle.field.specs.BaseRing.{of-sub}
-use Rattle.field.proofs.Words.{diff}
+use Rattle.field.proofs.Residues.{diff}
 use native.Mathlib.Omega.{arith}
 use borrow.Author.Needs.{needs}
-use Rattle.field.proofs.sub_word.Statement.{statement}
-use Rattle.field.proofs.sub_word.Tie as tie
-use Rattle.field.proofs.sub_word.Reads as reads
-use Rattle.field.proofs.sub_word.Lts as lts
+use Rattle.field.proofs.words.sub_word.Statement.{statement}
+use Rattle.field.proofs.words.sub_word.Tie as tie
+use Rattle.field.proofs.words.sub_word.Reads as reads
+use Rattle.field.proofs.words.sub_word.Lts as lts
 
 -- src/lib.rt:34:9
 returns : tie.Need-returns

@@ -1,12 +1,12 @@
 use mathlib.Core.Path.{_∙_}
 use Rattle.field.specs.BaseRing.{of-add}
-use Rattle.field.proofs.Words.{over}
+use Rattle.field.proofs.Residues.{over}
 use native.Mathlib.Omega.{arith}
 use borrow.Author.Needs.{needs}
-use Rattle.field.proofs.add_word.Statement.{statement}
-use Rattle.field.proofs.add_word.Tie as tie
-use Rattle.field.proofs.add_word.Reads as reads
-use Rattle.field.proofs.add_word.Lts as lts
+use Rattle.field.proofs.words.add_word.Statement.{statement}
+use Rattle.field.proofs.words.add_word.Tie as tie
+use Rattle.field.proofs.words.add_word.Reads as reads
+use Rattle.field.proofs.words.add_word.Lts as lts
 
 -- src/lib.rt:22:13
 add-s : tie.Need-add-s

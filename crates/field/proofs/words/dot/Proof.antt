@@ -1,11 +1,11 @@
 use Rattle.field.specs.BaseRing.{of-rules}
 use native.Mathlib.Omega.{arith}
 use borrow.Author.Needs.{needs}
-use Rattle.field.proofs.dot.Statement.{statement}
-use Rattle.field.proofs.dot.Tie as tie
-use Rattle.field.proofs.dot.Reads as reads
-use Rattle.field.proofs.dot.Lts as lts
-use Rattle.field.proofs.prod.Reads as prod-reads
+use Rattle.field.proofs.words.dot.Statement.{statement}
+use Rattle.field.proofs.words.dot.Tie as tie
+use Rattle.field.proofs.words.dot.Reads as reads
+use Rattle.field.proofs.words.dot.Lts as lts
+use Rattle.field.proofs.words.prod.Reads as prod-reads
 
 -- src/lib.rt:58:7
 prod-requires : tie.Need-prod-requires
