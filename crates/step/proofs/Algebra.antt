@@ -9,6 +9,7 @@ use Rattle.field.specs.Ext as E
 use Rattle.field.specs.Ext.{Ext, add, mul, neg, one}
 use Rattle.field.specs.ExtRing.{ExtRing}
 use Rattle.field.specs.Extension.{Extension}
+use Rattle.multilinear.specs.Forms as Forms
 use Rattle.multilinear.specs.Interpolate as Interpolate
 use Rattle.multilinear.specs.RoundSum as RoundSum
 use Rattle.step.specs.Values.{minus, line, two, three, cubicFrom}
@@ -61,3 +62,10 @@ cubic-is e0 e1 e2 e3 x = refl
 pub cubic-steps : (s1 s2 d3 e0 x : Ext) {p m h q n r a b c : Ext} → p ≡ mul d3 (E.emb (of 1677721601)) → m ≡ minus s2 d3 → h ≡ mul m (E.emb (of 1006632961)) → q ≡ minus h s1
     → n ≡ minus s1 p → r ≡ minus n q → a ≡ add (mul p x) q → b ≡ add (mul a x) r → c ≡ add (mul b x) e0 → c ≡ cubicFrom s1 s2 d3 e0 x
 cubic-steps s1 s2 d3 e0 x {m = m} ep em eh eq en er ea eb ec = cc (by-sixth d3, by-half m)
+
+pub agree-fast : (x y : Ext) → add (add (mul x y) (mul x y)) (minus (minus one x) y) ≡ Forms.agree ExtRing x y
+agree-fast x y = ring ExtRing (x ∷ y ∷ []) (search quote depth 20 fits 9999) tt
+
+pub one-is : E.ext 1 0 0 0 ≡ one
+unfolding one E.emb E.ext B.one B.nil
+one-is = refl
