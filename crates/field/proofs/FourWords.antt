@@ -1,26 +1,17 @@
 -- Four words stored into a cell.
 -- Assumes nothing.
-use mathlib.Core.Path.{_≡_, refl, sym, _∙_, ap}
+use mathlib.Core.Path.{_≡_, sym, _∙_, ap}
 use mathlib.Core.List.{List, [], _∷_}
-use Prim.Native.Nat.{ℕ, zero, suc, _+_, _*_, _<_}
+use Prim.Native.Nat.{ℕ, suc, _+_, _*_, _<_}
 use native.Mathlib.Omega.{arith}
 use lib.ListN.{length, getD, set, length-set}
-use lib.Seq.{getD-set-same, getD-set-other}
-use Rattle.field.specs.Base.{P, of}
-use Rattle.field.specs.Ext as E
+use lib.Seq.{getD-set-same, getD-set-other, sets}
+use Rattle.field.specs.Base.{of}
 use Rattle.field.specs.declared.Ext.{Ext}
 use Rattle.field.specs.Element.{dec, Canon}
+use Rattle.field.specs.ElementLaws.{enc-dec}
 use Rattle.field.specs.Cells.{cell, Clean, Stored}
-
-below-set : (l : List ℕ) (i a k : ℕ) → ((k : ℕ) → getD l k 0 < P) → a < P → getD (set l i a) k 0 < P
-below-set [] i a k h q = h k
-below-set (x ∷ l) zero a zero h q = q
-below-set (x ∷ l) zero a (suc k) h q = h (suc k)
-below-set (x ∷ l) (suc i) a zero h q = h zero
-below-set (x ∷ l) (suc i) a (suc k) h q = below-set l i a k (λ k. h (suc k)) q
-
-clean-set : (l : List ℕ) (i a : ℕ) → Clean l → a < P → Clean (set l i a)
-clean-set l i a h q = record { below = λ k. below-set l i a k (h .below) q }
+use Rattle.field.specs.CellLaws.{clean-set}
 
 other : (s : List ℕ) (i j a : ℕ) → (j ≡ i → ⊥) → getD (set s i a) j 0 ≡ getD s j 0
 other s i j a h = getD-set-other s i j a 0 h
@@ -30,6 +21,14 @@ same s i a h = getD-set-same s i a 0 h
 
 abbrev pub four : List ℕ → ℕ → Ext → List ℕ
 four s i e = set (set (set (set s (4 * i) (e .c0)) (4 * i + 1) (e .c1)) (4 * i + 2) (e .c2)) (4 * i + 3) (e .c3)
+
+-- the four words, one after the other
+four-sets : (s : List ℕ) (i : ℕ) (e : Ext) → four s i e ≡ sets s (4 * i) (e .c0 ∷ e .c1 ∷ e .c2 ∷ e .c3 ∷ [])
+four-sets s i e =
+    let e1 : 4 * i + 1 ≡ suc (4 * i) = omega arith in
+    let e2 : 4 * i + 2 ≡ suc (suc (4 * i)) = omega arith in
+    let e3 : 4 * i + 3 ≡ suc (suc (suc (4 * i))) = omega arith in
+    rw (e1, e2, e3)
 
 -- a word that is none of the four
 word-other : (s : List ℕ) (i k : ℕ) (e : Ext) → ((j : ℕ) → j < 4 → k ≡ 4 * i + j → ⊥) → getD (four s i e) k 0 ≡ getD s k 0
@@ -51,6 +50,7 @@ stored s i e h q p =
     let l2 : length s2 ≡ length s = simp length-set in
     let l3 : length s3 ≡ length s = simp length-set in
     record {
+      exact = four-sets s i e ∙ ap (λ (r : Ext). sets s (4 * i) (r .c0 ∷ r .c1 ∷ r .c2 ∷ r .c3 ∷ [])) (sym (enc-dec p));
       clean = clean-set s3 (k + 3) (e .c3) (clean-set s2 (k + 2) (e .c2) (clean-set s1 (k + 1) (e .c1) (clean-set s k (e .c0) q (p .c0)) (p .c1)) (p .c2)) (p .c3);
       here =
           cc (

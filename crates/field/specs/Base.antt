@@ -1,6 +1,8 @@
 -- The base field: the numbers below the prime 2013265921, with sums, products and opposites by remainder.
 -- Assumes nothing.
 use Prim.Native.Nat.{ℕ, _+_, _*_, _-_, _%_, compare}
+use mathlib.Core.Bool.{Bool}
+use lib.Dec.{eqb}
 use native.Mathlib.Nat.{mod-lt}
 use native.Mathlib.Omega.{arith}
 use Rattle.field.specs.Below.{Lt, lt-compare}
@@ -42,3 +44,7 @@ half = of 1006632961
 
 unfoldable pub sixth : F
 sixth = of 1677721601
+
+-- the test of equality
+abbrev pub same : F → F → Bool
+same a b = eqb (a .val) (b .val)

@@ -6,7 +6,7 @@ use mathlib.Core.HLevel.{isProp→PathP}
 use native.Mathlib.Nat.{mod-mod, mod-add-mod, add-mod-mod, mod-eq-of-lt, add-assoc, add-comm, add-zero, mul-assoc, mul-comm, mul-one, mul-add, add-mul, div-add-mod, mul-add-mod-self-left, add-sub-of-le, add-sub-assoc, le-of-lt}
 use native.Mathlib.Numerals.{add-one}
 use Rattle.ring.specs.Ring.{CommRing, num}
-use Rattle.ring.specs.RingLaws.{neg-unique}
+use Rattle.ring.specs.RingLaws.{neg-unique, nil-add}
 use Rattle.field.specs.Below.{Lt, compare-lt, Lt-prop}
 use Rattle.field.specs.Base.{P, F, of, add, mul, neg, nil, one, half, sixth}
 
@@ -124,6 +124,10 @@ of-neg n h = neg-unique Base (of n) (of (P - n)) (sym (of-add n (P - n)) ∙ ap 
 
 pub of-sub : (m n : ℕ) → n ≤ P → of (m + P - n) ≡ add (of m) (neg (of n))
 of-sub m n h = ap of (add-sub-assoc h m) ∙ of-add m (P - n) ∙ ap (add (of m)) (of-neg n h)
+
+pub from-zero : (a : F) → add (of 0) (neg a) ≡ neg a
+unfolding nil
+from-zero a = nil-add Base (neg a)
 
 pub of-inj : (m n : ℕ) → m < P → n < P → of m ≡ of n → m ≡ n
 of-inj m n hm hn e = sym (mod-eq-of-lt hm) ∙ sym (val-of m) ∙ ap (λ a. a .val) e ∙ val-of n ∙ mod-eq-of-lt hn

@@ -3,11 +3,11 @@
 use mathlib.Core.Path.{_≡_}
 use mathlib.Core.List.{List}
 use Prim.Native.Nat.{ℕ, _+_, _*_, _<_}
-use lib.ListN.{length, getD}
+use lib.ListN.{getD}
+use lib.Seq.{sets}
 use Rattle.field.specs.Base.{P}
 use Rattle.field.specs.Ext as E
-use Rattle.field.specs.declared.Ext.{Ext}
-use Rattle.field.specs.Element.{dec}
+use Rattle.field.specs.Element.{words}
 
 unfoldable pub cell : List ℕ → ℕ → E.Ext
 cell ws i = E.ext (getD ws (4 * i) 0) (getD ws (4 * i + 1) 0) (getD ws (4 * i + 2) 0) (getD ws (4 * i + 3) 0)
@@ -18,6 +18,7 @@ pub record Clean (ws : List ℕ) : Type 0 where
 
 -- what a store of x into cell i makes of ws
 pub record Stored (ws ws' : List ℕ) (i : ℕ) (x : E.Ext) : Type 0 where
+  pub exact : ws' ≡ sets ws (4 * i) (words x)
   pub clean : Clean ws'
   pub here : cell ws' i ≡ x
   pub rest : (j : ℕ) → (j ≡ i → ⊥) → cell ws' j ≡ cell ws j

@@ -2,7 +2,6 @@
 -- Assumes nothing.
 use Prim.Native.Nat.{ℕ}
 use mathlib.Core.Bool.{Bool, _&&_}
-use lib.Dec.{eqb}
 use Rattle.field.specs.Base as B
 use Rattle.field.specs.Base.{F, of}
 
@@ -58,6 +57,6 @@ half = emb B.half
 unfoldable pub sixth : Ext
 sixth = emb B.sixth
 
--- the test of equality, word by word
+-- the test of equality, coordinate by coordinate
 unfoldable pub same : Ext → Ext → Bool
-same a b = eqb (a .c0 .val) (b .c0 .val) && (eqb (a .c1 .val) (b .c1 .val) && (eqb (a .c2 .val) (b .c2 .val) && eqb (a .c3 .val) (b .c3 .val)))
+same a b = B.same (a .c0) (b .c0) && (B.same (a .c1) (b .c1) && (B.same (a .c2) (b .c2) && B.same (a .c3) (b .c3)))

@@ -1,0 +1,30 @@
+use Rattle.field.specs.Ext as E
+use borrow.Author.Needs.{needs}
+use Rattle.field.proofs.Ext.reduced.Statement.{statement}
+use Rattle.field.proofs.Ext.reduced.Tie as tie
+
+rest-word-requires : tie.Need-rest-word-requires
+rest-word-requires c κs = search needs
+
+rest-word-requires-2 : tie.Need-rest-word-requires-2
+rest-word-requires-2 c κs = search needs
+
+rest-word-requires-3 : tie.Need-rest-word-requires-3
+rest-word-requires-3 c κs = search needs
+
+rest-word-requires-4 : tie.Need-rest-word-requires-4
+rest-word-requires-4 c κs = search needs
+
+returns : tie.Need-returns
+unfolding E.ext
+returns c = record { canon = search needs; value = cc }
+
+pub reduced-spec : {M : Type 1} → statement M
+reduced-spec =
+    tie.close
+    (tie.spec
+    rest-word-requires
+    rest-word-requires-2
+    rest-word-requires-3
+    rest-word-requires-4
+    returns)

@@ -1,0 +1,115 @@
+// The base field: operations take any word, by its remainder, and answer the canonical one.
+ghost use mathlib.Core.Path.{_≡_};
+ghost use mathlib.Core.Bool.{Bool};
+ghost use Rattle.field.specs.Base as B;
+ghost use Rattle.field.specs.Base.{P, of};
+ghost use Rattle.field.specs.BaseElement.{dec, enc};
+ghost use lib.Dec.{ltb};
+use crate::Base;
+use crate::words::add_word;
+use crate::words::mul_word;
+use crate::words::rest_word;
+use crate::words::sub_word;
+
+impl Base {
+    pub const ZERO: Base = Base { value: 0 };
+
+    pub const ONE: Base = Base { value: 1 };
+
+    pub const TWO: Base = Base { value: 2 };
+
+    // The inverse of 2.
+    pub const HALF: Base = Base { value: 1006632961 };
+
+    // The inverse of 6.
+    pub const SIXTH: Base = Base { value: 1677721601 };
+
+    pub fn new(word: u32) -> Base
+        ensures { λ r. ⌜ r ≡ enc (of word) ⌝ }
+    {
+        Base {
+            value: rest_word(word),
+        }
+    }
+
+    pub fn canonical(self) -> Base
+        ensures { λ r. ⌜ r ≡ enc (dec self) ⌝ }
+    {
+        Base::new(self.value)
+    }
+
+    pub fn add(self, other: Base) -> Base
+        ensures { λ r. ⌜ r ≡ enc (B.add (dec self) (dec other)) ⌝ }
+    {
+        Base {
+            value: add_word(rest_word(self.value), rest_word(other.value)),
+        }
+    }
+
+    pub fn sub(self, other: Base) -> Base
+        ensures { λ r. ⌜ r ≡ enc (B.add (dec self) (B.neg (dec other))) ⌝ }
+    {
+        Base {
+            value: sub_word(rest_word(self.value), rest_word(other.value)),
+        }
+    }
+
+    pub fn neg(self) -> Base
+        ensures { λ r. ⌜ r ≡ enc (B.neg (dec self)) ⌝ }
+    {
+        Base {
+            value: sub_word(0, rest_word(self.value)),
+        }
+    }
+
+    pub fn double(self) -> Base
+        ensures { λ r. ⌜ r ≡ enc (B.add (dec self) (dec self)) ⌝ }
+    {
+        let a = rest_word(self.value);
+        Base {
+            value: add_word(a, a),
+        }
+    }
+
+    pub fn mul(self, other: Base) -> Base
+        ensures { λ r. ⌜ r ≡ enc (B.mul (dec self) (dec other)) ⌝ }
+    {
+        Base {
+            value: mul_word(self.value, other.value),
+        }
+    }
+
+    pub fn halve(self) -> Base
+        ensures { λ r. ⌜ r ≡ enc (B.mul (dec self) B.half) ⌝ }
+    {
+        Base {
+            value: mul_word(self.value, 1006632961),
+        }
+    }
+
+    pub fn square(self) -> Base
+        ensures { λ r. ⌜ r ≡ enc (B.mul (dec self) (dec self)) ⌝ }
+    {
+        Base {
+            value: mul_word(self.value, self.value),
+        }
+    }
+
+    pub fn equals(self, other: Base) -> bool
+        ensures { λ r. ⌜ r ≡ B.same (dec self) (dec other) ⌝ }
+    {
+        rest_word(self.value) == rest_word(other.value)
+    }
+
+    pub fn is_zero(self) -> bool
+        ensures { λ r. ⌜ r ≡ B.same (dec self) B.nil ⌝ }
+    {
+        rest_word(self.value) == 0
+    }
+
+    pub fn is_canonical(self) -> bool
+        ensures { λ r. ⌜ r ≡ ltb (self .value) P ⌝ }
+    {
+        self.value < 2013265921
+    }
+}

@@ -1,0 +1,105 @@
+// The extension: operations take any words, by their remainders, and answer the canonical ones.
+ghost use mathlib.Core.Path.{_≡_};
+ghost use Rattle.field.specs.Base.{of};
+ghost use Rattle.field.specs.Ext as E;
+ghost use Rattle.field.specs.Element.{dec, enc};
+ghost use Rattle.field.specs.BaseElement as W;
+use crate::Base;
+use crate::Ext;
+
+impl Ext {
+    pub const ZERO: Ext = Ext {
+        c0: 0,
+        c1: 0,
+        c2: 0,
+        c3: 0,
+    };
+
+    pub const ONE: Ext = Ext {
+        c0: 1,
+        c1: 0,
+        c2: 0,
+        c3: 0,
+    };
+
+    pub const TWO: Ext = Ext {
+        c0: 2,
+        c1: 0,
+        c2: 0,
+        c3: 0,
+    };
+
+    pub fn new(c0: u32, c1: u32, c2: u32, c3: u32) -> Ext
+        ensures { λ r. ⌜ r ≡ enc (E.ext c0 c1 c2 c3) ⌝ }
+    {
+        Ext { c0, c1, c2, c3 }.canonical()
+    }
+
+    pub fn from_word(word: u32) -> Ext
+        ensures { λ r. ⌜ r ≡ enc (E.emb (of word)) ⌝ }
+    {
+        Ext::new(word, 0, 0, 0)
+    }
+
+    pub fn from_base(b: Base) -> Ext
+        ensures { λ r. ⌜ r ≡ enc (E.emb (W.dec b)) ⌝ }
+    {
+        Ext::from_word(b.value)
+    }
+
+    pub fn canonical(self) -> Ext
+        ensures { λ r. ⌜ r ≡ enc (dec self) ⌝ }
+    {
+        self.reduced()
+    }
+
+    pub fn add(self, other: Ext) -> Ext
+        ensures { λ r. ⌜ r ≡ enc (E.add (dec self) (dec other)) ⌝ }
+    {
+        self.reduced().plus(other.reduced())
+    }
+
+    pub fn sub(self, other: Ext) -> Ext
+        ensures { λ r. ⌜ r ≡ enc (E.add (dec self) (E.neg (dec other))) ⌝ }
+    {
+        self.reduced().minus(other.reduced())
+    }
+
+    pub fn neg(self) -> Ext
+        ensures { λ r. ⌜ r ≡ enc (E.neg (dec self)) ⌝ }
+    {
+        Ext::ZERO.minus(self.reduced())
+    }
+
+    pub fn double(self) -> Ext
+        ensures { λ r. ⌜ r ≡ enc (E.add (dec self) (dec self)) ⌝ }
+    {
+        let a = self.reduced();
+        a.plus(a)
+    }
+
+    pub fn mul(self, other: Ext) -> Ext
+        ensures { λ r. ⌜ r ≡ enc (E.mul (dec self) (dec other)) ⌝ }
+    {
+        self.reduced().times(other.reduced())
+    }
+
+    pub fn mul_base(self, b: Base) -> Ext
+        ensures { λ r. ⌜ r ≡ enc (E.mul (dec self) (E.emb (W.dec b))) ⌝ }
+    {
+        self.times_word(b.value)
+    }
+
+    pub fn halve(self) -> Ext
+        ensures { λ r. ⌜ r ≡ enc (E.mul (dec self) E.half) ⌝ }
+    {
+        self.times_word(1006632961)
+    }
+
+    pub fn square(self) -> Ext
+        ensures { λ r. ⌜ r ≡ enc (E.mul (dec self) (dec self)) ⌝ }
+    {
+        let a = self.reduced();
+        a.times(a)
+    }
+}

@@ -1,0 +1,2 @@
+-- The law that the loops share.
+pub mod Chaining

@@ -1,0 +1,2 @@
+-- What the timed loops compute.
+pub mod Powers

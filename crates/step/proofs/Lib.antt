@@ -1,0 +1,3 @@
+-- The identities behind the fast forms, and the three summands.
+pub mod Algebra
+pub mod Pairs

@@ -1,0 +1,69 @@
+-- The three summands of a pair, from entries found by adding the difference.
+-- Assumes nothing.
+use mathlib.Core.Path.{_≡_, _∙_, ap₂}
+use Rattle.field.specs.Ext as E
+use Rattle.field.specs.ExtRing.{ExtRing}
+use Rattle.field.specs.Element.{dec, Is}
+use Rattle.multilinear.specs.RoundSum as RoundSum
+use Rattle.multilinear.specs.RoundSum.{Claims}
+use Rattle.field.specs.declared.Ext.{Ext}
+use Rattle.step.specs.declared.Entry.{Entry}
+use Rattle.step.specs.Values.{CanonEntry, IsEntry, IsThree, decClaims, zip, minus, two, three, summandAt}
+use Rattle.step.proofs.Algebra.{at-one, at-two, at-three}
+
+pub entry-canon : (t : Entry) (x : E.Ext) (c : Claims E.Ext) → IsEntry t x c → CanonEntry t
+entry-canon t x c h = record { e = h .e .canon; l = record { p = h .l .p .canon; q = h .l .q .canon }; r = record { p = h .r .p .canon; q = h .r .q .canon } }
+
+pub entry-claims : (t : Entry) (x : E.Ext) (c : Claims E.Ext) → IsEntry t x c → decClaims t ≡ c
+entry-claims t x c h = λ i. record { p0 = h .l .p .value i; q0 = h .l .q .value i; p1 = h .r .p .value i; q1 = h .r .q .value i }
+
+abbrev pub plain : E.Ext → E.Ext → Claims E.Ext → E.Ext
+plain l e c = E.mul e (RoundSum.cross ExtRing l c)
+
+-- t1, t2, t3 are the lines at 1, 2, 3, as found by adding the difference d of t1 and t0
+module _ (l : E.Ext) (t0 t1 d t2 t3 : Entry)
+    (hd : IsEntry d (minus (dec (t1 .e)) (dec (t0 .e))) (zip minus (decClaims t1) (decClaims t0)))
+    (h2 : IsEntry t2 (E.add (dec (t1 .e)) (dec (d .e))) (zip E.add (decClaims t1) (decClaims d)))
+    (h3 : IsEntry t3 (E.add (dec (t2 .e)) (dec (d .e))) (zip E.add (decClaims t2) (decClaims d))) where
+  abbrev e0 : E.Ext
+  e0 = dec (t0 .e)
+
+  abbrev e1 : E.Ext
+  e1 = dec (t1 .e)
+
+  abbrev c0 : Claims E.Ext
+  c0 = decClaims t0
+
+  abbrev c1 : Claims E.Ext
+  c1 = decClaims t1
+
+  abbrev at : E.Ext → E.Ext
+  at x = summandAt x l e0 e1 c0 c1
+
+  ee : dec (t2 .e) ≡ E.add e1 (minus e1 e0)
+  ee = h2 .e .value ∙ ap₂ E.add (λ _. e1) (hd .e .value)
+
+  cd : decClaims d ≡ zip minus c1 c0
+  cd = entry-claims d _ _ hd
+
+  ce : decClaims t2 ≡ zip E.add c1 (zip minus c1 c0)
+  ce = entry-claims t2 _ _ h2 ∙ ap₂ (zip E.add) (λ _. c1) cd
+
+  one : plain l e1 c1 ≡ at E.one
+  one = ap₂ (plain l) (at-one e0 e1) (λ i. zip (λ u v. at-one u v i) c0 c1)
+
+  second : plain l (dec (t2 .e)) (decClaims t2) ≡ at two
+  second = ap₂ (plain l) (ee ∙ at-two e0 e1) (ce ∙ λ i. zip (λ u v. at-two u v i) c0 c1)
+
+  third : plain l (dec (t3 .e)) (decClaims t3) ≡ at three
+  third =
+      ap₂ (plain l) (h3 .e .value ∙ ap₂ E.add ee (hd .e .value) ∙ at-three e0 e1)
+      (entry-claims t3 _ _ h3 ∙ ap₂ (zip E.add) ce cd ∙ λ i. zip (λ u v. at-three u v i) c0 c1)
+
+  pub summands-are : (s1 s2 s3 : Ext) → Is s1 (plain l e1 c1) → Is s2 (plain l (dec (t2 .e)) (decClaims t2)) → Is s3 (plain l (dec (t3 .e)) (decClaims t3))
+      → IsThree (record { s1 = s1; s2 = s2; s3 = s3 }) (at E.one) (at two) (at three)
+  summands-are s1 s2 s3 i1 i2 i3 = record {
+    s1 = record { canon = i1 .canon; value = i1 .value ∙ one };
+    s2 = record { canon = i2 .canon; value = i2 .value ∙ second };
+    s3 = record { canon = i3 .canon; value = i3 .value ∙ third };
+  }

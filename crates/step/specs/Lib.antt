@@ -1,0 +1,2 @@
+-- The values at one index.
+pub mod Values

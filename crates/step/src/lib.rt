@@ -1,0 +1,170 @@
+// The formulas at one index, each once: sums of fractions, lines through two entries, the summands of a sub-round, one step of doubling.
+// All of these take canonical words; loops over columns and over the tree call them.
+ghost use mathlib.Core.Path.{_≡_};
+ghost use Rattle.field.specs.Ext as E;
+ghost use Rattle.field.specs.ExtRing.{ExtRing};
+ghost use Rattle.field.specs.Element.{dec, Canon, Is};
+ghost use Rattle.gkr.specs.Tree as Tree;
+ghost use Rattle.multilinear.specs.RoundSum as RoundSum;
+ghost use Rattle.step.specs.Values.{CanonFrac, IsFrac, decFrac, CanonEntry, IsEntry, decClaims, CanonThree, IsThree, zip, zipFrac, minus, line, two, three, summandAt};
+use field::Ext;
+
+pub mod eq; // eq, one coordinate more
+pub mod interpolate; // values at x of the polynomials through given values
+
+// A fraction p / q, never reduced.
+pub struct Frac {
+    pub p: Ext,
+    pub q: Ext,
+}
+
+// What a sub-round reads at one index: the eq column, and the claims on a left and a right child.
+pub struct Entry {
+    pub e: Ext,
+    pub l: Frac,
+    pub r: Frac,
+}
+
+// A sub-round's polynomial at 1, 2 and 3.
+pub struct Three {
+    pub s1: Ext,
+    pub s2: Ext,
+    pub s3: Ext,
+}
+
+// The two entries that one entry of the eq table becomes.
+pub struct Doubled {
+    pub low: Ext,
+    pub high: Ext,
+}
+
+// The sum of two fractions, not reduced.
+pub fn add_fractions(a: Frac, b: Frac) -> Frac
+    requires { ⌜ CanonFrac a × CanonFrac b ⌝ }
+    ensures { λ r. ⌜ IsFrac r (Tree.compute-recursive-relations ExtRing (record { p0 = dec (a .p); q0 = dec (a .q); p1 = dec (b .p); q1 = dec (b .q) })) ⌝ }
+{
+    Frac {
+        p: a.p.times(b.q).plus(b.p.times(a.q)),
+        q: a.q.times(b.q),
+    }
+}
+
+// The line through a at 0 and b at 1, taken at r.
+pub fn line_at(a: Ext, b: Ext, r: Ext) -> Ext
+    requires { ⌜ Canon a × Canon b × Canon r ⌝ }
+    ensures { λ x. ⌜ Is x (line (dec r) (dec a) (dec b)) ⌝ }
+{
+    a.plus(b.minus(a).times(r))
+}
+
+pub fn pair_plus(a: Frac, b: Frac) -> Frac
+    requires { ⌜ CanonFrac a × CanonFrac b ⌝ }
+    ensures { λ r. ⌜ IsFrac r (zipFrac E.add (decFrac a) (decFrac b)) ⌝ }
+{
+    Frac {
+        p: a.p.plus(b.p),
+        q: a.q.plus(b.q),
+    }
+}
+
+pub fn pair_minus(a: Frac, b: Frac) -> Frac
+    requires { ⌜ CanonFrac a × CanonFrac b ⌝ }
+    ensures { λ r. ⌜ IsFrac r (zipFrac minus (decFrac a) (decFrac b)) ⌝ }
+{
+    Frac {
+        p: a.p.minus(b.p),
+        q: a.q.minus(b.q),
+    }
+}
+
+pub fn pair_line(a: Frac, b: Frac, r: Ext) -> Frac
+    requires { ⌜ CanonFrac a × CanonFrac b × Canon r ⌝ }
+    ensures { λ x. ⌜ IsFrac x (zipFrac (line (dec r)) (decFrac a) (decFrac b)) ⌝ }
+{
+    Frac {
+        p: line_at(a.p, b.p, r),
+        q: line_at(a.q, b.q, r),
+    }
+}
+
+pub fn entry_plus(a: Entry, b: Entry) -> Entry
+    requires { ⌜ CanonEntry a × CanonEntry b ⌝ }
+    ensures { λ r. ⌜ IsEntry r (E.add (dec (a .e)) (dec (b .e))) (zip E.add (decClaims a) (decClaims b)) ⌝ }
+{
+    Entry {
+        e: a.e.plus(b.e),
+        l: pair_plus(a.l, b.l),
+        r: pair_plus(a.r, b.r),
+    }
+}
+
+pub fn entry_minus(a: Entry, b: Entry) -> Entry
+    requires { ⌜ CanonEntry a × CanonEntry b ⌝ }
+    ensures { λ r. ⌜ IsEntry r (minus (dec (a .e)) (dec (b .e))) (zip minus (decClaims a) (decClaims b)) ⌝ }
+{
+    Entry {
+        e: a.e.minus(b.e),
+        l: pair_minus(a.l, b.l),
+        r: pair_minus(a.r, b.r),
+    }
+}
+
+// All five columns of the line at r.
+pub fn entry_line(a: Entry, b: Entry, r: Ext) -> Entry
+    requires { ⌜ CanonEntry a × CanonEntry b × Canon r ⌝ }
+    ensures { λ x. ⌜ IsEntry x (line (dec r) (dec (a .e)) (dec (b .e))) (zip (line (dec r)) (decClaims a) (decClaims b)) ⌝ }
+{
+    Entry {
+        e: line_at(a.e, b.e, r),
+        l: pair_line(a.l, b.l, r),
+        r: pair_line(a.r, b.r, r),
+    }
+}
+
+// eq times numerator and denominator of the parent, batched by lambda: four products.
+pub fn summand(t: Entry, lambda: Ext) -> Ext
+    requires { ⌜ CanonEntry t × Canon lambda ⌝ }
+    ensures { λ x. ⌜ Is x (E.mul (dec (t .e)) (RoundSum.cross ExtRing (dec lambda) (decClaims t))) ⌝ }
+{
+    let a = t.l;
+    let b = t.r;
+    t.e.times(a.p.times(b.q).plus(a.q.times(b.p.plus(b.q.times(lambda)))))
+}
+
+// The summands at 1, 2 and 3 of the lines through two entries. At 2 and 3 an entry is found by adding the difference.
+pub fn summands(t0: Entry, t1: Entry, lambda: Ext) -> Three
+    requires { ⌜ CanonEntry t0 × CanonEntry t1 × Canon lambda ⌝ }
+    ensures { λ r. ⌜ IsThree r (summandAt E.one (dec lambda) (dec (t0 .e)) (dec (t1 .e)) (decClaims t0) (decClaims t1)) (summandAt two (dec lambda) (dec (t0 .e)) (dec (t1 .e)) (decClaims t0) (decClaims t1)) (summandAt three (dec lambda) (dec (t0 .e)) (dec (t1 .e)) (decClaims t0) (decClaims t1)) ⌝ }
+{
+    let d = entry_minus(t1, t0);
+    let t2 = entry_plus(t1, d);
+    let t3 = entry_plus(t2, d);
+    Three {
+        s1: summand(t1, lambda),
+        s2: summand(t2, lambda),
+        s3: summand(t3, lambda),
+    }
+}
+
+pub fn three_plus(a: Three, b: Three) -> Three
+    requires { ⌜ CanonThree a × CanonThree b ⌝ }
+    ensures { λ r. ⌜ IsThree r (E.add (dec (a .s1)) (dec (b .s1))) (E.add (dec (a .s2)) (dec (b .s2))) (E.add (dec (a .s3)) (dec (b .s3))) ⌝ }
+{
+    Three {
+        s1: a.s1.plus(b.s1),
+        s2: a.s2.plus(b.s2),
+        s3: a.s3.plus(b.s3),
+    }
+}
+
+// One entry t of the eq table becomes t·(1 - x) and t·x: one product.
+pub fn double_entry(t: Ext, x: Ext) -> Doubled
+    requires { ⌜ Canon t × Canon x ⌝ }
+    ensures { λ r. ⌜ Is (r .low) (E.mul (dec t) (minus E.one (dec x))) × Is (r .high) (E.mul (dec t) (dec x)) ⌝ }
+{
+    let high = t.times(x);
+    Doubled {
+        low: t.minus(high),
+        high,
+    }
+}

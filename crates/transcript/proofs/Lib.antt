@@ -1,0 +1,2 @@
+-- The laws of steps in a log.
+pub mod Logs

@@ -1,0 +1,93 @@
+-- Words written into the log, one step after the other.
+-- Assumes nothing.
+use mathlib.Core.Path.{_≡_, refl, sym, _∙_, ap, ap₂}
+use mathlib.Core.List.{List, [], _∷_, _++_, append-assoc, map}
+use Prim.Native.Nat.{ℕ, zero, suc, _+_, _*_, _-_, _^_, _<_, _≤_}
+use native.Mathlib.Nat.{mod-eq-of-lt}
+use native.Mathlib.Omega.{arith}
+use lib.ListN.{length, take, drop, set, length-append}
+use lib.Seq.{sets-eq, take-at, drop-at, length-take-le, drop-drop}
+use native.Mathlib.Numerals.{add-one}
+use Rattle.field.specs.Base.{P, of}
+use Rattle.field.specs.BaseRing.{val-of}
+use Rattle.field.specs.Ext as E
+use Rattle.gkr.specs.Transcripts.{Words, mark}
+use Rattle.field.specs.declared.Ext.{Ext}
+use Rattle.field.specs.Element.{dec, Canon, Is}
+use Rattle.field.specs.Cells.{cell}
+use Rattle.transcript.specs.declared.Pos.{Pos}
+use Rattle.transcript.specs.Log.{wordsOf, logOf, Steps, Supplied}
+
+abbrev pub four : List ℕ → ℕ → ℕ → ℕ → ℕ → ℕ → List ℕ
+four l put a b c d = set (set (set (set l put a) (put + 1) b) (put + 2) c) (put + 3) d
+
+module _ (l : List ℕ) (put a b c d : ℕ) (h : put + 4 ≤ length l) where
+  abbrev vs : List ℕ
+  vs = a ∷ b ∷ c ∷ d ∷ []
+
+  written : four l put a b c d ≡ (take put l ++ vs) ++ drop (put + 4) l
+  written =
+      let e1 : put + 1 ≡ suc put = omega arith in
+      let e2 : put + 2 ≡ suc (suc put) = omega arith in
+      let e3 : put + 3 ≡ suc (suc (suc put)) = omega arith in
+      rw (e1, e2, e3) (sets-eq vs l put h)
+
+  front : length (take put l ++ vs) ≡ put + 4
+  front = length-append (take put l) vs ∙ ap (λ n. n + 4) (length-take-le put l (omega arith))
+
+  pub four-take : take (put + 4) (four l put a b c d) ≡ take put l ++ vs
+  four-take = ap (take (put + 4)) written ∙ take-at (take put l ++ vs) (drop (put + 4) l) (put + 4) front
+
+  pub four-drop : drop (put + 4) (four l put a b c d) ≡ drop (put + 4) l
+  four-drop = ap (drop (put + 4)) written ∙ drop-at (take put l ++ vs) (drop (put + 4) l) (put + 4) front
+
+pub words-of : (e : Ext) (x : E.Ext) → Is e x → wordsOf x ≡ e .c0 ∷ e .c1 ∷ e .c2 ∷ e .c3 ∷ []
+unfolding E.ext
+words-of e x h =
+    ap wordsOf (sym (h .value))
+    ∙ (λ i. word (e .c0) (h .canon .c0) i ∷ word (e .c1) (h .canon .c1) i ∷ word (e .c2) (h .canon .c2) i ∷ word (e .c3) (h .canon .c3) i ∷ [])
+  where
+    word : (n : ℕ) → n < P → of n .val ≡ n
+    word n l = val-of n ∙ mod-eq-of-lt l
+
+pub observed : (l : List ℕ) (pos : Pos) (e : Ext) → pos .put + 4 ≤ length l → Canon e
+    → Steps l (four l (pos .put) (e .c0) (e .c1) (e .c2) (e .c3)) pos (record { put = pos .put + 4; used = pos .used }) 4 0 (record { log = take (pos .put) l ++ wordsOf (dec e); used = pos .used })
+observed l pos e h k = record {
+  put = refl;
+  used = omega arith;
+  log = λ i. record { log = (four-take l (pos .put) (e .c0) (e .c1) (e .c2) (e .c3) h ∙ ap (λ w. take (pos .put) l ++ w) (sym (words-of e (dec e) (record { canon = k; value = refl })))) i; used = pos .used };
+  rest = four-drop l (pos .put) (e .c0) (e .c1) (e .c2) (e .c3) h;
+}
+
+pub sampled : (l ch : List ℕ) (pos : Pos) (e : Ext) → pos .put + 4 ≤ length l → Is e (cell ch (pos .used))
+    → Steps l (four l (pos .put) (mark (e .c0)) (mark (e .c1)) (mark (e .c2)) (mark (e .c3))) pos (record { put = pos .put + 4; used = pos .used + 1 }) 4 1 (Supplied ch .drawn (logOf l pos))
+sampled l ch pos e h k =
+    let a = mark (e .c0) in
+    let b = mark (e .c1) in
+    let c = mark (e .c2) in
+    let d = mark (e .c3) in
+    record {
+      put = refl;
+      used = refl;
+      log = λ i. record { log = (four-take l (pos .put) a b c d h ∙ ap (λ w. take (pos .put) l ++ map mark w) (sym (words-of e _ k))) i; used = add-one (pos .used) i };
+      rest = four-drop l (pos .put) a b c d h;
+    }
+
+-- one after the other
+pub then : (l₀ l₁ l₂ : List ℕ) (p₀ p₁ p₂ : Pos) (n m n' m' : ℕ) (t t' : Words) → Steps l₀ l₁ p₀ p₁ n m t → Steps l₁ l₂ p₁ p₂ n' m' t' → Steps l₀ l₂ p₀ p₂ (n + n') (m + m') t'
+then l₀ l₁ l₂ p₀ p₁ p₂ n m n' m' t t' s s' =
+    let e : p₂ .put ≡ p₁ .put + n' = s' .put in
+    record {
+      put = omega (arith, s .put, s' .put);
+      used = omega (arith, s .used, s' .used);
+      log = s' .log;
+      rest =
+          s' .rest ∙ ap (λ k. drop k l₁) e ∙ sym (drop-drop n' (p₁ .put) l₁) ∙ ap (drop n') (s .rest) ∙ drop-drop n' (p₁ .put) l₀ ∙ ap (λ k. drop k l₀) (sym e);
+    }
+
+-- the same with the log told otherwise
+pub retold : (l l' : List ℕ) (p p' : Pos) (n m n' m' : ℕ) (t t' : Words) → n ≡ n' → m ≡ m' → t ≡ t' → Steps l l' p p' n m t → Steps l l' p p' n' m' t'
+retold l l' p p' n m n' m' t t' en em e s = record { put = omega (arith, s .put); used = omega (arith, s .used); log = s .log ∙ e; rest = s .rest }
+
+pub no-steps : (l : List ℕ) (p : Pos) → Steps l l p p 0 0 (logOf l p)
+no-steps l p = record { put = omega arith; used = omega arith; log = refl; rest = refl }

@@ -1,0 +1,2 @@
+-- The transcript over lent buffers.
+pub mod Log

@@ -1,0 +1,61 @@
+// The transcript over lent buffers: elements are observed into a log, and challenges are taken from those supplied.
+ghost use mathlib.Core.Path.{_≡_};
+ghost use mathlib.Core.List.{[]};
+ghost use Prim.Native.Nat.{_+_, _*_, _<_, _≤_};
+ghost use lib.ListN.{length, take};
+ghost use Rattle.field.specs.Element.{dec, Canon, Is};
+ghost use Rattle.field.specs.Cells.{cell, Clean};
+ghost use Rattle.transcript.specs.Log.{Supplied, logOf, Steps};
+use field::Ext;
+
+// How many words of the log are written, and how many challenges are used.
+pub struct Pos {
+    pub put: usize,
+    pub used: usize,
+}
+
+// A challenge, and where the run stands after it.
+pub struct Drawn {
+    pub pos: Pos,
+    pub x: Ext,
+}
+
+// An element goes into the log.
+pub fn observe_ext(log: &mut [u32], pos: Pos, e: Ext) -> Pos
+    requires room { ⌜ pos .put + 4 ≤ length (now log) ⌝ }
+    requires canon { ⌜ Canon e ⌝ }
+    ensures { λ r. ⌜ Steps (now (log .entry)) (now (log .exit)) pos r 4 0 (Supplied [] .observe (dec e) (logOf (now (log .entry)) pos)) ⌝ }
+{
+    let put = pos.put;
+    log[put] = e.c0;
+    log[put + 1] = e.c1;
+    log[put + 2] = e.c2;
+    log[put + 3] = e.c3;
+    Pos {
+        put: put + 4,
+        used: pos.used,
+    }
+}
+
+// The next challenge goes into the log, with the top bits of its words set.
+pub fn sample_ext(log: &mut [u32], challenges: &[u32], pos: Pos) -> Drawn
+    requires room { ⌜ (pos .put + 4 ≤ length (now log)) × (4 * pos .used + 3 < length (now challenges)) ⌝ }
+    requires clean { ⌜ Clean (now challenges) ⌝ }
+    ensures steps { λ r. ⌜ Steps (now (log .entry)) (now (log .exit)) pos (r .pos) 4 1 (Supplied (now (challenges .entry)) .drawn (logOf (now (log .entry)) pos)) ⌝ }
+    ensures value { λ r. ⌜ Is (r .x) (Supplied (now (challenges .entry)) .draw (logOf (now (log .entry)) pos)) ⌝ }
+{
+    let put = pos.put;
+    let used = pos.used;
+    let x = field::load(challenges, used);
+    log[put] = 2147483648 + x.c0;
+    log[put + 1] = 2147483648 + x.c1;
+    log[put + 2] = 2147483648 + x.c2;
+    log[put + 3] = 2147483648 + x.c3;
+    Drawn {
+        pos: Pos {
+            put: put + 4,
+            used: used + 1,
+        },
+        x,
+    }
+}
