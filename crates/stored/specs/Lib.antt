@@ -9,3 +9,5 @@ pub mod Lengths
 pub mod Sheet
 pub mod SheetReads
 pub mod SheetLaws
+pub mod Elements
+pub mod Messages
