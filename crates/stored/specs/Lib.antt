@@ -10,4 +10,6 @@ pub mod Sheet
 pub mod SheetReads
 pub mod SheetLaws
 pub mod Elements
+pub mod ElementLaws
 pub mod Messages
+pub mod OneAnswer
