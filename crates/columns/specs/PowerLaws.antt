@@ -1,16 +1,17 @@
--- A number is a power of two just where it is one of 1, 2, 4, .. up to the limit.
+-- The number of variables of a table is the exponent of its number of entries.
 -- Assumes nothing.
 use mathlib.Core.Path.{_≡_, refl, sym, _∙_, ap}
 use mathlib.Core.Bool.{Bool, true, false, cond}
 use mathlib.Core.Logic.{⊎-elim}
 use Prim.Native.Nat.{ℕ, zero, suc, _≤_, _<_, _^_, _+_}
-use native.Mathlib.Nat.{eq-or-lt-of-le, pow-le-pow-right}
+use native.Mathlib.Nat.{eq-or-lt-of-le, pow-le-pow-right, two-pow-succ, one-le-pow}
 use native.Mathlib.Bridge.{le-by-compare, IsLe}
 use native.Mathlib.Omega.{arith}
-use borrow.Author.Tests.{eqb-true, eq-eqb, ne-eqb}
-use lib.Dec.{eqb}
-use Rattle.refusal.specs.Limits.{maxRounds}
-use Rattle.columns.specs.Powers.{exponent, isPower}
+use borrow.Author.Tests.{eqb-true, eq-eqb, leb-true, leb-false}
+use lib.Dec.{eqb, leb}
+use Rattle.refusal.specs.Limits.{maxRounds, maxRows}
+use Rattle.refusal.specs.Powers.{anyPower, powerOfTwo}
+use Rattle.columns.specs.Powers.{exponent, variablesOf}
 
 pick-le : (b : Bool) (k x : ℕ) → x ≤ k → cond b (suc k) x ≤ suc k
 pick-le true k x h = omega arith
@@ -36,15 +37,24 @@ exponent-of (suc m) k n h e =
     (λ (q : k < suc m). exponent-of m k n (omega arith) e)
     (eq-or-lt-of-le h))
 
--- what the search finds
-pub is-power : (k n : ℕ) → k ≤ maxRounds → 2 ^ k ≡ n → isPower n ≡ true
-is-power k n h e = eq-eqb n (2 ^ exponent maxRounds n) (exponent-of maxRounds k n h (sym e))
+-- the exponent of a power of two that is not over the limit
+small : (limit k n : ℕ) → 2 ^ k ≡ n → n ≤ 2 ^ limit → (t : Bool) → leb k limit ≡ t → k ≤ limit
+unfolding IsLe
+small limit k n e h true s = leb-true k limit s
+small limit k n e h false s =
+    absurd (omega (arith, pow-le-pow-right (le-by-compare 1 2 tt) (leb-false k limit s), two-pow-succ limit, one-le-pow limit 2 (omega arith)))
 
-pub no-power : (n : ℕ) → ((j : ℕ) → j < maxRounds + 1 → 2 ^ j ≡ n → ⊥) → isPower n ≡ false
-no-power n h = ne-eqb n (2 ^ exponent maxRounds n) (λ e. h (exponent maxRounds n) (omega (arith, exponent-le maxRounds n)) (sym e))
+one-of : (m limit n : ℕ) (t : Bool) → eqb (2 ^ m) n ≡ t → cond t true (anyPower m n) ≡ true → n ≤ 2 ^ limit → (anyPower m n ≡ true → n ≡ 2 ^ exponent limit n) → n ≡ 2 ^ exponent limit n
+one-of m limit n true e h l f = let q = eqb-true (2 ^ m) n e in exponent-of limit m n (small limit m n q l (leb m limit) refl) (sym q)
+one-of m limit n false e h l f = f h
 
-pub power-of : (n : ℕ) → isPower n ≡ true → n ≡ 2 ^ exponent maxRounds n
-power-of n h = eqb-true n (2 ^ exponent maxRounds n) h
+any-of : (m limit n : ℕ) → anyPower m n ≡ true → n ≤ 2 ^ limit → n ≡ 2 ^ exponent limit n
+unfolding anyPower
+any-of zero limit n h l = absurd (let z : _≡_ {A = ℕ} 0 1 = cc in omega arith)
+any-of (suc m) limit n h l = one-of m limit n (eqb (2 ^ m) n) refl h l (λ q. any-of m limit n q l)
+
+pub variables-of : (n : ℕ) → powerOfTwo n ≡ true → n ≤ maxRows → n ≡ 2 ^ variablesOf n
+variables-of n h l = any-of n maxRounds n h l
 
 -- powers up to the limit are small
 pub power-le : (j : ℕ) → j ≤ maxRounds → 2 ^ j ≤ 2 ^ maxRounds

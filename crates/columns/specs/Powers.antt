@@ -1,6 +1,6 @@
--- Powers of two up to the limit on rows.
+-- The number of variables of a table.
 -- Assumes nothing.
-use mathlib.Core.Bool.{Bool, cond}
+use mathlib.Core.Bool.{cond}
 use Prim.Native.Nat.{ℕ, zero, suc, _^_}
 use lib.Dec.{eqb}
 use Rattle.refusal.specs.Limits.{maxRounds}
@@ -13,6 +13,3 @@ exponent (suc k) n = cond (eqb n (2 ^ suc k)) (suc k) (exponent k n)
 -- the number of variables of a table of n entries
 abbrev pub variablesOf : ℕ → ℕ
 variablesOf n = exponent maxRounds n
-
-abbrev pub isPower : ℕ → Bool
-isPower n = eqb n (2 ^ variablesOf n)
