@@ -1,5 +1,6 @@
 -- The run: definitions (Run, Tree, Sumcheck, Gkr, Transcripts), and what is proved of them.
 pub mod Run
+pub mod Sizes
 pub mod Tree
 pub mod TreeLaws
 pub mod Sumcheck
