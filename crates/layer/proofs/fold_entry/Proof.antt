@@ -1,3 +1,5 @@
+use Rattle.step.proofs.Pairs.{entry-canon}
+use Rattle.layer.proofs.Entries.{entry-folded}
 use native.Mathlib.Omega.{arith}
 use borrow.Author.Needs.{needs}
 use Rattle.layer.proofs.fold_entry.Statement.{statement}
@@ -8,41 +10,36 @@ use Rattle.layer.proofs.load_entry.Reads as load-entry-reads
 use Rattle.layer.proofs.store_entry.Reads as store-entry-reads
 use Rattle.step.proofs.entry_line.Reads as entry-line-reads
 
--- src/lib.rt:129:34
 mul-load-entry : tie.Need-mul-load-entry
 mul-load-entry c = search needs
 
--- src/lib.rt:129:9
 load-entry-requires : tie.Need-load-entry-requires
 load-entry-requires c κs = search needs
 
--- src/lib.rt:130:34
 mul-load-entry-2 : tie.Need-mul-load-entry-2
 mul-load-entry-2 c = search needs
 
--- src/lib.rt:130:34
 add-load-entry : tie.Need-add-load-entry
 add-load-entry c = search needs
 
--- src/lib.rt:130:9
 load-entry-requires-2 : tie.Need-load-entry-requires-2
 load-entry-requires-2 c κs = search needs
 
--- src/lib.rt:128:9
 entry-line-requires : tie.Need-entry-line-requires
 entry-line-requires c κs = search needs
 
--- src/lib.rt:133:5
 store-entry-requires : tie.Need-store-entry-requires
-store-entry-requires c κs = ?
+store-entry-requires c κs =
+    let p = c .before .before .before .before .before .before .before .pre in
+    (omega (arith, p .0), (p .1 .0, entry-canon _ _ _ (c .before .entry-line .ensures)))
 
--- src/lib.rt:123:1
 same-length : tie.Need-same-length
 same-length c = search needs
 
--- src/lib.rt:123:1
 returns : tie.Need-returns
-returns c = ?
+returns c =
+    let a = c .before .before .before .before .before .before .before .before .before .before .args in
+    entry-folded _ _ (a .eq) (a .pq) (a .y) _ _ _ _ (c .before .before .before .before .before .before .before .load-entry .ensures) (c .before .before .before .before .before .load-entry2 .ensures) (c .before .before .before .before .entry-line .ensures) (c .before .before .store-entry .ensures)
 
 pub fold-entry-spec : {M : Type 1} → statement M
 fold-entry-spec =

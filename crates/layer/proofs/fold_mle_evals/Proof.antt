@@ -1,3 +1,9 @@
+use Prim.Native.Nat.{_≤_, _-_}
+use mathlib.Core.Path.{_≡_}
+use lib.ListN.{length}
+use Rattle.field.specs.Element.{dec}
+use Rattle.layer.specs.Columns.{Folded}
+use Rattle.layer.proofs.Entries.{folds-none, folds-next}
 use borrow.Author.Needs.{needs}
 use native.Mathlib.Omega.{arith}
 use Rattle.layer.proofs.fold_mle_evals.Statement.{statement}
@@ -7,38 +13,35 @@ use Rattle.layer.proofs.fold_mle_evals.Lts as lts
 use Rattle.layer.proofs.fold_entry.Reads as fold-entry-reads
 
 abbrev Inv-loop : tie.InvT-loop
-Inv-loop work₀ eq pq half rho y₀ work y = ?
+Inv-loop work₀ eq pq half rho y₀ work y = (y ≤ half) × (length work ≡ length work₀) × Folded work₀ work eq pq y (dec rho)
 
 abbrev μ-loop : tie.MeasureT-loop
-μ-loop work₀ eq pq half rho y₀ work y = ?
+μ-loop work₀ eq pq half rho y₀ work y = half - y
 
--- src/lib.rt:142:5
 loop-holds : tie.Need-loop-holds Inv-loop μ-loop
-loop-holds c = ?
+loop-holds c = (search needs, search needs, folds-none _ _ _ _ (search needs))
 
--- src/lib.rt:143:9
 fold-entry-requires : tie.Need-fold-entry-requires Inv-loop μ-loop
-fold-entry-requires c κs = ?
+fold-entry-requires c κs = search needs
 
--- src/lib.rt:142:9
 add-y : tie.Need-add-y Inv-loop μ-loop
-add-y c = ?
+add-y c = search needs
 
--- src/lib.rt:142:5
 loop-less : tie.Need-loop-less Inv-loop μ-loop
-loop-less c = ?
+loop-less c = search needs
 
--- src/lib.rt:142:5
 loop-again : tie.Need-loop-again Inv-loop μ-loop
-loop-again c = ?
+loop-again c =
+    let l = c .before .before .before .before .before .loop in
+    (search needs, search needs, folds-next _ (l .work) _ _ _ (l .y) (c .before .before .before .before .before .before .before .args .half) _ (search needs) (search needs) (l .inv .2) (c .before .before .fold-entry .ensures))
 
--- src/lib.rt:137:1
 same-length : tie.Need-same-length Inv-loop μ-loop
-same-length c = ?
+same-length c = search needs
 
--- src/lib.rt:137:1
 returns : tie.Need-returns Inv-loop μ-loop
-returns c = ?
+returns c =
+    let e : c .before .loop .y ≡ c .before .before .before .args .half = omega arith in
+    rw e at (c .before .loop .inv .2)
 
 pub fold-mle-evals-spec : {M : Type 1} → statement M
 fold-mle-evals-spec =

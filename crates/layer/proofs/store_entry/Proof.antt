@@ -1,3 +1,4 @@
+use Rattle.layer.proofs.Entries.{entry-stored}
 use native.Mathlib.Omega.{arith}
 use borrow.Author.Needs.{needs}
 use Rattle.layer.proofs.store_entry.Statement.{statement}
@@ -7,49 +8,40 @@ use Rattle.layer.proofs.store_entry.Lts as lts
 use Rattle.field.proofs.store.Reads as store-reads
 use Rattle.tree.proofs.store_node.Reads as store-node-reads
 
--- src/lib.rt:117:24
 add-store : tie.Need-add-store
 add-store c = search needs
 
--- src/lib.rt:117:5
 store-requires : tie.Need-store-requires
 store-requires c κs = search needs
 
--- src/lib.rt:118:33
 mul-store-node : tie.Need-mul-store-node
 mul-store-node c = search needs
 
--- src/lib.rt:118:28
 add-store-node : tie.Need-add-store-node
 add-store-node c = search needs
 
--- src/lib.rt:118:5
 store-node-requires : tie.Need-store-node-requires
 store-node-requires c κs = search needs
 
--- src/lib.rt:119:34
 mul-store-node-2 : tie.Need-mul-store-node-2
 mul-store-node-2 c = search needs
 
--- src/lib.rt:119:34
 add-store-node-2 : tie.Need-add-store-node-2
 add-store-node-2 c = search needs
 
--- src/lib.rt:119:28
 add-store-node-3 : tie.Need-add-store-node-3
 add-store-node-3 c = search needs
 
--- src/lib.rt:119:5
 store-node-requires-2 : tie.Need-store-node-requires-2
-store-node-requires-2 c κs = ?
+store-node-requires-2 c κs = (search needs, (c .before .before .before .store-node .ensures .clean, search needs))
 
--- src/lib.rt:112:1
 same-length : tie.Need-same-length
 same-length c = search needs
 
--- src/lib.rt:112:1
 returns : tie.Need-returns
-returns c = ?
+returns c =
+    let a = c .before .before .before .before .before .before .before .before .before .before .before .before .before .args in
+    entry-stored _ _ _ _ (a .eq) (a .pq) (a .y) (a .t) (search needs) (c .before .before .before .before .before .before .before .before .before .before .store .ensures) (c .before .before .before .before .before .before .store-node .ensures) (c .before .before .store-node2 .ensures)
 
 pub store-entry-spec : {M : Type 1} → statement M
 store-entry-spec =
