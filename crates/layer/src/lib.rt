@@ -67,14 +67,7 @@ fn load_entry(work: &[u32], eq: usize, pq: usize, y: usize) -> Entry
 }
 
 // The summands at y are added.
-fn add_summands(
-    work: &[u32],
-    eq: usize,
-    pq: usize,
-    y: usize,
-    lambda: Ext,
-    acc: Three,
-) -> Three
+fn add_summands(work: &[u32], eq: usize, pq: usize, y: usize, lambda: Ext, acc: Three) -> Three
     requires room { ⌜ (8 * (pq + 4 * y) + 31 < length (now work)) × (4 * (eq + 2 * y) + 7 < length (now work)) ⌝ }
     requires clean { ⌜ Clean (now work) ⌝ }
     requires canon { ⌜ CanonThree acc × Canon lambda ⌝ }

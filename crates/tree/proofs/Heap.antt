@@ -38,4 +38,3 @@ zeros-next l i u h = below-more (λ k. getD (set l i 0) k 0 ≡ 0) i (λ k v. ge
 
 pub zeros-all : (l : List ℕ) (n i : ℕ) → length l ≡ n → n ≤ i → ((k : ℕ) → k < i → getD l k 0 ≡ 0) → l ≡ replicate n 0
 zeros-all l n i e u h = ext-getD 0 l (replicate n 0) (e ∙ sym (length-replicate n 0)) (λ k v. h k (omega arith) ∙ sym (getD-replicate n k 0 0 (omega arith)))
-
