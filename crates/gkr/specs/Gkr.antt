@@ -29,13 +29,14 @@ module _ (F : Field) where
 
     -- THE PROVER
 
+    -- what the layers after layer 0 give: their claims and polynomials, the last point
     pub record Sent : Type 0 where
       pub claims : List (Claims R)
       pub polys : List (List (Cubic R))
       pub point : List R
       pub log : Log
 
-    -- the last h layers over the rows f, from the old point xi, whose length is the round: lambda, the sub-rounds, the claims, mu
+    -- the last h layers over the rows f, from the old point xi; a layer's number is the length of xi. Each: lambda, the sub-rounds, the claims, mu; the new point is mu, then each rho.
     unfoldable pub send : (f : ℕ → Frac R) (h : ℕ) (xi : List R) (t : Log) → Sent
     send f zero xi t = record { claims = []; polys = []; point = xi; log = t }
     send f (suc h) xi t =
@@ -46,13 +47,14 @@ module _ (F : Field) where
         let rest = send f h (mu ∷ sub .point) (drawn t₁) in
         record { claims = sub .last ∷ rest .claims; polys = sub .polys ∷ rest .polys; point = rest .point; log = rest .log }
 
+    -- what the prover gives: the root, the proof, the point
     pub record Proved : Type 0 where
       pub sum : Frac R
       pub proof : Proof R
       pub point : List R
       pub log : Log
 
-    -- n = suc m rounds over 2^n rows f, from the log that the root's numerator is in or not: root q, layer 0, mu, the other layers
+    -- n = suc m rounds over 2^n rows f, from the log t, in which root p is already if it is observed: root q, layer 0, mu, the other layers
     unfoldable pub run : (m : ℕ) (f : ℕ → Frac R) (t : Log) → Proved
     run m f t =
         let root = Tree.tree K f (suc m) 0 in
@@ -70,14 +72,14 @@ module _ (F : Field) where
       done : Proved → Answer
       non-zero-root-sum : Answer
 
-    -- n = suc m rounds. Zero asserted: root p has to be 0, and is not observed. Not asserted: root p is observed first.
+    -- n = suc m rounds over 2^n rows f. Zero asserted: root p has to be 0, and is not observed. Not asserted: root p is observed first.
     unfoldable pub fractional-sumcheck : (asserted : Bool) (m : ℕ) (f : ℕ → Frac R) (t : Log) → Answer
     fractional-sumcheck true m f t = cond (same (Tree.tree K f (suc m) 0 .p) nil) (done (run m f t)) non-zero-root-sum
     fractional-sumcheck false m f t = done (run m f (observe (Tree.tree K f (suc m) 0 .p) t))
 
     -- THE VERIFIER
 
-    -- what the verifier answers, by document 01's number, with the log where the run had begun
+    -- what the verifier answers, with document 01's number; 16 to 19 with the log until then
     pub data Verdict : Type 0 where
       accepted : (claims : Frac R) (point : List R) (log : Log) → Verdict  -- 0
       zero-rounds : Verdict  -- 10
@@ -99,7 +101,7 @@ module _ (F : Field) where
     log-after t (subround-count round expected actual u) = u
     log-after t (layer-check round expected actual u) = u
 
-    -- the rounds after round 0, from the claims v at the old point xi, whose length is the round; as many claims as polynomial entries
+    -- the rounds after round 0, from the claims v at the old point xi; a round's number is the length of xi. Both lists are of one length (counted).
     unfoldable pub rounds : (polyss : List (List (Cubic R))) (cs : List (Claims R)) (v : Frac R) (xi : List R) (t : Log) → Verdict
     rounds [] cs v xi t = accepted v xi t
     rounds (polys ∷ polyss) [] v xi t = accepted v xi t
@@ -115,7 +117,7 @@ module _ (F : Field) where
         let layer = cond (same expected (sub .claim)) next (layer-check round expected (sub .claim) t₂) in
         cond (eqb (length polys) round) layer (subround-count round round (length polys) t₁)
 
-    -- round 0: the numerator of the sum of the first claims has to be 0, then its denominator q0; then the other rounds
+    -- round 0: the sum of the two fractions claimed; its numerator has to be 0, then its denominator q0; then the other rounds
     unfoldable pub root : (q0 : R) (c : Claims R) (cs : List (Claims R)) (polyss : List (List (Cubic R))) (t : Log) → Verdict
     root q0 c cs polyss t =
         let t₁ = observe-layer-claims c (observe q0 t) in
@@ -132,7 +134,7 @@ module _ (F : Field) where
         let polys = cond (eqb (length polyss) m) (root q0 c cs polyss t) (poly-count m (length polyss)) in
         cond (eqb (length cs) m) polys (layer-count (suc m) (suc (length cs)))
 
-    -- n rounds
+    -- verify_gkr, n rounds
     unfoldable pub verify-gkr : (n : ℕ) (π : Proof R) (t : Log) → Verdict
     verify-gkr zero π t = zero-rounds
     verify-gkr (suc m) π t = counted m (π .q0) (π .claims) (π .polys) t

@@ -59,7 +59,7 @@ module _ (F : Field) where
       pub eq : R
       pub log : Log
 
-    -- the sub-rounds along the old point xi: s(0) is the claim less s(1), and the next claim is s(rho); as many sub-rounds as xi is long
+    -- the sub-rounds along the old point xi: s(0) is the claim less s(1), the next claim is s(rho), eq takes in the agreement of xi's next and rho. Both lists are of one length (Gkr.rounds).
     unfoldable pub verify-gkr-sumcheck : (polys : List (Cubic R)) (xi : List R) (claim eq : R) (t : Log) → Checked
     verify-gkr-sumcheck [] xi claim eq t = record { claim = claim; point = []; eq = eq; log = t }
     verify-gkr-sumcheck (s ∷ polys) [] claim eq t = record { claim = claim; point = []; eq = eq; log = t }

@@ -14,7 +14,11 @@ module _ (K : CommRing) where
 
   infixl 65 _+_
   infixl 70 _*_
-  -- the sum of the left and the right fraction: (p0, q0) + (p1, q1) = (p0·q1 + p1·q0, q0·q1), not reduced
+  -- the sum of two fractions, not reduced: (p, q) + (p', q') = (p·q' + q·p', q·q')
+  abbrev pub plus : (a b : Frac R) → Frac R
+  plus a b = record { p = a .p * b .q + a .q * b .p; q = a .q * b .q }
+
+  -- the sum of the left and the right fraction that the claims name
   abbrev pub compute-recursive-relations : (c : Claims R) → Frac R
   compute-recursive-relations c = record { p = c .p0 * c .q1 + c .p1 * c .q0; q = c .q0 * c .q1 }
 
