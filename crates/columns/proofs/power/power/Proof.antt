@@ -1,5 +1,5 @@
-use mathlib.Core.Path.{_≡_, refl, sym, _∙_, ap}
-use Prim.Native.Nat.{ℕ, _+_, _*_, _-_, _/_, _^_, _<_, _≤_}
+use mathlib.Core.Path.{_≡_}
+use Prim.Native.Nat.{_-_, _^_, _≤_}
 use Rattle.columns.specs.PowerLaws.{power-le}
 use Rattle.columns.proofs.Grows.{power-turn}
 use borrow.Author.Needs.{needs}
@@ -31,7 +31,9 @@ loop-again : tie.Need-loop-again Inv-loop μ-loop
 loop-again c = (omega arith, power-turn _ (c .before .loop .j) (c .before .loop .inv .1))
 
 returns : tie.Need-returns Inv-loop μ-loop
-returns c = let e : c .before .loop .j ≡ c .before .before .args .k = omega arith in cc
+returns c =
+    let e : c .before .loop .j ≡ c .before .before .args .k = omega arith in
+    cc
 
 pub power-spec : {M : Type 1} → statement M
 power-spec =
