@@ -1,3 +1,5 @@
+use mathlib.Core.Path.{_∙_, ap, ap₂}
+use Rattle.field.specs.Ext as E
 use native.Mathlib.Omega.{arith}
 use borrow.Author.Needs.{needs}
 use Rattle.step.proofs.add_fractions.Statement.{statement}
@@ -20,7 +22,7 @@ times-requires-3 : tie.Need-times-requires-3
 times-requires-3 c κs = search needs
 
 returns : tie.Need-returns
-returns c = record { p = record { canon = search needs; value = cc }; q = record { canon = search needs; value = cc } }
+returns c = record { p = record { canon = c .before .plus .ensures .canon; value = c .before .plus .ensures .value ∙ ap₂ E.add (c .before .before .before .times .ensures .value) (c .before .before .times2 .ensures .value) }; q = c .times3 .ensures }
 
 pub add-fractions-spec : {M : Type 1} → statement M
 add-fractions-spec =

@@ -1,3 +1,5 @@
+use mathlib.Core.Path.{_∙_, ap, ap₂}
+use Rattle.field.specs.Ext as E
 use Rattle.field.specs.Element.{dec}
 use Rattle.step.proofs.Algebra.{low-part}
 use native.Mathlib.Omega.{arith}
@@ -18,7 +20,7 @@ minus-requires c κs = search needs
 returns : tie.Need-returns
 returns c =
     let a = c .before .before .args in
-    (record { canon = search needs; value = cc (low-part (dec (a .t)) (dec (a .x))) }, search needs)
+    (record { canon = c .minus .ensures .canon; value = c .minus .ensures .value ∙ ap (λ h. E.add (dec (a .t)) (E.neg h)) (c .before .times .ensures .value) ∙ low-part (dec (a .t)) (dec (a .x)) }, c .before .times .ensures)
 
 pub double-entry-spec : {M : Type 1} → statement M
 double-entry-spec = tie.close (tie.spec times-requires minus-requires returns)

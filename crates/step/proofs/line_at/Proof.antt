@@ -1,3 +1,5 @@
+use mathlib.Core.Path.{_∙_, ap, ap₂}
+use Rattle.field.specs.Ext as E
 use Rattle.field.specs.Element.{dec}
 use Rattle.step.proofs.Algebra.{line-turned}
 use native.Mathlib.Omega.{arith}
@@ -22,7 +24,10 @@ plus-requires c κs = search needs
 returns : tie.Need-returns
 returns c =
     let a = c .before .before .before .args in
-    record { canon = search needs; value = cc (line-turned (dec (a .a)) (dec (a .b)) (dec (a .r))) }
+    record {
+      canon = c .plus .ensures .canon;
+      value = c .plus .ensures .value ∙ ap (E.add (dec (a .a))) (c .before .times .ensures .value ∙ ap (λ t. E.mul t (dec (a .r))) (c .before .before .minus .ensures .value)) ∙ line-turned (dec (a .a)) (dec (a .b)) (dec (a .r));
+    }
 
 pub line-at-spec : {M : Type 1} → statement M
 line-at-spec = tie.close (tie.spec minus-requires times-requires plus-requires returns)

@@ -1,3 +1,5 @@
+use mathlib.Core.Path.{_∙_, ap, ap₂}
+use Rattle.field.specs.Ext as E
 use Rattle.field.specs.Element.{dec}
 use Rattle.step.proofs.Algebra.{cross-fast}
 use native.Mathlib.Omega.{arith}
@@ -30,7 +32,14 @@ times-requires-4 c κs = search needs
 returns : tie.Need-returns
 returns c =
     let t = c .before .before .before .before .before .before .before .before .args .t in
-    record { canon = search needs; value = cc (cross-fast (dec (t .l .p)) (dec (t .l .q)) (dec (t .r .p)) (dec (t .r .q)) (dec (c .before .before .before .before .before .before .before .before .args .lambda))) }
+    record {
+      canon = c .times4 .ensures .canon;
+      value =
+          c .times4 .ensures .value
+          ∙ ap (E.mul (dec (t .e))) (c .before .plus2 .ensures .value
+          ∙ ap₂ E.add (c .before .before .before .before .before .times .ensures .value) (c .before .before .times3 .ensures .value ∙ ap (E.mul (dec (t .l .q))) (c .before .before .before .plus .ensures .value ∙ ap (E.add (dec (t .r .p))) (c .before .before .before .before .times2 .ensures .value)))
+          ∙ cross-fast (dec (t .l .p)) (dec (t .l .q)) (dec (t .r .p)) (dec (t .r .q)) (dec (c .before .before .before .before .before .before .before .before .args .lambda)));
+    }
 
 pub summand-spec : {M : Type 1} → statement M
 summand-spec =

@@ -1,0 +1,361 @@
+"""Makes cases: random and damaged ones from a seed, and short ones exhaustively. Sizes stay within LARGEST."""
+import itertools
+
+import ask
+import model as m
+from forms import FORMS
+
+P = m.P
+TOP = (1 << 32) - 1
+EDGE = [0, 1, 2, P - 1]
+BAD = [P, P + 1, 1 << 31, TOP]
+# The longest lists and buffers of a case, by its arguments, for programs that read them into arrays (lists of poly: 8,200).
+LARGEST = {40: (1, 1, 16400, 320, 2900, 48, 1000, 32800), 50: ((1 << 64) - 1, 16400, 320, 48, 1000), 60: (65600, 16400)}
+
+
+def within(code, a):
+    """Whether a case keeps to LARGEST."""
+    if FORMS[code][0] == "poly":
+        rooms = a[-2:-1] if code in (26, 27, 30) else []
+        return all(len(x) <= 8200 for x in a if isinstance(x, list)) and all(r <= 8200 for r in rooms)
+    return all((len(x) if isinstance(x, list) else x) <= most for x, most in zip(a, LARGEST.get(code, ())))
+
+
+class Make:
+    """Random pieces of cases, all from one random.Random."""
+
+    def __init__(self, random):
+        self.r = random
+
+    def word(self):
+        r = self.r.random()
+        return self.r.randrange(P) if r < 0.8 else self.r.choice(EDGE) if r < 0.95 else self.r.randrange(100)
+
+    def element(self):
+        r = self.r.random()
+        if r < 0.1:
+            return (self.word(), 0, 0, 0)
+        return tuple(self.word() for _ in range(4)) if r < 0.95 else m.ZERO
+
+    def unit(self):
+        e = self.element()
+        return m.ONE if e == m.ZERO else e
+
+    def any_element(self):
+        return tuple(self.r.choice(BAD) if self.r.random() < 0.2 else self.r.randrange(1 << 32) if self.r.random() < 0.2
+                     else self.word() for _ in range(4))
+
+    def words(self, count):
+        return [self.word() for _ in range(count)]
+
+    def list(self, count):
+        """That many elements, as words."""
+        return m.flat(self.element() for _ in range(count))
+
+    def filler(self):
+        return self.r.choice([self.r.randrange(1, 10), self.r.randrange(1 << 32), TOP])
+
+    def near(self, size, short=0.1):
+        """A buffer's length: exactly enough, a little more, or too short."""
+        r = self.r.random()
+        if r < short:
+            return max(0, size - self.r.choice([1, 1, 1, 2, 4, size]))
+        return size if r < 0.6 else size + self.r.randrange(1, 9)
+
+    def spoil(self, words, chance=0.05):
+        """Perhaps with one word that is not canonical."""
+        if words and self.r.random() < chance:
+            words[self.r.randrange(len(words))] = self.r.choice(BAD)
+        return words
+
+    def size(self):
+        """A number of variables: mostly small, now and then the largest."""
+        r = self.r.random()
+        return self.r.randrange(0, 5) if r < 0.9 else self.r.randrange(5, 8) if r < 0.985 else self.r.randrange(8, m.ROUNDS + 1)
+
+    # --- sheets and proofs
+
+    def rows(self, n, kind=None):
+        """2^n rows as (p, q) pairs."""
+        kind = kind or self.r.choice(["pairs", "pairs", "last", "random", "degenerate", "small"])
+        count = 1 << n
+        if kind == "small":
+            rows = [(m.const(self.r.randrange(10)), m.const(self.r.randrange(1, 10))) for _ in range(count)]
+        else:
+            rows = [(self.element(), self.unit() if kind in ("pairs", "last") else self.element()) for _ in range(count)]
+        if kind == "pairs" and n:
+            rows = [half for p, q in rows[:count // 2] for half in ((p, q), (m.sub(m.ZERO, p), q))]
+            self.r.shuffle(rows)
+        if kind in ("last", "small") and n:
+            rows[-1] = self.closing(rows[:-1])
+        if kind == "degenerate":
+            for _ in range(self.r.randrange(1, 4)):
+                i = self.r.randrange(count)
+                rows[i] = self.r.choice([(m.ZERO, m.ZERO), (self.element(), m.ZERO), (m.ZERO, m.ONE), (m.ZERO, self.element())])
+        return rows
+
+    @staticmethod
+    def closing(rows):
+        """The row that brings the sum to zero."""
+        s = (m.ZERO, m.ONE)
+        for row in rows:
+            s = m.fraction_sum(s, row)
+        return m.sub(m.ZERO, s[0]), s[1]
+
+    def challenges(self, n):
+        return self.list(m.challenge_words(n) // 4)
+
+    def prove(self):
+        n = self.size()
+        rows = [w for p, q in self.rows(n) for w in (*p, *q)]
+        if self.r.random() < 0.08:
+            rows = self.words(self.r.choice([8 * self.r.randrange(0, 40), self.r.randrange(0, 100)]))
+        if self.r.random() < 0.003:
+            rows = [1] * 8 * self.r.choice([m.ROWS + 1, 2 * m.ROWS, self.r.randrange(m.ROWS, 2 * m.ROWS)])
+        live, asserted = self.r.randrange(2), self.r.randrange(2)
+        count = len(rows) // 8
+        n = count.bit_length() - 1 if m.power_of_two(count) and count <= m.ROWS else 0
+        needed = self.spoil(self.challenges(n), 0.04)
+        challenges = (needed + [self.r.choice(BAD + EDGE) for _ in range(self.r.randrange(0, 6))])[:self.near(len(needed) + 4, 0.05)]
+        return 40, [live, asserted, self.spoil(rows, 0.04), challenges, self.near(m.proof_bytes(n), 0.03),
+                    self.near(4 * n, 0.03), self.near(m.log_words(n, asserted), 0.03), self.near(m.work_words(n), 0.03),
+                    self.filler()]
+
+    def honest(self, sizes):
+        """(n, proof, challenges) of an honest run for each n, by the Rust."""
+        made = [([w for p, q in self.rows(n, self.r.choice(["pairs", "last"])) for w in (*p, *q)], self.challenges(n)) for n in sizes]
+        said = ask.replies([f"prove 1 {ask.words(rows)} {ask.words(c)}" for rows, c in made]) if made else []
+        return [(n, ask.unhex(ask.parts(s)["proof"]), c) for n, (_, c), s in zip(sizes, made, said)]
+
+    def verify(self, honest):
+        n, proof, challenges = honest
+        proof, challenges, rounds = list(proof), list(challenges), n
+        kind = self.r.randrange(20)
+        if kind < 8:
+            proof = self.damage(proof)
+        elif kind < 12:
+            proof = self.damage_bytes(proof)
+        elif kind < 14:
+            challenges[self.r.randrange(len(challenges))] = self.word()
+        elif kind == 14:
+            rounds = self.r.choice([0, 11, n - 1, n + 1, n + (1 << 32), (1 << 64) - 1])
+        elif kind == 15:
+            challenges = self.spoil(challenges, 1)
+        elif kind == 16:
+            challenges = challenges[:self.near(len(challenges), 0.5)]
+        challenges += [self.r.choice(BAD + EDGE) for _ in range(self.r.choice([0, 0, 1, 4]))]
+        size = rounds if rounds <= m.ROUNDS else 1
+        return 50, [rounds, proof, challenges, self.near(4 * size, 0.02), self.near(m.log_words(size), 0.02), self.filler()]
+
+    def damage(self, proof):
+        """A proof that keeps the layout, with one to three things wrong."""
+        q0, layers, polys = m.read_proof(proof)
+        layers, polys = [list(l) for l in layers], [[list(s) for s in e] for e in polys]
+        for _ in range(self.r.choice([1, 1, 1, 2, 3])):
+            kind = self.r.randrange(11)
+            entry = self.r.choice(polys) if polys else []
+            if kind == 0:
+                q0 = self.element()
+            elif kind < 3 and layers:
+                self.r.choice(layers)[self.r.randrange(4)] = self.element()
+            elif kind < 5 and entry:
+                self.r.choice(entry)[self.r.randrange(3)] = self.element()
+            elif kind == 5 and entry:
+                del entry[self.r.randrange(len(entry))]
+            elif kind == 6 and polys:
+                entry.insert(self.r.randrange(len(entry) + 1), [self.element() for _ in range(3)])
+            elif kind == 7:
+                self.change_count(layers, [self.element() for _ in range(4)])
+            elif kind == 8:
+                self.change_count(polys, [])
+            elif kind == 9 and layers:
+                layer = self.r.choice(layers)
+                layer[:] = layer[2:] + layer[:2]
+            elif layers:
+                layer = self.r.choice(layers)
+                word = list(layer[0])
+                word[self.r.randrange(4)] = self.r.choice(BAD + EDGE)
+                layer[0] = tuple(word)
+        return m.write_proof(q0, layers, polys)
+
+    def change_count(self, things, extra):
+        if things and self.r.randrange(2):
+            del things[self.r.randrange(len(things))]
+        elif len(things) < 12:
+            things.append(extra)
+
+    def damage_bytes(self, proof):
+        kind = self.r.randrange(7)
+        if kind == 0:
+            proof = proof[:self.r.randrange(len(proof))]
+        elif kind == 1:
+            proof = proof + [self.r.randrange(256) for _ in range(self.r.randrange(1, 4))]
+        elif kind == 2:
+            proof[self.r.randrange(len(proof))] = self.r.randrange(256)
+        elif kind == 3:
+            proof[self.r.randrange(min(6, len(proof)))] = self.r.randrange(256)
+        elif kind == 4:
+            proof = repaired(proof[:self.r.randrange(len(proof))])
+        elif kind == 5:
+            proof = repaired(proof + [self.r.randrange(256) for _ in range(self.r.randrange(1, 70))])
+        else:
+            at = self.r.randrange(5, len(proof))
+            proof = repaired(proof[:at] + proof[at + self.r.choice([1, 4, 16, 48, 64]):])
+        return proof
+
+    def sheet(self):
+        r = self.r.random()
+        count = 1 << self.size() if r < 0.8 else self.r.randrange(0, 20) if r < 0.997 else self.r.randrange(m.ROWS, 2 * m.ROWS + 1)
+        data = [1, *count.to_bytes(2, "big")] + [b for w in self.spoil(self.words(8 * count), 0.1) for b in m.word_bytes(w)]
+        kind = self.r.randrange(10)
+        if kind == 0:
+            data = data[:self.r.randrange(len(data) + 1)]
+        elif kind == 1:
+            data += [self.r.randrange(256) for _ in range(self.r.choice([1, 4, 32]))]
+        elif kind == 2:
+            data[self.r.randrange(min(5, len(data)))] = self.r.randrange(256)
+        return 60, [data, self.near(8 * count), self.filler()]
+
+    # --- helpers
+
+    def field(self):
+        code = self.r.choice([c for c, f in FORMS.items() if f[0] == "field"])
+        return code, [self.any_element() if c == "e" else self.r.choice(self.any_element()) for c in FORMS[code][2]]
+
+    def poly(self):
+        code = self.r.choice([c for c, f in FORMS.items() if f[0] == "poly"])
+        k = self.size()
+        x, t = self.list(k), self.list(1 << k)
+        if code < 23:
+            return code, [self.any_element() for _ in FORMS[code][2]]
+        if self.r.random() < 0.01:
+            k = m.ROUNDS + 1
+            x, t = self.list(k), [1] * 4 * self.r.choice([m.ROWS, m.ROWS + 1, 2 * m.ROWS])
+        spoil, cut, e = self.spoil, self.cut, self.element()
+        beside = tuple(spoil(list(e), 0.04))
+        if code == 23:
+            return code, [cut(spoil(x)), cut(spoil(self.list(k)))]
+        if code in (24, 25):
+            return code, [cut(spoil(t)), cut(spoil(x))]
+        if code in (26, 27):
+            return code, [cut(spoil(x)), self.near(len(t)), self.filler()]
+        if code in (28, 29):
+            few = self.list(self.r.randrange(0, 20)) if self.r.random() < 0.9 else t
+            return code, [cut(spoil(few)), beside]
+        if code == 30:
+            return code, [cut(spoil(t)), beside, self.near(len(t) // 8 * 4), self.filler()]
+        columns = [self.list(1 << k) for _ in range(5)] if k <= m.ROUNDS else [t] * 5
+        return code, [beside] + [cut(spoil(c, 0.02), 0.02) for c in columns]
+
+    def cut(self, words, chance=0.05):
+        """Perhaps shorter or longer by a few words."""
+        if self.r.random() >= chance:
+            return words
+        by = self.r.choice([-8, -4, -1, 1, 4, 8])
+        return words[:by] if by < 0 else words + self.words(by)
+
+
+def repaired(proof):
+    """With the stored length that the bytes have."""
+    if len(proof) < 5:
+        return proof
+    return proof[:1] + m.word_bytes(len(proof) - 5) + proof[5:]
+
+
+def random_cases(kind, count, random):
+    make = Make(random)
+    if kind == "verifier":
+        sizes = [max(1, make.size()) for _ in range(max(1, count // 4))]
+        honest = make.honest(sizes)
+        return [make.verify(random.choice(honest)) for _ in range(count)]
+    one = {"field": make.field, "poly": make.poly, "prover": make.prove, "sheet": make.sheet}[kind]
+    return [one() for _ in range(count)]
+
+
+# --- exhaustive short inputs
+
+
+def strings(alphabet, lengths):
+    return [list(s) for k in lengths for s in itertools.product(alphabet, repeat=k)]
+
+
+def short_field():
+    words = [0, 1, 2, 3, P - 1, P, P + 1, 1 << 31, TOP]
+    for code, (kind, _, form) in FORMS.items():
+        if kind == "field" and "e" not in form:
+            for a in itertools.product(words, repeat=len(form)):
+                yield code, list(a)
+    few = [tuple(e) for e in itertools.product([0, 1, P - 1], repeat=4)]
+    for a, b in itertools.product(few, few):
+        yield 5, [a, b]
+    for code in (3, 4, 6, 7):
+        for a in few:
+            yield code, [a]
+
+
+def short_poly():
+    def upto(k, word=3):
+        return [word] * k
+    for x, y in itertools.product(range(13), range(13)):
+        yield 23, [upto(x), upto(y, 5)]
+    for t, x in itertools.product(range(21), range(13)):
+        yield 24, [list(range(2, 2 + t)), upto(x)]
+        yield 25, [list(range(2, 2 + t)), upto(x)]
+    for x, room in itertools.product(range(13), range(36)):
+        yield 26, [upto(x), room, 7]
+        yield 27, [upto(x), room, 8]
+    for c in range(14):
+        yield 28, [list(range(c)), (2, 0, 0, 0)]
+        yield 29, [list(range(c)), (2, 0, 0, 0)]
+    for s, room in itertools.product(range(37), range(18)):
+        yield 30, [list(range(1, 1 + s)), (5, 0, 0, 0), room, 9]
+    for lengths in itertools.product([0, 3, 4, 8], repeat=5):
+        yield 31, [(3, 0, 0, 0)] + [upto(k, 2 + i) for i, k in enumerate(lengths)]
+
+
+def short_prover():
+    for words, c in itertools.product(range(42), [0, 3, 4, 15, 16, 17]):
+        yield 40, [0, 0, [2] * words, [3] * c, 200, 8, 68, 128, 6]
+    row = [1, 0, 0, 0, 2, 0, 0, 0], [P - 1, 0, 0, 0, 2, 0, 0, 0]
+    for count, live, asserted in itertools.product([0, 1, 2, 4], (0, 1), (0, 1)):
+        rows, n = (row[0] + row[1]) * 2, {0: 0, 1: 0, 2: 1, 4: 2}[count]
+        sizes = [m.proof_bytes(n), 4 * n, m.log_words(n, asserted), m.work_words(n)]
+        for by in itertools.product((-1, 0, 1), repeat=4):
+            rooms = [max(0, s + d) for s, d in zip(sizes, by)]
+            yield 40, [live, asserted, rows[:8 * count], [4] * m.challenge_words(n), *rooms, 5]
+    kinds = [(0, 0), (0, 1), (1, 0), (1, 1), (P - 1, 1)]
+    for count in (1, 2, 4):
+        for rows in itertools.product(kinds, repeat=count):
+            n = count.bit_length() - 1
+            for live, asserted in itertools.product((0, 1), (0, 1)):
+                flat = [w for p, q in rows for w in (p, 0, 0, 0, q, 0, 0, 0)]
+                yield 40, [live, asserted, flat, [3] * m.challenge_words(n), m.proof_bytes(n), 4 * n,
+                           m.log_words(n, asserted), m.work_words(n), 1]
+
+
+K2_PROOF = m.write_proof(m.const(4), [[m.const(1), m.const(2), m.const(-1), m.const(2)]], [])
+
+
+def short_verifier():
+    for proof in strings([0, 1, 2, 255], range(4)) + strings([0, 1], range(4, 8)):
+        yield 50, [1, proof, [5, 0, 0, 0], 4, 24, 7]
+    for k in range(len(K2_PROOF) + 1):
+        yield 50, [1, K2_PROOF[:k], [5, 0, 0, 0], 4, 24, 7]
+        yield 50, [1, repaired(K2_PROOF[:k]), [5, 0, 0, 0], 4, 24, 7]
+        yield 50, [1, repaired(K2_PROOF + [0] * k), [5, 0, 0, 0], 4, 24, 7]
+    for rounds, c, point, log in itertools.product([0, 1, 2, 10, 11], [0, 3, 4, 5, 15, 16, 17], [0, 3, 4, 7, 8, 9],
+                                                   [0, 23, 24, 25, 63, 64, 65]):
+        yield 50, [rounds, K2_PROOF, [5] * c, point, log, 7]
+    small = [m.const(k) for k in (0, 1, -1)]
+    for q0, *layer in itertools.product(small, repeat=5):
+        yield 50, [1, m.write_proof(q0, [layer], []), [5, 6, 7, 8], 5, 26, 9]
+
+
+def short_sheet():
+    for data in strings([0, 1, 2, 4, 255], range(5)):
+        yield 60, [data, 8, 7]
+    for count, extra, room in itertools.product(range(6), (-32, -4, -1, 0, 1, 4, 32), range(0, 34, 1)):
+        yield 60, [[1, 0, count] + [1] * max(0, 32 * count + extra), room, 7]
+
+
+SHORT = {"field": short_field, "poly": short_poly, "prover": short_prover, "verifier": short_verifier, "sheet": short_sheet}

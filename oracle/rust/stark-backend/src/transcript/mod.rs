@@ -1,0 +1,2 @@
+#[path = "../../copied/transcript/traits.rs"]
+pub mod traits;
