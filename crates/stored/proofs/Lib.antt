@@ -1,0 +1,3 @@
+pub mod ShapeLaws
+pub mod SearchLaws
+pub mod SheetSteps
