@@ -42,13 +42,6 @@ pointOf ch (root-check expected actual t) = []
 pointOf ch (subround-count round expected actual t) = []
 pointOf ch (layer-check round expected actual t) = []
 
--- what was observed and sampled until then
+-- what was observed and sampled until then, from an empty log
 abbrev pub loggedBy : (ch : List ℕ) → Model ch → List ℕ
-loggedBy ch (accepted v z t) = t .log
-loggedBy ch zero-rounds = []
-loggedBy ch (layer-count expected actual) = []
-loggedBy ch (poly-count expected actual) = []
-loggedBy ch (zero-check actual t) = t .log
-loggedBy ch (root-check expected actual t) = t .log
-loggedBy ch (subround-count round expected actual t) = t .log
-loggedBy ch (layer-check round expected actual t) = t .log
+loggedBy ch v = Gkr.log-after Extension (Supplied ch) (record { log = []; used = 0 }) v .log

@@ -16,22 +16,16 @@ ghost use Rattle.gkr.specs.Tree as Tree;
 ghost use Rattle.gkr.specs.Sumcheck as Sumcheck;
 ghost use Rattle.gkr.specs.Gkr as Gkr;
 ghost use Rattle.transcript.specs.Log.{Supplied, logOf, Steps};
-ghost use Rattle.step.specs.Values.{IsFrac, CanonThree, minus};
-ghost use Rattle.round.specs.Values.{CanonClaims, decClaims, decCubic, CanonSums};
+ghost use Rattle.stored.specs.Shapes.{claimsIn, cubicIn};
+ghost use Rattle.step.specs.Values.{IsFrac, minus};
+ghost use Rattle.round.specs.Values.{CanonClaims, CanonCubic, decClaims, decCubic, CanonSums};
 ghost use Rattle.round.specs.Rounds.{SubRound, Descended, Closed, Rooted};
 use field::Ext;
 use refusal::Refusal;
 use step::Frac;
-use step::Three;
+use stored::LayerClaims;
+use stored::SubroundEvals;
 use transcript::Pos;
-
-// The claims on a layer: numerator and denominator of a left and of a right child.
-pub struct GkrLayerClaims {
-    pub p0: Ext,
-    pub q0: Ext,
-    pub p1: Ext,
-    pub q1: Ext,
-}
 
 // The claims on the two columns after a layer, and where the run stands.
 pub struct Layer {
@@ -60,57 +54,57 @@ pub enum Verdict {
     Refused(Refusal),
 }
 
-pub fn observe_layer_claims(log: &mut [u32], pos: Pos, c: GkrLayerClaims) -> Pos
+pub fn observe_layer_claims(log: &mut [u32], pos: Pos, c: LayerClaims) -> Pos
     requires room { ⌜ pos .put + 16 ≤ length (now log) ⌝ }
-    requires canon { ⌜ CanonClaims c ⌝ }
-    ensures { λ r. ⌜ Steps (now (log .entry)) (now (log .exit)) pos r 16 0 (Gkr.observe-layer-claims Extension (Supplied []) (decClaims c) (logOf (now (log .entry)) pos)) ⌝ }
+    requires canon { ⌜ CanonClaims (claimsIn c) ⌝ }
+    ensures { λ r. ⌜ Steps (now (log .entry)) (now (log .exit)) pos r 16 0 (Gkr.observe-layer-claims Extension (Supplied []) (decClaims (claimsIn c)) (logOf (now (log .entry)) pos)) ⌝ }
 {
-    let a = transcript::observe_ext(log, pos, c.p0);
-    let b = transcript::observe_ext(log, a, c.q0);
-    let d = transcript::observe_ext(log, b, c.p1);
-    transcript::observe_ext(log, d, c.q1)
+    let a = transcript::observe_ext(log, pos, c.p_xi_0);
+    let b = transcript::observe_ext(log, a, c.q_xi_0);
+    let d = transcript::observe_ext(log, b, c.p_xi_1);
+    transcript::observe_ext(log, d, c.q_xi_1)
 }
 
 // s(1), s(2), s(3) go into the log.
-pub fn observe_cubic(log: &mut [u32], pos: Pos, m: Three) -> Pos
+pub fn observe_cubic(log: &mut [u32], pos: Pos, m: SubroundEvals) -> Pos
     requires room { ⌜ pos .put + 12 ≤ length (now log) ⌝ }
-    requires canon { ⌜ CanonThree m ⌝ }
-    ensures { λ r. ⌜ Steps (now (log .entry)) (now (log .exit)) pos r 12 0 (Sumcheck.observe-cubic Extension (Supplied []) (decCubic m) (logOf (now (log .entry)) pos)) ⌝ }
+    requires canon { ⌜ CanonCubic (cubicIn m) ⌝ }
+    ensures { λ r. ⌜ Steps (now (log .entry)) (now (log .exit)) pos r 12 0 (Sumcheck.observe-cubic Extension (Supplied []) (decCubic (cubicIn m)) (logOf (now (log .entry)) pos)) ⌝ }
 {
-    let a = transcript::observe_ext(log, pos, m.s1);
-    let b = transcript::observe_ext(log, a, m.s2);
-    transcript::observe_ext(log, b, m.s3)
+    let a = transcript::observe_ext(log, pos, m.s_1);
+    let b = transcript::observe_ext(log, a, m.s_2);
+    transcript::observe_ext(log, b, m.s_3)
 }
 
 // The numerator and the denominator that the claims say the node above has.
-pub fn compute_recursive_relations(c: GkrLayerClaims) -> Frac
-    requires { ⌜ CanonClaims c ⌝ }
-    ensures { λ r. ⌜ IsFrac r (Tree.compute-recursive-relations ExtRing (decClaims c)) ⌝ }
+pub fn compute_recursive_relations(c: LayerClaims) -> Frac
+    requires { ⌜ CanonClaims (claimsIn c) ⌝ }
+    ensures { λ r. ⌜ IsFrac r (Tree.compute-recursive-relations ExtRing (decClaims (claimsIn c))) ⌝ }
 {
-    let p0 = c.p0;
-    let q0 = c.q0;
-    let p1 = c.p1;
-    let q1 = c.q1;
+    let p0 = c.p_xi_0;
+    let q0 = c.q_xi_0;
+    let p1 = c.p_xi_1;
+    let q1 = c.q_xi_1;
     step::add_fractions(Frac { p: p0, q: q0 }, Frac { p: p1, q: q1 })
 }
 
 // The claims on the left and the right, brought together at mu.
-pub fn reduce_to_single_evaluation(c: GkrLayerClaims, mu: Ext) -> Frac
-    requires { ⌜ CanonClaims c × Canon mu ⌝ }
-    ensures { λ r. ⌜ IsFrac r (Tree.reduce-to-single-evaluation ExtRing (decClaims c) (dec mu)) ⌝ }
+pub fn reduce_to_single_evaluation(c: LayerClaims, mu: Ext) -> Frac
+    requires { ⌜ CanonClaims (claimsIn c) × Canon mu ⌝ }
+    ensures { λ r. ⌜ IsFrac r (Tree.reduce-to-single-evaluation ExtRing (decClaims (claimsIn c)) (dec mu)) ⌝ }
 {
     Frac {
-        p: step::line_at(c.p0, c.p1, mu),
-        q: step::line_at(c.q0, c.q1, mu),
+        p: step::line_at(c.p_xi_0, c.p_xi_1, mu),
+        q: step::line_at(c.q_xi_0, c.q_xi_1, mu),
     }
 }
 
 // s at rho, where s(0) is the claim less s(1).
-pub fn next_claim(claim: Ext, m: Three, rho: Ext) -> Ext
-    requires { ⌜ Canon claim × CanonThree m × Canon rho ⌝ }
-    ensures { λ r. ⌜ Is r (Interpolate.cubic Extension (minus (dec claim) (dec (m .s1))) (dec (m .s1)) (dec (m .s2)) (dec (m .s3)) (dec rho)) ⌝ }
+pub fn next_claim(claim: Ext, m: SubroundEvals, rho: Ext) -> Ext
+    requires { ⌜ Canon claim × CanonCubic (cubicIn m) × Canon rho ⌝ }
+    ensures { λ r. ⌜ Is r (Interpolate.cubic Extension (minus (dec claim) (dec (m .s_1))) (dec (m .s_1)) (dec (m .s_2)) (dec (m .s_3)) (dec rho)) ⌝ }
 {
-    step::interpolate::cubic_at(claim.minus(m.s1), m.s1, m.s2, m.s3, rho)
+    step::interpolate::cubic_at(claim.minus(m.s_1), m.s_1, m.s_2, m.s_3, rho)
 }
 
 // eq goes on by xi·rho + (1 - xi)·(1 - rho): two products.
@@ -124,7 +118,7 @@ pub fn update_eq(eq: Ext, xi: Ext, rho: Ext) -> Ext
 
 // One sub-round. Its challenge takes the cell after that of the coordinate it is compared with, which the next sub-round has by value.
 pub fn sub_round(
-    m: Three,
+    m: SubroundEvals,
     point: &mut [u32],
     j: usize,
     log: &mut [u32],
@@ -132,8 +126,8 @@ pub fn sub_round(
     s: Sums,
 ) -> Sums
     requires room { ⌜ (4 * j + 7 < length (now point)) × (s .pos .put + 16 ≤ length (now log)) × (4 * s .pos .used + 3 < length (now challenges)) ⌝ }
-    requires clean { ⌜ Clean (now point) × Clean (now challenges) × CanonThree m × CanonSums s ⌝ }
-    ensures { λ r. ⌜ SubRound (now (point .entry)) (now (point .exit)) (now (log .entry)) (now (log .exit)) (now (challenges .entry)) j (decCubic m) s r ⌝ }
+    requires clean { ⌜ Clean (now point) × Clean (now challenges) × CanonCubic (cubicIn m) × CanonSums s ⌝ }
+    ensures { λ r. ⌜ SubRound (now (point .entry)) (now (point .exit)) (now (log .entry)) (now (log .exit)) (now (challenges .entry)) j (decCubic (cubicIn m)) s r ⌝ }
 {
     let i = j + 1;
     let xi = field::load(point, i);
@@ -149,15 +143,15 @@ pub fn sub_round(
 
 // The end of a layer that holds: mu is sampled, becomes cell 0 of the point, and the claims are brought together there.
 pub fn descend(
-    c: GkrLayerClaims,
+    c: LayerClaims,
     point: &mut [u32],
     log: &mut [u32],
     challenges: &[u32],
     pos: Pos,
 ) -> Layer
     requires room { ⌜ (4 ≤ length (now point)) × (pos .put + 4 ≤ length (now log)) × (4 * pos .used + 3 < length (now challenges)) ⌝ }
-    requires clean { ⌜ Clean (now point) × Clean (now challenges) × CanonClaims c ⌝ }
-    ensures { λ r. ⌜ Descended (now (point .entry)) (now (point .exit)) (now (log .entry)) (now (log .exit)) (now (challenges .entry)) (decClaims c) pos r ⌝ }
+    requires clean { ⌜ Clean (now point) × Clean (now challenges) × CanonClaims (claimsIn c) ⌝ }
+    ensures { λ r. ⌜ Descended (now (point .entry)) (now (point .exit)) (now (log .entry)) (now (log .exit)) (now (challenges .entry)) (decClaims (claimsIn c)) pos r ⌝ }
 {
     let d = transcript::sample_ext(log, challenges, pos);
     let mu = d.x;
@@ -174,9 +168,9 @@ pub fn descend(
 }
 
 // What the claims on a layer say the last claim of its sub-rounds is.
-pub fn expected_claim(c: GkrLayerClaims, lambda: Ext, eq: Ext) -> Ext
-    requires { ⌜ CanonClaims c × Canon lambda × Canon eq ⌝ }
-    ensures { λ r. ⌜ Is r (E.mul (RoundSum.cross ExtRing (dec lambda) (decClaims c)) (dec eq)) ⌝ }
+pub fn expected_claim(c: LayerClaims, lambda: Ext, eq: Ext) -> Ext
+    requires { ⌜ CanonClaims (claimsIn c) × Canon lambda × Canon eq ⌝ }
+    ensures { λ r. ⌜ Is r (E.mul (RoundSum.cross ExtRing (dec lambda) (decClaims (claimsIn c))) (dec eq)) ⌝ }
 {
     let f = compute_recursive_relations(c);
     f.p.plus(lambda.times(f.q)).times(eq)
@@ -184,7 +178,7 @@ pub fn expected_claim(c: GkrLayerClaims, lambda: Ext, eq: Ext) -> Ext
 
 // The end of a layer: its claims are observed and checked against the last claim of the sub-rounds.
 pub fn close_layer(
-    c: GkrLayerClaims,
+    c: LayerClaims,
     round: usize,
     lambda: Ext,
     point: &mut [u32],
@@ -193,8 +187,8 @@ pub fn close_layer(
     s: Sums,
 ) -> Advance
     requires room { ⌜ (4 ≤ length (now point)) × (s .pos .put + 20 ≤ length (now log)) × (4 * s .pos .used + 3 < length (now challenges)) ⌝ }
-    requires clean { ⌜ Clean (now point) × Clean (now challenges) × CanonClaims c × CanonSums s × Canon lambda ⌝ }
-    ensures { λ r. ⌜ Closed (now (point .entry)) (now (point .exit)) (now (log .entry)) (now (log .exit)) (now (challenges .entry)) (decClaims c) round lambda s r ⌝ }
+    requires clean { ⌜ Clean (now point) × Clean (now challenges) × CanonClaims (claimsIn c) × CanonSums s × Canon lambda ⌝ }
+    ensures { λ r. ⌜ Closed (now (point .entry)) (now (point .exit)) (now (log .entry)) (now (log .exit)) (now (challenges .entry)) (decClaims (claimsIn c)) round lambda s r ⌝ }
 {
     let p = observe_layer_claims(log, s.pos, c);
     let expected = expected_claim(c, lambda, s.eq);
@@ -212,15 +206,15 @@ pub fn close_layer(
 // Layer 0: the root's numerator must be zero, and its denominator the one told.
 pub fn verify_root(
     q0: Ext,
-    c: GkrLayerClaims,
+    c: LayerClaims,
     point: &mut [u32],
     log: &mut [u32],
     challenges: &[u32],
     pos: Pos,
 ) -> Advance
     requires room { ⌜ (4 ≤ length (now point)) × (pos .put + 24 ≤ length (now log)) × (4 * pos .used + 3 < length (now challenges)) ⌝ }
-    requires clean { ⌜ Clean (now point) × Clean (now challenges) × CanonClaims c × Canon q0 ⌝ }
-    ensures { λ r. ⌜ Rooted (now (point .exit)) (now (log .entry)) (now (log .exit)) (now (challenges .entry)) (dec q0) (decClaims c) pos r ⌝ }
+    requires clean { ⌜ Clean (now point) × Clean (now challenges) × CanonClaims (claimsIn c) × Canon q0 ⌝ }
+    ensures { λ r. ⌜ Rooted (now (point .exit)) (now (log .entry)) (now (log .exit)) (now (challenges .entry)) (dec q0) (decClaims (claimsIn c)) pos r ⌝ }
 {
     let a = transcript::observe_ext(log, pos, q0);
     let p = observe_layer_claims(log, a, c);

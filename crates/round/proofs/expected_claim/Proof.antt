@@ -1,3 +1,4 @@
+use Rattle.stored.specs.Shapes.{claimsIn, cubicIn}
 use Rattle.round.proofs.Arithmetic.{expected-is}
 use Rattle.round.specs.Values.{decClaims}
 use native.Mathlib.Omega.{arith}
@@ -23,7 +24,7 @@ times-requires-2 : tie.Need-times-requires-2
 times-requires-2 c κs = search needs
 
 returns : tie.Need-returns
-returns c = expected-is (decClaims (c .before .before .before .before .args .c)) _ _ _ _ _ _ (c .before .before .before .compute-recursive-relations .ensures) (c .before .before .times .ensures) (c .before .plus .ensures) (c .times2 .ensures)
+returns c = expected-is (decClaims (claimsIn (c .before .before .before .before .args .c))) _ _ _ _ _ _ (c .before .before .before .compute-recursive-relations .ensures) (c .before .before .times .ensures) (c .before .plus .ensures) (c .times2 .ensures)
 
 pub expected-claim-spec : {M : Type 1} → statement M
 expected-claim-spec =

@@ -1,3 +1,4 @@
+use Rattle.stored.specs.Shapes.{claimsIn, cubicIn}
 use Rattle.round.specs.Values.{decCubic}
 use Rattle.round.proofs.Observed.{three-observed}
 use native.Mathlib.Omega.{arith}
@@ -21,7 +22,7 @@ same-length : tie.Need-same-length
 same-length c = search needs
 
 returns : tie.Need-returns
-returns c = three-observed _ _ _ _ _ _ _ _ (decCubic (c .before .before .before .before .before .before .before .before .before .before .before .before .before .args .m)) (c .before .before .before .before .before .before .before .before .before .before .observe-ext .ensures) (c .before .before .before .before .before .before .observe-ext2 .ensures) (c .before .before .observe-ext3 .ensures)
+returns c = three-observed _ _ _ _ _ _ _ _ (decCubic (cubicIn (c .before .before .before .before .before .before .before .before .before .before .before .before .before .args .m))) (c .before .before .before .before .before .before .before .before .before .before .observe-ext .ensures) (c .before .before .before .before .before .before .observe-ext2 .ensures) (c .before .before .observe-ext3 .ensures)
 
 pub observe-cubic-spec : {M : Type 1} → statement M
 observe-cubic-spec =

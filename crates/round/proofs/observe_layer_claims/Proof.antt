@@ -1,3 +1,4 @@
+use Rattle.stored.specs.Shapes.{claimsIn, cubicIn}
 use Rattle.round.specs.Values.{decClaims}
 use Rattle.round.proofs.Observed.{claims-observed}
 use native.Mathlib.Omega.{arith}
@@ -24,7 +25,7 @@ same-length : tie.Need-same-length
 same-length c = search needs
 
 returns : tie.Need-returns
-returns c = claims-observed _ _ _ _ _ _ _ _ _ _ (decClaims (c .before .before .before .before .before .before .before .before .before .before .before .before .before .before .before .before .before .args .c)) (c .before .before .before .before .before .before .before .before .before .before .before .before .before .before .observe-ext .ensures) (c .before .before .before .before .before .before .before .before .before .before .observe-ext2 .ensures) (c .before .before .before .before .before .before .observe-ext3 .ensures) (c .before .before .observe-ext4 .ensures)
+returns c = claims-observed _ _ _ _ _ _ _ _ _ _ (decClaims (claimsIn (c .before .before .before .before .before .before .before .before .before .before .before .before .before .before .before .before .before .args .c))) (c .before .before .before .before .before .before .before .before .before .before .before .before .before .before .observe-ext .ensures) (c .before .before .before .before .before .before .before .before .before .before .observe-ext2 .ensures) (c .before .before .before .before .before .before .observe-ext3 .ensures) (c .before .before .observe-ext4 .ensures)
 
 pub observe-layer-claims-spec : {M : Type 1} → statement M
 observe-layer-claims-spec =

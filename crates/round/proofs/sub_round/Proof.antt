@@ -1,3 +1,4 @@
+use Rattle.stored.specs.Shapes.{claimsIn, cubicIn}
 use Rattle.round.specs.Values.{decCubic}
 use Rattle.round.proofs.Observed.{sub-done}
 use native.Mathlib.Omega.{arith}
@@ -41,7 +42,7 @@ same-length-2 : tie.Need-same-length-2
 same-length-2 c = search needs
 
 returns : tie.Need-returns
-returns c = sub-done _ _ _ _ _ _ _ (decCubic (c .before .before .before .before .before .before .before .before .before .before .before .before .before .before .before .before .before .before .before .before .before .args .m)) (c .before .before .before .before .before .before .before .before .before .before .before .before .before .before .before .before .before .before .before .before .before .args .s) _ (c .before .before .before .before .before .before .before .before .before .before .sample-ext .result) _ _ _ (c .before .before .before .before .before .before .before .before .before .before .before .before .before .before .observe-cubic .ensures) (c .before .before .before .before .before .before .before .before .before .before .sample-ext .ensures .0) (c .before .before .before .before .before .before .before .before .before .before .sample-ext .ensures .1) (c .before .before .before .before .before .store .ensures) (c .before .before .before .before .before .before .before .before .before .before .before .before .before .before .before .before .load .ensures) (c .before .next-claim .ensures) (c .update-eq .ensures)
+returns c = sub-done _ _ _ _ _ _ _ (decCubic (cubicIn (c .before .before .before .before .before .before .before .before .before .before .before .before .before .before .before .before .before .before .before .before .before .args .m))) (c .before .before .before .before .before .before .before .before .before .before .before .before .before .before .before .before .before .before .before .before .before .args .s) _ (c .before .before .before .before .before .before .before .before .before .before .sample-ext .result) _ _ _ (c .before .before .before .before .before .before .before .before .before .before .before .before .before .before .observe-cubic .ensures) (c .before .before .before .before .before .before .before .before .before .before .sample-ext .ensures .0) (c .before .before .before .before .before .before .before .before .before .before .sample-ext .ensures .1) (c .before .before .before .before .before .store .ensures) (c .before .before .before .before .before .before .before .before .before .before .before .before .before .before .before .before .load .ensures) (c .before .next-claim .ensures) (c .update-eq .ensures)
 
 pub sub-round-spec : {M : Type 1} → statement M
 sub-round-spec =
