@@ -21,12 +21,14 @@ use Rattle.gkr.specs.Gkr as Gkr
 use Rattle.transcript.specs.declared.Pos.{Pos}
 use Rattle.transcript.specs.declared.Drawn.{Drawn}
 use Rattle.transcript.specs.Log.{Supplied, logOf, Steps}
+use native.Mathlib.Omega.{arith}
 use Rattle.transcript.proofs.Logs.{then, retold}
+use Rattle.round.proofs.Arithmetic.{one-is}
 use Rattle.step.specs.declared.Frac.{Frac}
 use Rattle.step.specs.Values.{IsFrac, minus}
 use Rattle.round.specs.declared.Layer.{Layer}
 use Rattle.round.specs.declared.Sums.{Sums}
-use Rattle.round.specs.Rounds.{told, SubRound, Descended}
+use Rattle.round.specs.Rounds.{told, Opens, SubRound, Descended}
 
 abbrev obs : E.Ext → Words → Words
 obs x t = Supplied [] .observe x t
@@ -68,4 +70,16 @@ descended pt pt' lg lg' ch c pos d f a v h r =
       mu = subst (Stored pt pt' 0) (v .value) h;
       numer = is-eq (r .p) (ap (λ x. Tree.reduce-to-single-evaluation ExtRing c x .p) (v .value));
       denom = is-eq (r .q) (ap (λ x. Tree.reduce-to-single-evaluation ExtRing c x .q) (v .value));
+    }
+
+pub opened : (pt lg lg' ch : List ℕ) (s : Layer) (d : Drawn) (prod claim xi : Ext) → Steps lg lg' (s .pos) (d .pos) 4 1 (Supplied ch .drawn (logOf lg (s .pos)))
+    → Is (d .x) (Supplied ch .draw (logOf lg (s .pos))) → Is prod (E.mul (dec (d .x)) (dec (s .denom))) → Is claim (E.add (dec (s .numer)) (dec prod)) → Is xi (cell pt 0)
+    → Opens pt lg lg' ch s (record { lambda = d .x; first = record { pos = d .pos; claim = claim; eq = record { c0 = 1; c1 = 0; c2 = 0; c3 = 0 }; xi = xi } })
+opened pt lg lg' ch s d prod claim xi a v p c x =
+    record {
+      steps = a;
+      lambda = v;
+      claim = is-eq c (ap (E.add (dec (s .numer))) (p .value ∙ ap (λ y. E.mul y (dec (s .denom))) (v .value)));
+      eq = record { canon = record { c0 = omega arith; c1 = omega arith; c2 = omega arith; c3 = omega arith }; value = one-is };
+      xi = x;
     }

@@ -24,12 +24,21 @@ use Rattle.refusal.specs.declared.Refusal.{Refusal}
 use Rattle.step.specs.Values.{minus}
 use Rattle.round.specs.declared.Layer.{Layer}
 use Rattle.round.specs.declared.Sums.{Sums}
+use Rattle.round.specs.declared.Opened.{Opened}
 use Rattle.round.specs.declared.Advance.{Advance}
 use Rattle.round.specs.declared.Advance.the-variants.{Next, Stopped}
 use Rattle.round.specs.declared.Verdict.the-variants.{Refused}
 use Rattle.round.specs.Values.{columns}
 use Rattle.round.specs.Points.{segment}
 use Rattle.round.specs.Verdicts.{Model, answerOf, pointOf, loggedBy}
+
+-- lambda is sampled and batches the claims, eq is one, and the old point's first coordinate is at hand
+pub record Opens (pt lg lg' ch : List ℕ) (s : Layer) (r : Opened) : Type 0 where
+  pub steps : Steps lg lg' (s .pos) (r .first .pos) 4 1 (Supplied ch .drawn (logOf lg (s .pos)))
+  pub lambda : Is (r .lambda) (Supplied ch .draw (logOf lg (s .pos)))
+  pub claim : Is (r .first .claim) (E.add (dec (s .numer)) (E.mul (Supplied ch .draw (logOf lg (s .pos))) (dec (s .denom))))
+  pub eq : Is (r .first .eq) E.one
+  pub xi : Is (r .first .xi) (cell pt 0)
 
 -- the log after a sub-round's message
 abbrev pub told : Cubic E.Ext → List ℕ → Pos → Words

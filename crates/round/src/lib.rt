@@ -19,7 +19,7 @@ ghost use Rattle.transcript.specs.Log.{Supplied, logOf, Steps};
 ghost use Rattle.stored.specs.Shapes.{claimsIn, cubicIn};
 ghost use Rattle.step.specs.Values.{IsFrac, minus};
 ghost use Rattle.round.specs.Values.{CanonClaims, CanonCubic, decClaims, decCubic, CanonSums};
-ghost use Rattle.round.specs.Rounds.{SubRound, Descended, Closed, Rooted};
+ghost use Rattle.round.specs.Rounds.{Opens, SubRound, Descended, Closed, Rooted};
 use field::Ext;
 use refusal::Refusal;
 use step::Frac;
@@ -40,6 +40,12 @@ pub struct Sums {
     pub claim: Ext,
     pub eq: Ext,
     pub xi: Ext,
+}
+
+// The start of a layer: lambda, and what its first sub-round takes on.
+pub struct Opened {
+    pub lambda: Ext,
+    pub first: Sums,
 }
 
 // What a layer ends in: the claims after it, or the check that failed.
@@ -114,6 +120,22 @@ pub fn update_eq(eq: Ext, xi: Ext, rho: Ext) -> Ext
 {
     let both = xi.times(rho);
     eq.times(both.plus(both).plus(Ext::ONE.minus(xi).minus(rho)))
+}
+
+// The start of a layer: lambda is sampled, and batches the two claims.
+pub fn open_layer(point: &[u32], log: &mut [u32], challenges: &[u32], s: Layer) -> Opened
+    requires room { ⌜ (4 ≤ length (now point)) × (s .pos .put + 4 ≤ length (now log)) × (4 * s .pos .used + 3 < length (now challenges)) ⌝ }
+    requires clean { ⌜ Clean (now point) × Clean (now challenges) × Canon (s .numer) × Canon (s .denom) ⌝ }
+    ensures { λ r. ⌜ Opens (now (point .entry)) (now (log .entry)) (now (log .exit)) (now (challenges .entry)) s r ⌝ }
+{
+    let xi = field::load(point, 0);
+    let d = transcript::sample_ext(log, challenges, s.pos);
+    let lambda = d.x;
+    let claim = s.numer.plus(lambda.times(s.denom));
+    let pos = d.pos;
+    let eq = Ext::ONE;
+    let first = Sums { pos, claim, eq, xi };
+    Opened { lambda, first }
 }
 
 // One sub-round. Its challenge takes the cell after that of the coordinate it is compared with, which the next sub-round has by value.
