@@ -42,7 +42,7 @@ use Rattle.round.proofs.Ends.{stops-there}
 use Rattle.rounds.specs.Runs.{cubicsAt, entryAt, summing, Summed, RoundDone}
 use Rattle.rounds.proofs.StopLaws.{advanced-before}
 
-map-length : {A B : Type 0} (f : A → B) (l : List A) → length (map f l) ≡ length l
+pub map-length : {A B : Type 0} (f : A → B) (l : List A) → length (map f l) ≡ length l
 map-length f [] = refl
 map-length f (x ∷ l) = ap suc (map-length f l)
 
