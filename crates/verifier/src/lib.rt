@@ -132,7 +132,7 @@ fn run(
     ensures { λ r. ⌜ outcome r (now (point .exit)) (now (log .exit)) ≡ ended (needed rounds (now (challenges .entry))) (verdict (proofOf (now (proof .entry))) rounds (needed rounds (now (challenges .entry)))) (now (point .entry)) (now (log .entry)) ⌝ }
 {
     let needs = challenge_words(rounds);
-    let mut xi = [0u32; 40];
+    let mut xi = [0u32; 4 * refusal::MAX_ROUNDS];
     match verify_counted(proof, rounds, outline, &mut xi, log, &challenges[..needs]) {
         Advance::Next(s) => {
             copy_point(&xi, point, 4 * rounds);
