@@ -1,13 +1,13 @@
-use Rattle.rounds.proofs.SubLaws.{sub-start, sub-canon, sub-turn, sub-end}
-use Rattle.rounds.specs.Runs.{Summing}
+use Rattle.all_rounds.proofs.SubLaws.{sub-start, sub-canon, sub-turn, sub-end}
+use Rattle.all_rounds.specs.Runs.{Summing}
 use Prim.Native.Nat.{_-_}
 use borrow.Author.Needs.{needs}
 use native.Mathlib.Omega.{arith}
-use Rattle.rounds.proofs.verify_gkr_sumcheck.Statement.{statement}
-use Rattle.rounds.proofs.verify_gkr_sumcheck.Tie as tie
-use Rattle.rounds.proofs.verify_gkr_sumcheck.Reads as reads
-use Rattle.rounds.proofs.verify_gkr_sumcheck.Lts as lts
-use Rattle.rounds.proofs.sub_round_at.Reads as sub-round-at-reads
+use Rattle.all_rounds.proofs.verify_gkr_sumcheck.Statement.{statement}
+use Rattle.all_rounds.proofs.verify_gkr_sumcheck.Tie as tie
+use Rattle.all_rounds.proofs.verify_gkr_sumcheck.Reads as reads
+use Rattle.all_rounds.proofs.verify_gkr_sumcheck.Lts as lts
+use Rattle.all_rounds.proofs.sub_round_at.Reads as sub-round-at-reads
 
 abbrev Inv-loop : tie.InvT-loop
 Inv-loop proof from round point₀ log₀ challenges s₀ at₀ j₀ point log s at j = Summing proof point₀ point log₀ log challenges from at round j s₀ s

@@ -26,8 +26,8 @@ use Rattle.round.specs.Values.{decCubic, CanonCubic, CanonSums}
 use Rattle.round.specs.Points.{segment, ahead}
 use Rattle.round.specs.Rounds.{told, SubRound}
 use Rattle.round.proofs.Points.{ahead-next, grown}
-use Rattle.rounds.specs.Runs.{cubicsAt, summing, Summed, Summing}
-use Rattle.rounds.proofs.Messages.{cubic-first, cubics-rest}
+use Rattle.all_rounds.specs.Runs.{cubicsAt, summing, Summed, Summing}
+use Rattle.all_rounds.proofs.Messages.{cubic-first, cubics-rest}
 
 -- a message as it is read
 pub cubic-told : (m : SubroundEvals) (n : Cubic Ext) → cubicIn m ≡ n → CanonCubic n → CanonCubic (cubicIn m)

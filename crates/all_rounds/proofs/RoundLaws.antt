@@ -39,8 +39,8 @@ use Rattle.round.specs.Verdicts.{Model}
 use Rattle.round.specs.Rounds.{Opens, Came, Closed, Advances, Stops}
 use Rattle.round.proofs.Points.{segment-length, ahead-all}
 use Rattle.round.proofs.Ends.{stops-there}
-use Rattle.rounds.specs.Runs.{cubicsAt, entryAt, summing, Summed, RoundDone}
-use Rattle.rounds.proofs.StopLaws.{advanced-before}
+use Rattle.all_rounds.specs.Runs.{cubicsAt, entryAt, summing, Summed, RoundDone}
+use Rattle.all_rounds.proofs.StopLaws.{advanced-before}
 
 pub map-length : {A B : Type 0} (f : A → B) (l : List A) → length (map f l) ≡ length l
 map-length f [] = refl

@@ -1,13 +1,13 @@
-use Rattle.rounds.proofs.GoingLaws.{going-start, next-read, next-room, going-stop, going-next, going-end}
-use Rattle.rounds.specs.Runs.{Going}
+use Rattle.all_rounds.proofs.GoingLaws.{going-start, next-read, next-room, going-stop, going-next, going-end}
+use Rattle.all_rounds.specs.Runs.{Going}
 use Prim.Native.Nat.{_-_}
 use borrow.Author.Needs.{needs}
 use native.Mathlib.Omega.{arith}
-use Rattle.rounds.proofs.verify_rounds.Statement.{statement}
-use Rattle.rounds.proofs.verify_rounds.Tie as tie
-use Rattle.rounds.proofs.verify_rounds.Reads as reads
-use Rattle.rounds.proofs.verify_rounds.Lts as lts
-use Rattle.rounds.proofs.verify_round.Reads as verify-round-reads
+use Rattle.all_rounds.proofs.verify_rounds.Statement.{statement}
+use Rattle.all_rounds.proofs.verify_rounds.Tie as tie
+use Rattle.all_rounds.proofs.verify_rounds.Reads as reads
+use Rattle.all_rounds.proofs.verify_rounds.Lts as lts
+use Rattle.all_rounds.proofs.verify_round.Reads as verify-round-reads
 
 abbrev Inv-loop : tie.InvT-loop
 Inv-loop proof claims polys rounds point₀ log₀ challenges s₀ c₀ p₀ round₀ point log s c p round = Going proof point₀ point log₀ log challenges claims c polys p rounds round s₀ s

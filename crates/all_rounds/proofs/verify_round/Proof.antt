@@ -1,15 +1,15 @@
-use Rattle.rounds.proofs.RoundLaws.{round-stopped, round-closed, words-at, claims-told}
+use Rattle.all_rounds.proofs.RoundLaws.{round-stopped, round-closed, words-at, claims-told}
 use lib.ListN.{length, getD}
 use mathlib.Core.Path.{_≡_}
 use native.Mathlib.Omega.{arith}
 use borrow.Author.Needs.{needs}
-use Rattle.rounds.proofs.verify_round.Statement.{statement}
-use Rattle.rounds.proofs.verify_round.Tie as tie
-use Rattle.rounds.proofs.verify_round.Reads as reads
-use Rattle.rounds.proofs.verify_round.Lts as lts
+use Rattle.all_rounds.proofs.verify_round.Statement.{statement}
+use Rattle.all_rounds.proofs.verify_round.Tie as tie
+use Rattle.all_rounds.proofs.verify_round.Reads as reads
+use Rattle.all_rounds.proofs.verify_round.Lts as lts
 use Rattle.round.proofs.close_layer.Reads as close-layer-reads
 use Rattle.round.proofs.open_layer.Reads as open-layer-reads
-use Rattle.rounds.proofs.verify_gkr_sumcheck.Reads as verify-gkr-sumcheck-reads
+use Rattle.all_rounds.proofs.verify_gkr_sumcheck.Reads as verify-gkr-sumcheck-reads
 use Rattle.stored.proofs.read_claims.Reads as read-claims-reads
 use Rattle.wire.proofs.wide.Reads as wide-reads
 

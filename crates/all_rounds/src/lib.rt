@@ -12,7 +12,7 @@ ghost use Rattle.stored.specs.Layout.{cubicsWords};
 ghost use Rattle.stored.specs.Parse.{cubicOf, claimsOf, cubicsFrom};
 ghost use Rattle.round.specs.Values.{decCubic, decClaims, CanonCubic, CanonClaims, CanonSums};
 ghost use Rattle.round.specs.Rounds.{SubRound};
-ghost use Rattle.rounds.specs.Runs.{Summed, RoundDone, Readable, Space, LayersEnd, RootEnd};
+ghost use Rattle.all_rounds.specs.Runs.{Summed, RoundDone, Readable, Space, LayersEnd, RootEnd};
 use refusal::Refusal;
 use round::Advance;
 use round::Layer;

@@ -19,7 +19,7 @@ use Rattle.round.specs.declared.Advance.{Advance}
 use Rattle.round.specs.declared.Advance.the-variants.{Next, Stopped}
 use Rattle.round.specs.Verdicts.{Model, answerOf, pointOf, loggedBy}
 use Rattle.round.specs.Rounds.{Goes, Stops, Advances}
-use Rattle.rounds.specs.Runs.{Accepts, Ends}
+use Rattle.all_rounds.specs.Runs.{Accepts, Ends}
 
 -- what is as before from a place on is so further on
 pub further : (l m : List ℕ) (p q : ℕ) → p ≤ q → drop p l ≡ drop p m → drop q l ≡ drop q m

@@ -1,13 +1,13 @@
-use Rattle.rounds.proofs.GoingLaws.{root-goes, root-space, root-end, root-stop}
-use Rattle.rounds.proofs.RoundLaws.{claims-told, canon-told}
+use Rattle.all_rounds.proofs.GoingLaws.{root-goes, root-space, root-end, root-stop}
+use Rattle.all_rounds.proofs.RoundLaws.{claims-told, canon-told}
 use native.Mathlib.Omega.{arith}
 use borrow.Author.Needs.{needs}
-use Rattle.rounds.proofs.verify_all.Statement.{statement}
-use Rattle.rounds.proofs.verify_all.Tie as tie
-use Rattle.rounds.proofs.verify_all.Reads as reads
-use Rattle.rounds.proofs.verify_all.Lts as lts
+use Rattle.all_rounds.proofs.verify_all.Statement.{statement}
+use Rattle.all_rounds.proofs.verify_all.Tie as tie
+use Rattle.all_rounds.proofs.verify_all.Reads as reads
+use Rattle.all_rounds.proofs.verify_all.Lts as lts
 use Rattle.round.proofs.verify_root.Reads as verify-root-reads
-use Rattle.rounds.proofs.verify_rounds.Reads as verify-rounds-reads
+use Rattle.all_rounds.proofs.verify_rounds.Reads as verify-rounds-reads
 use Rattle.stored.proofs.read_claims.Reads as read-claims-reads
 use Rattle.wire.proofs.element_at.Reads as element-at-reads
 

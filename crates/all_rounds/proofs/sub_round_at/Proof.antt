@@ -1,10 +1,10 @@
-use Rattle.rounds.proofs.SubLaws.{cubic-told, told-again}
+use Rattle.all_rounds.proofs.SubLaws.{cubic-told, told-again}
 use native.Mathlib.Omega.{arith}
 use borrow.Author.Needs.{needs}
-use Rattle.rounds.proofs.sub_round_at.Statement.{statement}
-use Rattle.rounds.proofs.sub_round_at.Tie as tie
-use Rattle.rounds.proofs.sub_round_at.Reads as reads
-use Rattle.rounds.proofs.sub_round_at.Lts as lts
+use Rattle.all_rounds.proofs.sub_round_at.Statement.{statement}
+use Rattle.all_rounds.proofs.sub_round_at.Tie as tie
+use Rattle.all_rounds.proofs.sub_round_at.Reads as reads
+use Rattle.all_rounds.proofs.sub_round_at.Lts as lts
 use Rattle.round.proofs.sub_round.Reads as sub-round-reads
 use Rattle.stored.proofs.read_subround.Reads as read-subround-reads
 

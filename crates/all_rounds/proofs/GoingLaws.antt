@@ -31,9 +31,9 @@ use Rattle.round.specs.Values.{decCubic, decClaims, columns, CanonClaims}
 use Rattle.round.specs.Points.{segment}
 use Rattle.round.specs.Verdicts.{Model}
 use Rattle.round.specs.Rounds.{Goes, Advances, Stops, Rooted}
-use Rattle.rounds.specs.Runs.{entryAt, RoundDone, Readable, Space, going, Accepts, Ends, LayersEnd, Going, RootEnd}
-use Rattle.rounds.proofs.Messages.{claim-first, claims-rest, entry-first, entries-rest}
-use Rattle.rounds.proofs.StopLaws.{further, stopped-before, ended-before}
+use Rattle.all_rounds.specs.Runs.{entryAt, RoundDone, Readable, Space, going, Accepts, Ends, LayersEnd, Going, RootEnd}
+use Rattle.all_rounds.proofs.Messages.{claim-first, claims-rest, entry-first, entries-rest}
+use Rattle.all_rounds.proofs.StopLaws.{further, stopped-before, ended-before}
 
 -- ---- what is read
 pub record NextRead (bs : List ℕ) (claims polys h : ℕ) : Type 0 where
