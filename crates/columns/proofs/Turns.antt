@@ -20,11 +20,7 @@ use Rattle.columns.specs.TablesLaws as TablesLaws
 use Rattle.columns.specs.Passes.{cells, baseCell}
 use Rattle.columns.specs.PointLaws.{cells-length, cells-snoc}
 
--- the words that loops start from
-pub one-is : E.ext 1 0 0 0 ≡ E.one
-unfolding E.one E.emb E.ext B.one B.nil
-one-is = refl
-
+-- the words that sums start from
 pub zero-is : E.ext 0 0 0 0 ≡ E.nil
 unfolding E.nil E.emb E.ext B.nil
 zero-is = refl

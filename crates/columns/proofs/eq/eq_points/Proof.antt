@@ -4,7 +4,8 @@ use Rattle.field.specs.Element.{dec, Is}
 use Rattle.field.specs.ExtRing.{ExtRing}
 use Rattle.multilinear.specs.Table as Table
 use Rattle.columns.specs.Passes.{cells}
-use Rattle.columns.proofs.Turns.{one-is, eq-none, eq-turn}
+use Rattle.columns.proofs.Turns.{eq-none, eq-turn}
+use Rattle.step.proofs.Algebra.{one-is}
 use borrow.Author.Needs.{needs}
 use native.Mathlib.Omega.{arith}
 use Rattle.columns.proofs.eq.eq_points.Statement.{statement}

@@ -4,8 +4,8 @@ use lib.ListN.{length}
 use Rattle.field.specs.Cells.{Clean}
 use Rattle.field.specs.CellLaws.{clean-zeros}
 use Rattle.columns.specs.Passes.{cells}
-use Rattle.columns.proofs.Turns.{one-is}
-use Rattle.columns.proofs.Merges.{power-below}
+use Rattle.step.proofs.Algebra.{one-is}
+use Rattle.columns.specs.PowerLaws.{power-le}
 use Rattle.columns.proofs.Grows.{Weighs, double-le, weights-start, weights-turn, power-turn, weights-all}
 use borrow.Author.Needs.{needs}
 use native.Mathlib.Omega.{arith}
@@ -30,7 +30,7 @@ clear-requires c κs = search needs
 store-requires : tie.Need-store-requires Inv-loop μ-loop
 store-requires c κs =
     let p = c .before .before .before .before .before .before .before .pre in
-    (omega (arith, p, c .before .before .before .clear .kept, power-below 0 (c .before .before .before .before .before .before .before .args .n) (omega arith)), (rw (c .before .before .before .clear .ensures) (clean-zeros (length (c .before .before .before .before .before .before .before .args .ws .now))), search needs))
+    (omega (arith, p, c .before .before .before .clear .kept, power-le 0 (c .before .before .before .before .before .before .before .args .n) (omega arith)), (rw (c .before .before .before .clear .ensures) (clean-zeros (length (c .before .before .before .before .before .before .before .args .ws .now))), search needs))
 
 loop-holds : tie.Need-loop-holds Inv-loop μ-loop
 loop-holds c = (omega arith, search needs, search needs, c .before .before .store .ensures .clean, weights-start _ (c .before .before .store .ensures .here ∙ one-is))

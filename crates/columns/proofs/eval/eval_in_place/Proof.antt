@@ -1,12 +1,14 @@
 use Rattle.field.specs.Ext as E
 use Rattle.columns.proofs.Merges.{in-place-end, in-place-value, in-place-table}
+use Rattle.columns.specs.PowerLaws.{power-le}
 use mathlib.Core.Path.{_≡_, refl, _∙_, ap}
 use Prim.Native.Nat.{ℕ, _^_, _≤_}
 use lib.ListN.{length}
 use Rattle.field.specs.Cells.{cell, Clean}
 use Rattle.field.specs.ExtRing.{ExtRing}
 use Rattle.columns.specs.Tables as Tables
-use Rattle.columns.proofs.Merges.{power-below, half-of, in-place-turn}
+use Rattle.columns.proofs.Merges.{half-of, in-place-turn}
+use Rattle.columns.specs.PowerLaws.{power-le}
 use borrow.Author.Needs.{needs}
 use native.Mathlib.Omega.{arith}
 use Rattle.columns.proofs.eval.eval_in_place.Statement.{statement}
@@ -34,7 +36,7 @@ load-requires c κs = search needs
 merge-requires : tie.Need-merge-requires Inv-loop μ-loop
 merge-requires c κs =
     let p = c .before .before .before .before .before .before .pre in
-    (omega (arith, p, power-below (c .before .before .before .loop .k) (c .before .before .before .before .before .before .args .n) (omega arith)), search needs)
+    (omega (arith, p, power-le (c .before .before .before .loop .k) (c .before .before .before .before .before .before .args .n) (omega arith)), search needs)
 
 loop-less : tie.Need-loop-less Inv-loop μ-loop
 loop-less c = search needs
@@ -45,7 +47,7 @@ loop-again c = (omega arith, omega (arith, c .before .before .merge .kept), half
 load-requires-2 : tie.Need-load-requires-2 Inv-loop μ-loop
 load-requires-2 c κs =
     let p = c .before .before .before .before .before .pre in
-    (omega (arith, p, power-below 0 (c .before .before .before .before .before .args .n) (omega arith)), search needs)
+    (omega (arith, p, power-le 0 (c .before .before .before .before .before .args .n) (omega arith)), search needs)
 
 same-length : tie.Need-same-length Inv-loop μ-loop
 same-length c = search needs

@@ -1,3 +1,4 @@
+use Rattle.refusal.specs.Limits.{maxRounds}
 use mathlib.Core.Path.{_≡_}
 use Prim.Native.Nat.{_-_, _^_, _≤_}
 use Rattle.columns.specs.PowerLaws.{power-le}
@@ -19,7 +20,7 @@ loop-holds : tie.Need-loop-holds Inv-loop μ-loop
 loop-holds c = search needs
 
 mul-p : tie.Need-mul-p Inv-loop μ-loop
-mul-p c = omega (arith, power-le (c .before .loop .j) (omega arith))
+mul-p c = omega (arith, power-le (c .before .loop .j) maxRounds (omega arith))
 
 add-j : tie.Need-add-j Inv-loop μ-loop
 add-j c = search needs
