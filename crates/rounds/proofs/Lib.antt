@@ -1,5 +1,3 @@
-pub mod Messages
-pub mod SubLaws
-pub mod StopLaws
-pub mod RoundLaws
-pub mod GoingLaws
+-- The laws of the rounds.
+pub mod Sending
+pub mod Descent

@@ -1,2 +1,3 @@
--- The rounds of the verifier over the bytes of a proof.
-pub mod Runs
+-- The rounds over lent buffers, against the model.
+pub mod SubRounds
+pub mod Layers

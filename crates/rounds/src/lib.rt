@@ -1,152 +1,172 @@
-// All rounds of the verifier over the bytes of a proof whose shape and words are checked already.
+// The GKR rounds over lent buffers: the tree and the eq table in one workspace, the point, the log and the challenges.
 ghost use mathlib.Core.Path.{_≡_};
-ghost use mathlib.Core.Bool.{true};
-ghost use mathlib.Core.List.{List, map};
-ghost use Prim.Native.Nat.{ℕ, _+_, _*_, _-_, _<_, _≤_};
-ghost use lib.ListN.{length, getD, drop};
-ghost use Rattle.field.specs.Element.{dec, Canon};
+ghost use Prim.Native.Nat.{ℕ, suc, _+_, _*_, _^_, _<_, _≤_};
+ghost use lib.ListN.{length, drop};
+ghost use Rattle.field.specs.Ext as E;
+ghost use Rattle.field.specs.Element.{dec, Canon, Is};
 ghost use Rattle.field.specs.Cells.{Clean};
-ghost use Rattle.wire.specs.Words.{allCanonical};
-ghost use Rattle.wire.specs.Bytes.{elem};
-ghost use Rattle.stored.specs.Layout.{cubicsWords};
-ghost use Rattle.stored.specs.Parse.{cubicOf, claimsOf, cubicsFrom};
-ghost use Rattle.round.specs.Values.{decCubic, decClaims, CanonCubic, CanonClaims, CanonSums};
-ghost use Rattle.round.specs.Rounds.{SubRound};
-ghost use Rattle.rounds.specs.Runs.{Summed, RoundDone, Readable, Space, LayersEnd, RootEnd};
-use refusal::Refusal;
-use round::Advance;
-use round::Layer;
-use round::Sums;
+ghost use Rattle.gkr.specs.Run.{Frac as Fraction};
+ghost use Rattle.transcript.specs.Log.{logOf, Steps};
+ghost use Rattle.step.specs.Values.{CanonFrac, decFrac, CanonThree};
+ghost use Rattle.rounds.specs.SubRounds.{observedThree, SubRound, SubRounds};
+ghost use Rattle.rounds.specs.Layers.{observedFrac, Closed, OneLayer, Levels, logUpTo, usedUpTo, AllLayers};
+use field::Ext;
+use step::Frac;
+use step::Three;
 use transcript::Pos;
 
-// One sub-round, whose message stands at a place of the proof.
-fn sub_round_at(
-    proof: &[u8],
-    at: usize,
-    point: &mut [u32],
-    j: usize,
-    log: &mut [u32],
-    challenges: &[u32],
-    s: Sums,
-) -> Sums
-    requires room { ⌜ (at + 48 ≤ length (now proof)) × (4 * j + 7 < length (now point)) × (s .pos .put + 16 ≤ length (now log)) × (4 * s .pos .used + 3 < length (now challenges)) ⌝ }
-    requires clean { ⌜ Clean (now point) × Clean (now challenges) × CanonCubic (cubicOf (drop at (now proof))) × CanonSums s ⌝ }
-    ensures { λ r. ⌜ SubRound (now (point .entry)) (now (point .exit)) (now (log .entry)) (now (log .exit)) (now (challenges .entry)) j (decCubic (cubicOf (drop at (now (proof .entry))))) s r ⌝ }
+// s(1), s(2), s(3) go into the log.
+fn observe_round_poly(log: &mut [u32], pos: Pos, s: Three) -> Pos
+    requires room { ⌜ pos .put + 12 ≤ length (now log) ⌝ }
+    requires canon { ⌜ CanonThree s ⌝ }
+    ensures { λ r. ⌜ Steps (now (log .entry)) (now (log .exit)) pos r 12 0 (observedThree s (logOf (now (log .entry)) pos)) ⌝ }
 {
-    let m = stored::read_subround(proof, at);
-    round::sub_round(m, point, j, log, challenges, s)
+    let a = transcript::observe_ext(log, pos, s.s1);
+    let b = transcript::observe_ext(log, a, s.s2);
+    transcript::observe_ext(log, b, s.s3)
 }
 
-// The sub-rounds of a round, as many as its number.
-pub fn verify_gkr_sumcheck(
-    proof: &[u8],
-    from: usize,
-    round: usize,
-    point: &mut [u32],
+// One sub-round: its polynomial is observed, rho sampled and kept in cell i of the point, and all columns are folded at rho.
+fn sub_round(
+    work: &mut [u32],
+    eq: usize,
+    pq: usize,
+    half: usize,
+    lambda: Ext,
+    xi: &mut [u32],
+    i: usize,
     log: &mut [u32],
     challenges: &[u32],
-    first: Sums,
-) -> Sums
-    requires room { ⌜ (from + 48 * round ≤ length (now proof)) × (4 * round + 4 ≤ length (now point)) × (first .pos .put + 16 * round ≤ length (now log)) × (4 * (first .pos .used + round) ≤ length (now challenges)) ⌝ }
-    requires clean { ⌜ Clean (now point) × Clean (now challenges) × CanonSums first × (allCanonical (cubicsWords (cubicsFrom round (drop from (now proof)))) ≡ true) ⌝ }
-    ensures { λ r. ⌜ Summed (now (proof .entry)) (now (point .entry)) (now (point .exit)) (now (log .entry)) (now (log .exit)) (now (challenges .entry)) from round first r ⌝ }
+    pos: Pos,
+) -> Pos
+    requires layer { ⌜ (2 * pq + 8 * half ≤ eq) × (4 * (eq + 2 * half) ≤ length (now work)) ⌝ }
+    requires room { ⌜ (4 * i + 3 < length (now xi)) × (pos .put + 16 ≤ length (now log)) × (4 * pos .used + 3 < length (now challenges)) ⌝ }
+    requires clean { ⌜ Clean (now work) × Clean (now xi) × Clean (now challenges) × Canon lambda ⌝ }
+    ensures { λ r. ⌜ ((k : ℕ) → half ≡ 2 ^ k → SubRound (now (work .entry)) (now (work .exit)) (now (xi .entry)) (now (xi .exit)) (now (log .entry)) (now (log .exit)) (now (challenges .entry)) eq pq k half i (dec lambda) pos r) ⌝ }
 {
-    let mut s = first;
-    let mut at = from;
+    let s = layer::sumcheck_round_poly_evals(work, eq, pq, half, lambda);
+    let p = observe_round_poly(log, pos, s);
+    let d = transcript::sample_ext(log, challenges, p);
+    let rho = d.x;
+    field::store(xi, i, rho);
+    layer::fold_mle_evals(work, eq, pq, half, rho);
+    d.pos
+}
+
+// The sub-rounds of a round over size = 2^round entries; each rho goes into the point behind cell 0, in order.
+fn sub_rounds(
+    work: &mut [u32],
+    eq: usize,
+    pq: usize,
+    round: usize,
+    size: usize,
+    lambda: Ext,
+    xi: &mut [u32],
+    log: &mut [u32],
+    challenges: &[u32],
+    pos: Pos,
+) -> Pos
+    requires size { ⌜ size ≡ 2 ^ round ⌝ }
+    requires layer { ⌜ (2 * pq + 4 * size ≤ eq) × (4 * (eq + size) ≤ length (now work)) ⌝ }
+    requires room { ⌜ (4 * round + 4 ≤ length (now xi)) × (pos .put + 16 * round ≤ length (now log)) × (4 * (pos .used + round) ≤ length (now challenges)) ⌝ }
+    requires clean { ⌜ Clean (now work) × Clean (now xi) × Clean (now challenges) × Canon lambda ⌝ }
+    ensures { λ r. ⌜ SubRounds (now (work .entry)) (now (work .exit)) (now (xi .entry)) (now (xi .exit)) (now (log .entry)) (now (log .exit)) (now (challenges .entry)) eq pq round size (dec lambda) pos r ⌝ }
+{
+    let mut p = pos;
+    let mut half = size;
     for j in 0..round {
-        s = sub_round_at(proof, at, point, j, log, challenges, s);
-        at += 48;
+        half = half / 2;
+        p = sub_round(work, eq, pq, half, lambda, xi, j + 1, log, challenges, p);
     }
-    s
+    p
 }
 
-// One round after round 0: lambda, the count of its sub-rounds, the sub-rounds, the claims and their check.
-pub fn verify_round(
-    proof: &[u8],
-    claims: usize,
-    polys: usize,
+// p, then q, go into the log.
+fn observe_fraction(log: &mut [u32], pos: Pos, f: Frac) -> Pos
+    requires room { ⌜ pos .put + 8 ≤ length (now log) ⌝ }
+    requires canon { ⌜ CanonFrac f ⌝ }
+    ensures { λ r. ⌜ Steps (now (log .entry)) (now (log .exit)) pos r 8 0 (observedFrac (decFrac f) (logOf (now (log .entry)) pos)) ⌝ }
+{
+    let a = transcript::observe_ext(log, pos, f.p);
+    transcript::observe_ext(log, a, f.q)
+}
+
+// The end of a round: its claims, on nodes pq and pq + 1, are observed, and mu is sampled into cell 0 of the point.
+pub fn close_round(
+    work: &[u32],
+    pq: usize,
+    xi: &mut [u32],
+    log: &mut [u32],
+    challenges: &[u32],
+    pos: Pos,
+) -> Pos
+    requires room { ⌜ (8 * pq + 15 < length (now work)) × (4 ≤ length (now xi)) × (pos .put + 20 ≤ length (now log)) × (4 * pos .used + 3 < length (now challenges)) ⌝ }
+    requires clean { ⌜ Clean (now work) × Clean (now xi) × Clean (now challenges) ⌝ }
+    ensures { λ r. ⌜ Closed (now (work .entry)) (now (xi .entry)) (now (xi .exit)) (now (log .entry)) (now (log .exit)) (now (challenges .entry)) pq pos r ⌝ }
+{
+    let p = observe_fraction(log, pos, tree::load_node(work, pq));
+    let q = observe_fraction(log, p, tree::load_node(work, pq + 1));
+    let d = transcript::sample_ext(log, challenges, q);
+    field::store(xi, 0, d.x);
+    d.pos
+}
+
+// Round `round`, over size = 2^round entries: lambda, the eq table of the old point, the sub-rounds, the claims and mu.
+fn gkr_round(
+    work: &mut [u32],
+    eq: usize,
     round: usize,
-    point: &mut [u32],
+    size: usize,
+    xi: &mut [u32],
     log: &mut [u32],
     challenges: &[u32],
-    s: Layer,
-) -> Advance
-    requires read { ⌜ (claims + 64 ≤ length (now proof)) × (polys + 1 + 48 * getD (now proof) polys 0 ≤ length (now proof)) ⌝ }
-    requires room { ⌜ (4 * round + 4 ≤ length (now point)) × (s .pos .put + (16 * round + 24) ≤ length (now log)) × (4 * (s .pos .used + (round + 2)) ≤ length (now challenges)) ⌝ }
-    requires clean { ⌜ Clean (now point) × Clean (now challenges) × Canon (s .numer) × Canon (s .denom) ⌝ }
-    requires words { ⌜ CanonClaims (claimsOf (drop claims (now proof))) × (allCanonical (cubicsWords (cubicsFrom (getD (now proof) polys 0) (drop (polys + 1) (now proof)))) ≡ true) ⌝ }
-    ensures { λ r. ⌜ RoundDone (now (proof .entry)) (now (point .entry)) (now (point .exit)) (now (log .entry)) (now (log .exit)) (now (challenges .entry)) claims polys round s r ⌝ }
+    pos: Pos,
+) -> Pos
+    requires size { ⌜ size ≡ 2 ^ round ⌝ }
+    requires layer { ⌜ (8 * size ≤ eq) × (4 * (eq + size) ≤ length (now work)) ⌝ }
+    requires room { ⌜ (4 * round + 4 ≤ length (now xi)) × (pos .put + 16 * round + 24 ≤ length (now log)) × (4 * (pos .used + round + 2) ≤ length (now challenges)) ⌝ }
+    requires clean { ⌜ Clean (now work) × Clean (now xi) × Clean (now challenges) ⌝ }
+    ensures { λ r. ⌜ OneLayer (now (work .entry)) (now (work .exit)) (now (xi .entry)) (now (xi .exit)) (now (log .entry)) (now (log .exit)) (now (challenges .entry)) eq round size pos r ⌝ }
 {
-    let subrounds = wire::wide(proof[polys]) as usize;
-    let o = round::open_layer(point, log, challenges, s);
-    let lambda = o.lambda;
-    let first = o.first;
-    if subrounds != round {
-        return Advance::Stopped(Refusal::IncorrectSubroundCount {
-            round,
-            expected: round,
-            actual: subrounds,
-        });
-    }
-    let last = verify_gkr_sumcheck(proof, polys + 1, round, point, log, challenges, first);
-    let c = stored::read_claims(proof, claims);
-    round::close_layer(c, round, lambda, point, log, challenges, last)
+    let pq = 2 * size;
+    let lambda = transcript::sample_ext(log, challenges, pos);
+    layer::evals_eq_hypercube(work, eq, xi, round, size);
+    let p = sub_rounds(
+        work,
+        eq,
+        pq,
+        round,
+        size,
+        lambda.x,
+        xi,
+        log,
+        challenges,
+        lambda.pos,
+    );
+    close_round(work, pq, xi, log, challenges, p)
 }
 
-// The rounds after round 0.
-pub fn verify_rounds(
-    proof: &[u8],
-    claims: usize,
-    polys: usize,
-    rounds: usize,
-    point: &mut [u32],
+// The rounds from 1 to n - 1.
+pub fn gkr_rounds(
+    work: &mut [u32],
+    eq: usize,
+    n: usize,
+    xi: &mut [u32],
     log: &mut [u32],
     challenges: &[u32],
-    first: Layer,
-) -> Advance
-    requires read { ⌜ (1 ≤ rounds) × Readable (now proof) claims polys (rounds - 1) ⌝ }
-    requires room { ⌜ (4 * rounds ≤ length (now point)) × Space (now log) (now challenges) (first .pos) (rounds - 1) 1 ⌝ }
-    requires clean { ⌜ Clean (now point) × Clean (now challenges) × Canon (first .numer) × Canon (first .denom) ⌝ }
-    ensures { λ r. ⌜ LayersEnd (now (proof .entry)) (now (point .entry)) (now (point .exit)) (now (log .entry)) (now (log .exit)) (now (challenges .entry)) claims polys rounds first r ⌝ }
+    pos: Pos,
+) -> Pos
+    requires layer { ⌜ (1 ≤ n) × (4 * 2 ^ n ≤ eq) × (4 * eq + 2 * 2 ^ n ≤ length (now work)) ⌝ }
+    requires room { ⌜ (4 * n ≤ length (now xi)) × (pos .put + logUpTo n ≤ length (now log) + logUpTo 1) × (4 * (pos .used + usedUpTo n) ≤ length (now challenges) + 4 * usedUpTo 1) ⌝ }
+    requires clean { ⌜ Clean (now work) × Clean (now xi) × Clean (now challenges) ⌝ }
+    ensures run { λ r. ⌜ ((f : ℕ → Fraction E.Ext) (g : ℕ) → n ≡ suc g → Levels f (now (work .entry)) n 1 → AllLayers f (now (xi .entry)) (now (xi .exit)) (now (log .entry)) (now (log .exit)) (now (challenges .entry)) n g pos r) ⌝ }
+    ensures rest { λ r. ⌜ (drop (r .put) (now (log .exit)) ≡ drop (r .put) (now (log .entry))) × (r .put + logUpTo 1 ≡ pos .put + logUpTo n) × (r .used + usedUpTo 1 ≡ pos .used + usedUpTo n) × Clean (now (xi .exit)) × Clean (now (work .exit)) ⌝ }
 {
-    let mut s = first;
-    let mut c = claims;
-    let mut p = polys;
-    for round in 1..rounds {
-        match verify_round(proof, c, p, round, point, log, challenges, s) {
-            Advance::Next(t) => {
-                s = t;
-            }
-            Advance::Stopped(refusal) => {
-                return Advance::Stopped(refusal);
-            }
-        }
-        c += 64;
-        p += 1 + 48 * round;
+    let mut p = pos;
+    let mut size = 2;
+    for round in 1..n {
+        p = gkr_round(work, eq, round, size, xi, log, challenges, p);
+        size = 2 * size;
     }
-    Advance::Next(s)
-}
-
-// Round 0 and all after it.
-pub fn verify_all(
-    proof: &[u8],
-    polys: usize,
-    rounds: usize,
-    point: &mut [u32],
-    log: &mut [u32],
-    challenges: &[u32],
-) -> Advance
-    requires read { ⌜ (1 ≤ rounds) × (22 + 64 * rounds ≤ length (now proof)) × Readable (now proof) 86 polys (rounds - 1) ⌝ }
-    requires room { ⌜ (4 * rounds ≤ length (now point)) × Space (now log) (now challenges) (record { put = 24; used = 1 }) (rounds - 1) 1 ⌝ }
-    requires clean { ⌜ Clean (now point) × Clean (now challenges) ⌝ }
-    requires words { ⌜ Canon (elem (drop 5 (now proof))) × CanonClaims (claimsOf (drop 22 (now proof))) ⌝ }
-    ensures { λ r. ⌜ RootEnd (now (proof .entry)) (now (point .exit)) (now (log .entry)) (now (log .exit)) (now (challenges .entry)) polys rounds r ⌝ }
-{
-    let q0 = wire::element_at(proof, 5);
-    let c = stored::read_claims(proof, 22);
-    let pos = Pos { put: 0, used: 0 };
-    match round::verify_root(q0, c, point, log, challenges, pos) {
-        Advance::Next(s) => verify_rounds(proof, 86, polys, rounds, point, log, challenges, s),
-        Advance::Stopped(refusal) => Advance::Stopped(refusal),
-    }
+    p
 }

@@ -9,6 +9,7 @@ use Rattle.field.specs.Ext as E
 use Rattle.field.specs.Ext.{Ext, add, mul, neg, one}
 use Rattle.field.specs.ExtRing.{ExtRing}
 use Rattle.field.specs.Extension.{Extension}
+use Rattle.multilinear.specs.Forms as Forms
 use Rattle.multilinear.specs.Interpolate as Interpolate
 use Rattle.multilinear.specs.RoundSum as RoundSum
 use Rattle.step.specs.Values.{minus, line, two, three, cubicFrom}
@@ -25,9 +26,13 @@ at-three a b = ring ExtRing (a ∷ b ∷ []) (search quote depth 20 fits 9999) t
 pub line-turned : (a b r : Ext) → add a (mul (minus b a) r) ≡ line r a b
 line-turned a b r = ring ExtRing (a ∷ b ∷ r ∷ []) (search quote depth 20 fits 9999) tt
 
--- two products fewer than as it is written
-pub cross-fast : (p0 q0 p1 q1 l : Ext) → add (mul p0 q1) (mul q0 (add p1 (mul q1 l))) ≡ RoundSum.cross ExtRing l (record { p0 = p0; q0 = q0; p1 = p1; q1 = q1 })
-cross-fast p0 q0 p1 q1 l = ring ExtRing (p0 ∷ q0 ∷ p1 ∷ q1 ∷ l ∷ []) (search quote depth 20 fits 9999) tt
+-- lambda is taken into p1 first: two products fewer than as it is written
+pub cross-weighed : (p0 q0 p1 q1 l : Ext) → add (mul p0 q1) (mul q0 (add (mul q1 l) p1)) ≡ RoundSum.cross ExtRing l (record { p0 = p0; q0 = q0; p1 = p1; q1 = q1 })
+cross-weighed p0 q0 p1 q1 l = ring ExtRing (p0 ∷ q0 ∷ p1 ∷ q1 ∷ l ∷ []) (search quote depth 20 fits 9999) tt
+
+-- the line through weighed ends
+pub line-weighed : (x l p q p' q' : Ext) → line x (add (mul q l) p) (add (mul q' l) p') ≡ add (mul (line x q q') l) (line x p p')
+line-weighed x l p q p' q' = ring ExtRing (x ∷ l ∷ p ∷ q ∷ p' ∷ q' ∷ []) (search quote depth 20 fits 9999) tt
 
 pub low-part : (t x : Ext) → minus t (mul t x) ≡ mul t (minus one x)
 low-part t x = ring ExtRing (t ∷ x ∷ []) (search quote depth 20 fits 9999) tt
@@ -61,3 +66,10 @@ cubic-is e0 e1 e2 e3 x = refl
 pub cubic-steps : (s1 s2 d3 e0 x : Ext) {p m h q n r a b c : Ext} → p ≡ mul d3 (E.emb (of 1677721601)) → m ≡ minus s2 d3 → h ≡ mul m (E.emb (of 1006632961)) → q ≡ minus h s1
     → n ≡ minus s1 p → r ≡ minus n q → a ≡ add (mul p x) q → b ≡ add (mul a x) r → c ≡ add (mul b x) e0 → c ≡ cubicFrom s1 s2 d3 e0 x
 cubic-steps s1 s2 d3 e0 x {m = m} ep em eh eq en er ea eb ec = cc (by-sixth d3, by-half m)
+
+pub agree-fast : (x y : Ext) → add (add (mul x y) (mul x y)) (minus (minus one x) y) ≡ Forms.agree ExtRing x y
+agree-fast x y = ring ExtRing (x ∷ y ∷ []) (search quote depth 20 fits 9999) tt
+
+pub one-is : E.ext 1 0 0 0 ≡ one
+unfolding one E.emb E.ext B.one B.nil
+one-is = refl

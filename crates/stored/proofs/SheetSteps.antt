@@ -32,25 +32,25 @@ pub taken-some : (n : ℕ) (r : Bool) → (n ≡ 0 → ⊥) → r ≡ powerOfTwo
 taken-some n r h e = e ∙ sym (ap (λ t. cond t true (powerOfTwo n)) (ne-eqb n 0 h))
 
 module _ (n : ℕ) (x : SheetAnswer) where
-  counted-many : maxRows < n → counted n x ≡ Refused TooManyRows
+  pub counted-many : maxRows < n → counted n x ≡ Refused TooManyRows
   counted-many h = rw (lt-leb n maxRows h)
 
   module _ (m : n ≤ maxRows) where
-    counted-odd : taken n ≡ false → counted n x ≡ Refused NotPowerOfTwo
+    pub counted-odd : taken n ≡ false → counted n x ≡ Refused NotPowerOfTwo
     counted-odd p = rw (le-leb n maxRows m, p)
 
-    counted-next : taken n ≡ true → counted n x ≡ x
+    pub counted-next : taken n ≡ true → counted n x ≡ x
     counted-next p = rw (le-leb n maxRows m, p)
 
 module _ (need room : ℕ) (ws : List ℕ) (n : ℕ) where
-  fitted-short : room < need → fitted need room ws n ≡ Refused ShortRoom
+  pub fitted-short : room < need → fitted need room ws n ≡ Refused ShortRoom
   fitted-short h = rw (lt-leb need room h)
 
   module _ (r : need ≤ room) where
-    fitted-bad : allCanonical ws ≡ false → fitted need room ws n ≡ Refused BadWord
+    pub fitted-bad : allCanonical ws ≡ false → fitted need room ws n ≡ Refused BadWord
     fitted-bad h = rw (le-leb need room r, h)
 
-    fitted-done : allCanonical ws ≡ true → fitted need room ws n ≡ Done n
+    pub fitted-done : allCanonical ws ≡ true → fitted need room ws n ≡ Done n
     fitted-done h = rw (le-leb need room r, h)
 
 -- THE READER

@@ -2,7 +2,7 @@
 ghost use mathlib.Core.Path.{_≡_};
 ghost use mathlib.Core.Bool.{true, cond};
 ghost use mathlib.Core.List.{_++_};
-ghost use Prim.Native.Nat.{_+_, _*_, _≤_};
+ghost use Prim.Native.Nat.{_+_, _*_, _<_, _≤_};
 ghost use lib.Dec.{eqb};
 ghost use lib.ListN.{length, drop};
 ghost use Rattle.refusal.specs.Powers.{powerOfTwo};
@@ -74,6 +74,66 @@ pub fn read_sheet(bytes: &[u8], rows: &mut [u32]) -> SheetAnswer
         SheetAnswer::Done(count) => {
             copy_words(bytes, rows, 8 * count);
             SheetAnswer::Done(count)
+        }
+        SheetAnswer::Refused(refusal) => SheetAnswer::Refused(refusal),
+    }
+}
+
+// The writer's answer for a buffer of so many bytes.
+fn check_rows(rows: &[u32], room: usize) -> SheetAnswer
+    ensures { λ r. ⌜ r ≡ writeAnswer (now (rows .entry)) room ⌝ }
+{
+    if rows.len() % 8 != 0 {
+        return SheetAnswer::Refused(Refusal::RaggedRows);
+    }
+    let count = rows.len() / 8;
+    if refusal::MAX_ROWS < count {
+        return SheetAnswer::Refused(Refusal::TooManyRows);
+    }
+    if !zero_or_power(count) {
+        return SheetAnswer::Refused(Refusal::NotPowerOfTwo);
+    }
+    let bytes = 3 + 4 * rows.len();
+    if room < bytes {
+        return SheetAnswer::Refused(Refusal::ShortRoom);
+    }
+    if !wire::canonical_words(rows) {
+        return SheetAnswer::Refused(Refusal::BadWord);
+    }
+    SheetAnswer::Done(bytes)
+}
+
+fn put_words(out: &mut [u8], at: usize, words: &[u32]) -> usize
+    requires { ⌜ at + 4 * length (now words) ≤ length (now out) ⌝ }
+    ensures { λ r. ⌜ Wrote (now (out .entry)) (now (out .exit)) at r (bytesOf (now (words .entry))) ⌝ }
+{
+    let mut p = at;
+    for i in 0..words.len() {
+        p = wire::put_word(out, p, words[i]);
+    }
+    p
+}
+
+fn put_sheet(out: &mut [u8], rows: &[u32]) -> usize
+    requires { ⌜ (3 + 4 * length (now rows) ≤ length (now out)) × (length (now rows) < 65536) ⌝ }
+    ensures { λ r. ⌜ Wrote (now (out .entry)) (now (out .exit)) 0 r (sheet (now (rows .entry))) ⌝ }
+{
+    let count = rows.len() / 8;
+    let a = wire::put_byte(out, 0, 1);
+    let b = wire::put_byte(out, a, (count / 256) as u8);
+    let c = wire::put_byte(out, b, (count % 256) as u8);
+    put_words(out, c, rows)
+}
+
+// Done answers the number of bytes.
+pub fn write_sheet(rows: &[u32], out: &mut [u8]) -> SheetAnswer
+    ensures { λ r. ⌜ record { answer = r; buffer = now (out .exit) } ≡ sheetWritten (now (rows .entry)) (now (out .entry)) ⌝ }
+{
+    let answer = check_rows(rows, out.len());
+    match answer {
+        SheetAnswer::Done(bytes) => {
+            put_sheet(out, rows);
+            SheetAnswer::Done(bytes)
         }
         SheetAnswer::Refused(refusal) => SheetAnswer::Refused(refusal),
     }

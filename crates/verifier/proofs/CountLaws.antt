@@ -36,9 +36,9 @@ use Rattle.round.specs.declared.Verdict.the-variants.{Refused}
 use Rattle.round.specs.Values.{decClaims, decCubic, CanonClaims}
 use Rattle.round.specs.Verdicts.{Model, answerOf, pointOf, loggedBy}
 use Rattle.round.specs.Rounds.{Stops}
-use Rattle.rounds.specs.Runs.{Readable, Space, Ends, RootEnd}
-use Rattle.rounds.proofs.Messages.{claim-first, claims-rest}
-use Rattle.rounds.proofs.RoundLaws.{map-length}
+use Rattle.all_rounds.specs.Runs.{Readable, Space, Ends, RootEnd}
+use Rattle.all_rounds.proofs.Messages.{claim-first, claims-rest}
+use Rattle.all_rounds.proofs.RoundLaws.{map-length}
 use Rattle.verifier.specs.Verified.{decoded, verdict}
 use Rattle.verifier.specs.Gates.{Ready, Counted}
 

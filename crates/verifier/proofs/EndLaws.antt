@@ -30,7 +30,7 @@ use Rattle.round.specs.Values.{columns}
 use Rattle.round.specs.Points.{segment}
 use Rattle.round.specs.Verdicts.{Model, answerOf, pointOf, loggedBy, pointWords}
 use Rattle.round.specs.Rounds.{Stops}
-use Rattle.rounds.specs.Runs.{Accepts, Ends}
+use Rattle.all_rounds.specs.Runs.{Accepts, Ends}
 use Rattle.verifier.specs.Verified.{Outcome, outcome, written, needed, verdict, ended, Way, refuse, proceed, firstRefusal, follow, verified}
 use Rattle.verifier.specs.declared.Gate.{Gate}
 use Rattle.verifier.specs.declared.Gate.the-variants.{Open, Shut}

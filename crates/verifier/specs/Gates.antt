@@ -15,7 +15,7 @@ use Rattle.stored.specs.Layout.{proofWords}
 use Rattle.stored.specs.Parse.{proofOf}
 use Rattle.stored.specs.ParseLaws.{Shaped}
 use Rattle.round.specs.declared.Advance.{Advance}
-use Rattle.rounds.specs.Runs.{Ends}
+use Rattle.all_rounds.specs.Runs.{Ends}
 use Rattle.verifier.specs.declared.Gate.{Gate}
 use Rattle.verifier.specs.declared.Gate.the-variants.{Open, Shut}
 use Rattle.verifier.specs.Verified.{needed, verdict, refuse, proceed, firstRefusal}

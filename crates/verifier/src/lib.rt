@@ -106,7 +106,7 @@ fn verify_counted(
             actual: entries,
         });
     }
-    rounds::verify_all(proof, outline.polys, rounds, xi, log, challenges)
+    all_rounds::verify_all(proof, outline.polys, rounds, xi, log, challenges)
 }
 
 // The first n words of the point found go to the front of the room for it.

@@ -7,39 +7,33 @@ use Rattle.field.proofs.words.dot.Reads as reads
 use Rattle.field.proofs.words.dot.Lts as lts
 use Rattle.field.proofs.words.prod.Reads as prod-reads
 
--- src/lib.rt:58:7
 prod-requires : tie.Need-prod-requires
 prod-requires c κs = search needs
 
--- src/lib.rt:58:24
 prod-requires-2 : tie.Need-prod-requires-2
 prod-requires-2 c κs = search needs
 
--- src/lib.rt:58:7
 add-result : tie.Need-add-result
 add-result c = search needs
 
--- src/lib.rt:58:41
 prod-requires-3 : tie.Need-prod-requires-3
 prod-requires-3 c κs = search needs
 
--- src/lib.rt:58:7
 add-result-2 : tie.Need-add-result-2
 add-result-2 c = search needs
 
--- src/lib.rt:58:58
 prod-requires-4 : tie.Need-prod-requires-4
 prod-requires-4 c κs = search needs
 
--- src/lib.rt:58:7
 add-result-3 : tie.Need-add-result-3
 add-result-3 c = search needs
 
--- src/lib.rt:58:5
+add-result-4 : tie.Need-add-result-4
+add-result-4 c = search needs
+
 cast-result : tie.Need-cast-result
 cast-result c = search needs
 
--- src/lib.rt:53:1
 returns : tie.Need-returns
 returns c =
     let s = c .before .before .before .prod .ensures .0 in
@@ -59,5 +53,6 @@ dot-spec =
     add-result-2
     prod-requires-4
     add-result-3
+    add-result-4
     cast-result
     returns)
