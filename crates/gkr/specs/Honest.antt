@@ -1,14 +1,15 @@
--- The theorem: an honest proof of a sum of zero is accepted, with the true claims; one of another sum is turned away with that sum.
+-- The theorem: an honest proof of a sum of zero is accepted, with the true claims; a proof of another sum is turned away with that sum.
 -- Assumes nothing.
-use mathlib.Core.Path.{_≡_, refl, sym, _∙_, ap, ap₂}
+use mathlib.Core.Path.{_≡_, refl, sym, _∙_, ap, ap₂, subst}
 use mathlib.Core.Bool.{Bool, true, false, cond}
 use mathlib.Core.List.{List, [], _∷_}
 use Prim.Native.Nat.{ℕ, zero, suc}
 use lib.ListN.{length}
-use lib.Dec.{T, eqb, eqb-refl}
+use lib.Dec.{eqb}
+use borrow.Author.Tests.{eq-eqb}
 use Rattle.ring.specs.Ring.{CommRing}
 use Rattle.ring.specs.Field.{Field}
-use Rattle.multilinear.specs.Identities
+use Rattle.ring.specs.RingLaws
 use Rattle.multilinear.specs.Table
 use Rattle.multilinear.specs.RoundSum
 use Rattle.multilinear.specs.RoundSum.{Claims}
@@ -19,21 +20,9 @@ use Rattle.gkr.specs.TreeLaws
 use Rattle.gkr.specs.Sumcheck
 use Rattle.gkr.specs.SumcheckLaws
 use Rattle.gkr.specs.Gkr
-use Rattle.gkr.specs.Gkr.{done, accepted, zero-check, root-check, subround-count, layer-check}
-
--- a test that passes, and one that fails
-pass : {A : Type 0} (b : Bool) (x y : A) → b ≡ true → cond b x y ≡ x
-pass b x y e = ap (λ c. cond c x y) e
-
-fail : {A : Type 0} (b : Bool) (x y : A) → b ≡ false → cond b x y ≡ y
-fail b x y e = ap (λ c. cond c x y) e
-
-is-true : (b : Bool) → T b → b ≡ true
-is-true true t = refl
-is-true false t = absurd t
-
-eqb-true : (m n : ℕ) → m ≡ n → eqb m n ≡ true
-eqb-true m n e = ap (eqb m) (sym e) ∙ is-true (eqb m m) (eqb-refl m)
+use Rattle.gkr.specs.Count
+use Rattle.gkr.specs.Tests.{pass, fail}
+use Rattle.gkr.specs.Gkr.{done, non-zero-root-sum, accepted, zero-check, subround-count, layer-check}
 
 module _ (F : Field) (S : Transcript (F .ring .carrier)) where
   open Field F using (ring as K, same, same-refl)
@@ -90,66 +79,99 @@ module _ (F : Field) (S : Transcript (F .ring .carrier)) where
   -- THE HONEST RUN
 
   -- one round, whose sub-rounds are honest, and then the rest, which ends with v
-  honest-round : (g : ℕ → Frac R) (z : List R) (l : R) (t : Log) (P : Sumcheck.Sent F S) (C : Sumcheck.Checked F S)
-      → SumcheckLaws.Honest F S (length z) l (children g) P C
-      → (mss : List (List (Cubic R))) (cs : List (Claims R)) (v : Verdict)
+  honest-round : (g : ℕ → Frac R) (xi : List R) (lambda : R) (t : Log) (P : Sumcheck.Sent F S) (C : Sumcheck.Checked F S)
+      → SumcheckLaws.Honest F S (length xi) lambda (children g) P C
+      → (polyss : List (List (Cubic R))) (cs : List (Claims R)) (v : Verdict)
       → let t₁ = observe-layer-claims (P .last) (C .log) in
       let t₂ = observe-layer-claims (P .last) (P .log) in
-      let expected = RoundSum.cross K l (P .last) * C .eq in
-      rounds mss cs (value g (draw t₂ ∷ P .point)) (draw t₂ ∷ P .point) (drawn t₂) ≡ v
-      → cond (eqb (length (P .polys)) (length z))
-      (cond (same expected (C .claim)) (rounds mss cs (reduce-to-single-evaluation (P .last) (draw t₁)) (draw t₁ ∷ C .point) (drawn t₁)) (layer-check (length z) expected (C .claim) t₁))
-      (subround-count (length z) (length z) (length (P .polys)) t)
+      let expected = RoundSum.cross K lambda (P .last) * C .eq in
+      rounds polyss cs (value g (draw t₂ ∷ P .point)) (draw t₂ ∷ P .point) (drawn t₂) ≡ v
+      → cond (eqb (length (P .polys)) (length xi))
+      (cond (same expected (C .claim)) (rounds polyss cs (reduce-to-single-evaluation (P .last) (draw t₁)) (draw t₁ ∷ C .point) (drawn t₁)) (layer-check (length xi) expected (C .claim) t₁))
+      (subround-count (length xi) (length xi) (length (P .polys)) t)
       ≡ v
-  honest-round g z l t P C H mss cs v rest =
+  honest-round g xi lambda t P C H polyss cs v rest =
       let t₂ = observe-layer-claims (P .last) (P .log) in
-      pass _ _ _ (eqb-true _ _ (H .count))
+      pass _ _ _ (eq-eqb _ _ (H .count))
       ∙ pass _ _ _ (same-true _ _ (H .holds))
-      ∙ ap₂ (λ u pt. let t₁ = observe-layer-claims (P .last) u in rounds mss cs (reduce-to-single-evaluation (P .last) (draw t₁)) (draw t₁ ∷ pt) (drawn t₁)) (H .logs) (H .points)
-      ∙ ap (λ v. rounds mss cs v (draw t₂ ∷ P .point) (drawn t₂)) (ap (λ c. reduce-to-single-evaluation c (draw t₂)) (H .lasts) ∙ TreeLaws.reduce-value K g (draw t₂) (P .point))
+      ∙ ap₂ (λ u pt. let t₁ = observe-layer-claims (P .last) u in rounds polyss cs (reduce-to-single-evaluation (P .last) (draw t₁)) (draw t₁ ∷ pt) (drawn t₁)) (H .logs) (H .points)
+      ∙ ap (λ v. rounds polyss cs v (draw t₂ ∷ P .point) (drawn t₂)) (ap (λ c. reduce-to-single-evaluation c (draw t₂)) (H .lasts) ∙ TreeLaws.reduce-value K g (draw t₂) (P .point))
       ∙ rest
 
-  honest-rounds : (f : ℕ → Frac R) (h : ℕ) (z : List R) (t : Log) → let P = send f h z t in
-      rounds (P .polys) (P .claims) (value (tree f h) z) z t ≡ accepted (value f (P .point)) (P .point) (P .log)
+  honest-rounds : (f : ℕ → Frac R) (h : ℕ) (xi : List R) (t : Log) → let P = send f h xi t in
+      rounds (P .polys) (P .claims) (value (tree f h) xi) xi t ≡ accepted (value f (P .point)) (P .point) (P .log)
   unfolding Gkr.send Gkr.rounds Tree.tree
-  honest-rounds f zero z t = refl
-  honest-rounds f (suc h) z t =
-      let P = Sumcheck.send F S (length z) (draw t) (Table.weight K z) (children (tree f h)) (drawn t) in
+  honest-rounds f zero xi t = refl
+  honest-rounds f (suc h) xi t =
+      let P = Sumcheck.send F S (length xi) (draw t) (Table.weight K xi) (children (tree f h)) (drawn t) in
       let t₁ = observe-layer-claims (P .last) (P .log) in
       let rest = send f h (draw t₁ ∷ P .point) (drawn t₁) in
-      honest-round (tree f h) z (draw t) (drawn t) P _
-      (SumcheckLaws.honest F S z (draw t) (Table.weight K z) (children (tree f h)) (drawn t) one _ (λ i y. Identities.one-mul K (Table.weight K z y) i) (TreeLaws.claim-total K (tree f h) (draw t) z))
+      honest-round (tree f h) xi (draw t) (drawn t) P _
+      (SumcheckLaws.honest F S xi (draw t) (Table.weight K xi) (children (tree f h)) (drawn t) one _ (λ i y. sym (RingLaws.one-mul K (Table.weight K xi y)) i) (TreeLaws.claim-total K (tree f h) (draw t) xi))
       (rest .polys) (rest .claims) _ (honest-rounds f h (draw t₁ ∷ P .point) (drawn t₁))
 
-  send-counts : (f : ℕ → Frac R) (h : ℕ) (z : List R) (t : Log) → let P = send f h z t in (length (P .claims) ≡ h) × (length (P .polys) ≡ h)
-  unfolding Gkr.send
-  send-counts f zero z t = (refl, refl)
-  send-counts f (suc h) z t = let ih = send-counts f h _ _ in (ap suc (ih .0), ap suc (ih .1))
-
-  right-counts : (m : ℕ) (q0 : R) (c : Claims R) (cs : List (Claims R)) (mss : List (List (Cubic R))) (t : Log)
-      → (length cs ≡ m) × (length mss ≡ m) → counted m q0 (c ∷ cs) mss t ≡ root q0 c cs mss t
+  right-counts : (m : ℕ) (q0 : R) (c : Claims R) (cs : List (Claims R)) (polyss : List (List (Cubic R))) (t : Log)
+      → (length cs ≡ m) × (length polyss ≡ m) → counted m q0 (c ∷ cs) polyss t ≡ root q0 c cs polyss t
   unfolding Gkr.counted
-  right-counts m q0 c cs mss t n = pass _ _ _ (eqb-true _ _ (n .0)) ∙ pass _ _ _ (eqb-true _ _ (n .1))
+  right-counts m q0 c cs polyss t n = pass _ _ _ (eq-eqb _ _ (n .0)) ∙ pass _ _ _ (eq-eqb _ _ (n .1))
 
-  -- THE THEOREM: an honest proof of a sum of zero is accepted, with the values of the rows' columns at the prover's point and with the prover's log
-  pub honest : (m : ℕ) (f : ℕ → Frac R) (t : Log) → tree f (suc m) 0 .p ≡ nil → let P = run m f t in
+  -- where the test for zero passes, the prover is done and the verifier accepts
+  zero-accepted : (m : ℕ) (f : ℕ → Frac R) (t : Log) → same (tree f (suc m) 0 .p) nil ≡ true → let P = run m f t in
       (fractional-sumcheck true m f t ≡ done P) × (verify-gkr (suc m) (P .proof) t ≡ accepted (value f (P .point)) (P .point) (P .log))
   unfolding Gkr.run Gkr.fractional-sumcheck Gkr.verify-gkr Gkr.root Tree.tree
-  honest m f t h =
+  zero-accepted m f t h =
       let g = tree f m in
       let t₁ = observe-layer-claims (children g 0) (observe (compute-recursive-relations (children g 0) .q) t) in
-      let z = draw t₁ ∷ [] in
-      let P = send f m z (drawn t₁) in (
-        pass _ _ _ (same-true _ _ h),
-        right-counts m _ _ (P .claims) (P .polys) t (send-counts f m z (drawn t₁))
-            ∙ pass _ _ _ (same-true _ _ h)
+      let xi = draw t₁ ∷ [] in
+      let P = send f m xi (drawn t₁) in (
+        pass _ _ _ h,
+        right-counts m _ _ (P .claims) (P .polys) t (Count.send-counts F S f m xi (drawn t₁))
+            ∙ pass _ _ _ h
             ∙ pass _ _ _ (same-refl _)
-            ∙ ap (λ v. rounds (P .polys) (P .claims) v z (drawn t₁)) (ap (λ c. reduce-to-single-evaluation c (draw t₁)) (sym (RoundSumLaws.values-nil F (children g))) ∙ TreeLaws.reduce-value K g (draw t₁) [])
-            ∙ honest-rounds f m z (drawn t₁),
+            ∙ ap (λ v. rounds (P .polys) (P .claims) v xi (drawn t₁)) (ap (λ c. reduce-to-single-evaluation c (draw t₁)) (sym (RoundSumLaws.values-nil F (children g))) ∙ TreeLaws.reduce-value K g (draw t₁) [])
+            ∙ honest-rounds f m xi (drawn t₁),
       )
 
-  -- and a proof of another sum, made where zero is not asserted, is turned away with that sum
+  -- THE THEOREM. Over n = suc m rounds, for all rows f, any source of challenges and any log t: if the root numerator is zero, the prover with zero asserted
+  -- is done, and the verifier, given its proof, n and the same source, accepts: the claims are the values of both columns at the prover's point, the plain
+  -- sums over all rows; point and log are the prover's.
+  pub honest : (m : ℕ) (f : ℕ → Frac R) (t : Log) → tree f (suc m) 0 .p ≡ nil → let P = run m f t in
+      (fractional-sumcheck true m f t ≡ done P) × (verify-gkr (suc m) (P .proof) t ≡ accepted (value f (P .point)) (P .point) (P .log))
+  honest m f t h = zero-accepted m f t (same-true _ _ h)
+
+  Refused : Gkr.Answer F S → Type 0
+  Refused (done P) = ⊥
+  Refused non-zero-root-sum = Unit
+
+  -- so whatever the prover with zero asserted is done with, the verifier accepts
+  pub done-accepted : (m : ℕ) (f : ℕ → Frac R) (t : Log) (P : Gkr.Proved F S) → fractional-sumcheck true m f t ≡ done P
+      → verify-gkr (suc m) (P .proof) t ≡ accepted (value f (P .point)) (P .point) (P .log)
+  unfolding Gkr.fractional-sumcheck Refused
+  done-accepted m f t P e = go (same (tree f (suc m) 0 .p) nil) refl
+    where
+      Q : Gkr.Proved F S → Type 0
+      Q P = verify-gkr (suc m) (P .proof) t ≡ accepted (value f (P .point)) (P .point) (P .log)
+
+      go : (b : Bool) → same (tree f (suc m) 0 .p) nil ≡ b → Q P
+      go true h = subst Q (sym (Count.done-run F S true m f t P e)) (zero-accepted m f t h .1)
+      go false h = absurd (subst Refused (sym (fail _ _ _ h) ∙ e) tt)
+
+  -- ANOTHER SUM
+
+  -- with zero asserted it is refused
+  pub refused : (m : ℕ) (f : ℕ → Frac R) (t : Log) → same (tree f (suc m) 0 .p) nil ≡ false → fractional-sumcheck true m f t ≡ non-zero-root-sum
+  unfolding Gkr.fractional-sumcheck
+  refused m f t h = fail _ _ _ h
+
+  -- a proof of it, made where zero is not asserted, is turned away with 16 and that sum's numerator, after q0 and the claims of layer 0
   pub not-zero : (m : ℕ) (f : ℕ → Frac R) (t u : Log) → let s = tree f (suc m) 0 in same (s .p) nil ≡ false
       → verify-gkr (suc m) (run m f t .proof) u ≡ zero-check (s .p) (observe-layer-claims (children (tree f m) 0) (observe (s .q) u))
   unfolding Gkr.run Gkr.verify-gkr Gkr.root Tree.tree
-  not-zero m f t u h = right-counts m _ _ _ _ u (send-counts f m _ _) ∙ fail _ _ _ h
+  not-zero m f t u h = right-counts m _ _ _ _ u (Count.send-counts F S f m _ _) ∙ fail _ _ _ h
+
+  pub turned-away : (m : ℕ) (f : ℕ → Frac R) (t u : Log) (P : Gkr.Proved F S) → fractional-sumcheck false m f t ≡ done P → same (P .sum .p) nil ≡ false
+      → verify-gkr (suc m) (P .proof) u ≡ zero-check (P .sum .p) (observe-layer-claims (children (tree f m) 0) (observe (P .sum .q) u))
+  unfolding Gkr.run
+  turned-away m f t u P e =
+      subst (λ Q. same (Q .sum .p) nil ≡ false → verify-gkr (suc m) (Q .proof) u ≡ zero-check (Q .sum .p) (observe-layer-claims (children (tree f m) 0) (observe (Q .sum .q) u)))
+      (sym (Count.done-run F S false m f t P e)) (not-zero m f _ u)

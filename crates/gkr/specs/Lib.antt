@@ -1,12 +1,19 @@
--- The run: definitions (Run, Tree, Sumcheck, Gkr, Transcripts), and what is proved of them.
+-- The run: definitions (Run, Tree, Sumcheck, Gkr, Transcripts, Sizes), and what is proved of them.
 pub mod Run
 pub mod Tree
-pub mod TreeLaws
 pub mod Sumcheck
-pub mod SumcheckLaws
 pub mod Gkr
-pub mod Honest
-pub mod Count
 pub mod Transcripts
+pub mod Sizes
+pub mod Tests
+pub mod TreeLaws
+pub mod SumcheckLaws
+pub mod Count
+pub mod Honest
+pub mod VerifierCount
+pub mod Keeps
 pub mod TranscriptLaws
+pub mod Compute
 pub mod Cases
+pub mod Order
+pub mod Recorded

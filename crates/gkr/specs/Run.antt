@@ -1,4 +1,4 @@
--- What prover and verifier run on: the transcript, and the messages.
+-- What prover and verifier run on: fractions, messages, and the transcript.
 -- Assumes nothing.
 use mathlib.Core.List.{List}
 use Rattle.multilinear.specs.RoundSum.{Claims}
@@ -14,13 +14,13 @@ pub record Cubic (A : Type 0) : Type 0 where
   pub at2 : A
   pub at3 : A
 
--- a proof: the root's denominator, the claims of each layer, and the polynomials of each layer after the first
+-- a proof: the root's denominator, the claims of each layer, and the sub-rounds' polynomials of each layer after layer 0
 pub record Proof (A : Type 0) : Type 0 where
   pub q0 : A
   pub claims : List (Claims A)
   pub polys : List (List (Cubic A))
 
--- A transcript of elements of A: what it is after an observation, which challenge comes next, and what it is after that one.
+-- a transcript of elements of A: its log after an observation, the challenge that is sampled next, and the log after that
 pub record Transcript (A : Type 0) : Type 1 where
   pub Log : Type 0
   pub observe : A → Log → Log

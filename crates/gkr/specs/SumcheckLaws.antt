@@ -2,10 +2,10 @@
 -- Assumes nothing.
 use mathlib.Core.Path.{_≡_, refl, sym, _∙_, ap, ap₂, fun-ext}
 use mathlib.Core.List.{List, [], _∷_, _++_, append-assoc}
-use Prim.Native.Nat.{ℕ, zero, suc}
+use Prim.Native.Nat.{ℕ, suc}
 use native.Mathlib.Nat.{suc-inj, suc-ne-zero}
 use lib.ListN.{length}
-use Rattle.ring.specs.Ring.{CommRing, num}
+use Rattle.ring.specs.Ring.{CommRing}
 use Rattle.ring.specs.Field.{Field}
 use Rattle.multilinear.specs.Forms
 use Rattle.multilinear.specs.Table
@@ -64,67 +64,67 @@ module _ (F : Field) (S : Transcript (F .ring .carrier)) where
   verify-gkr-sumcheck = Sumcheck.verify-gkr-sumcheck F S
 
   -- what the verifier multiplies up is eq of the old point and the new
-  pub check-eq : (ms : List (Cubic R)) (zs : List R) (claim a : R) (t : Log) → length ms ≡ length zs
-      → let C = verify-gkr-sumcheck ms zs claim a t in C .eq ≡ a * Table.eq K zs (C .point)
+  pub check-eq : (polys : List (Cubic R)) (xi : List R) (claim eq : R) (t : Log) → length polys ≡ length xi
+      → let C = verify-gkr-sumcheck polys xi claim eq t in C .eq ≡ eq * Table.eq K xi (C .point)
   unfolding Sumcheck.verify-gkr-sumcheck Table.eq
-  check-eq [] [] claim a t e = sym (K .mul-one a)
-  check-eq [] (z ∷ zs) claim a t e = absurd (suc-ne-zero _ (sym e))
-  check-eq (m ∷ ms) [] claim a t e = absurd (suc-ne-zero _ e)
-  check-eq (m ∷ ms) (z ∷ zs) claim a t e = check-eq ms zs _ _ _ (suc-inj e) ∙ K .mul-assoc a _ _
+  check-eq [] [] claim eq t e = sym (K .mul-one eq)
+  check-eq [] (x ∷ xi) claim eq t e = absurd (suc-ne-zero _ (sym e))
+  check-eq (s ∷ polys) [] claim eq t e = absurd (suc-ne-zero _ e)
+  check-eq (s ∷ polys) (x ∷ xi) claim eq t e = check-eq polys xi _ _ _ (suc-inj e) ∙ K .mul-assoc eq _ _
 
   -- AS LOOPS: one turn moves a message and a challenge from what is still to come to what is there
 
   abbrev pub after : List (Cubic R) → List R → Sent → Sent
-  after ms rs P = record { polys = ms ++ P .polys; point = rs ++ P .point; last = P .last; log = P .log }
+  after polys rhos P = record { polys = polys ++ P .polys; point = rhos ++ P .point; last = P .last; log = P .log }
 
-  pub send-turn : (ms : List (Cubic R)) (rs : List R) (k : ℕ) (l : R) (e : ℕ → R) (c : ℕ → Claims R) (t : Log)
-      → let m = message k l e c in
-      let t₁ = observe-cubic m t in
-      let r = draw t₁ in
-      after ms rs (send (suc k) l e c t) ≡ after (ms ++ (m ∷ [])) (rs ++ (r ∷ [])) (send k l (fold e r) (folded c r) (drawn t₁))
+  pub send-turn : (polys : List (Cubic R)) (rhos : List R) (k : ℕ) (lambda : R) (eq : ℕ → R) (pq : ℕ → Claims R) (t : Log)
+      → let s = message k lambda eq pq in
+      let t₁ = observe-cubic s t in
+      let rho = draw t₁ in
+      after polys rhos (send (suc k) lambda eq pq t) ≡ after (polys ++ (s ∷ [])) (rhos ++ (rho ∷ [])) (send k lambda (fold eq rho) (folded pq rho) (drawn t₁))
   unfolding Sumcheck.send
-  send-turn ms rs k l e c t =
-      let m = message k l e c in
-      let t₁ = observe-cubic m t in
-      let r = draw t₁ in
-      let rest = send k l (fold e r) (folded c r) (drawn t₁) in
-      ap₂ (λ ps pt. record { polys = ps; point = pt; last = rest .last; log = rest .log }) (sym (append-assoc ms (m ∷ []) (rest .polys))) (sym (append-assoc rs (r ∷ []) (rest .point)))
+  send-turn polys rhos k lambda eq pq t =
+      let s = message k lambda eq pq in
+      let t₁ = observe-cubic s t in
+      let rho = draw t₁ in
+      let rest = send k lambda (fold eq rho) (folded pq rho) (drawn t₁) in
+      ap₂ (λ ps pt. record { polys = ps; point = pt; last = rest .last; log = rest .log }) (sym (append-assoc polys (s ∷ []) (rest .polys))) (sym (append-assoc rhos (rho ∷ []) (rest .point)))
 
   -- THE HONEST RUN
 
-  pub record Honest (k : ℕ) (l : R) (c : ℕ → Claims R) (P : Sent) (C : Checked) : Type 0 where
+  pub record Honest (k : ℕ) (lambda : R) (pq : ℕ → Claims R) (P : Sent) (C : Checked) : Type 0 where
     pub logs : C .log ≡ P .log
     pub points : C .point ≡ P .point
     pub count : length (P .polys) ≡ k
-    pub lasts : P .last ≡ values c (P .point)
-    pub holds : cross l (P .last) * C .eq ≡ C .claim
+    pub lasts : P .last ≡ values pq (P .point)
+    pub holds : cross lambda (P .last) * C .eq ≡ C .claim
 
-  pub honest : (zs : List R) (l : R) (e : ℕ → R) (c : ℕ → Claims R) (t : Log) (a claim : R)
-      → e ≡ (λ y. a * weight zs y)
-      → claim ≡ total (length zs) l e c
-      → let P = send (length zs) l e c t in Honest (length zs) l c P (verify-gkr-sumcheck (P .polys) zs claim a t)
+  pub honest : (xi : List R) (lambda : R) (eq : ℕ → R) (pq : ℕ → Claims R) (t : Log) (a claim : R)
+      → eq ≡ (λ y. a * weight xi y)
+      → claim ≡ total (length xi) lambda eq pq
+      → let P = send (length xi) lambda eq pq t in Honest (length xi) lambda pq P (verify-gkr-sumcheck (P .polys) xi claim a t)
   unfolding Sumcheck.send Sumcheck.verify-gkr-sumcheck
-  honest [] l e c t a claim he hc = record {
+  honest [] lambda eq pq t a claim heq hc = record {
     logs = refl;
     points = refl;
     count = refl;
-    lasts = sym (RoundSumLaws.values-nil F c);
-    holds = sym (hc ∙ RoundSumLaws.claim-last F l e c a he);
+    lasts = sym (RoundSumLaws.values-nil F pq);
+    holds = sym (hc ∙ RoundSumLaws.claim-last F lambda eq pq a heq);
   }
-  honest (z ∷ zs) l e c t a claim he hc =
-      let k = length zs in
-      let m = message k l e c in
-      let t₁ = observe-cubic m t in
-      let r = draw t₁ in
+  honest (x ∷ xi) lambda eq pq t a claim heq hc =
+      let k = length xi in
+      let s = message k lambda eq pq in
+      let t₁ = observe-cubic s t in
+      let rho = draw t₁ in
       let ih =
-      honest zs l (fold e r) (folded c r) (drawn t₁) (a * Forms.agree K z r)
-      (Interpolate.cubic F (claim - m .at1) (m .at1) (m .at2) (m .at3) r)
-      (ap (λ d. fold d r) he ∙ fun-ext (TableLaws.fold-weight K a z r zs))
-      (RoundSumLaws.claim-step F k l e c claim r hc) in
+      honest xi lambda (fold eq rho) (folded pq rho) (drawn t₁) (a * Forms.agree K x rho)
+      (Interpolate.cubic F (claim - s .at1) (s .at1) (s .at2) (s .at3) rho)
+      (ap (λ d. fold d rho) heq ∙ fun-ext (TableLaws.fold-weight K a x rho xi))
+      (RoundSumLaws.claim-step F k lambda eq pq claim rho hc) in
       record {
         logs = ih .logs;
-        points = ap (λ rs. r ∷ rs) (ih .points);
+        points = ap (λ rhos. rho ∷ rhos) (ih .points);
         count = ap suc (ih .count);
-        lasts = ih .lasts ∙ sym (RoundSumLaws.values-fold F c r _);
+        lasts = ih .lasts ∙ sym (RoundSumLaws.values-fold F pq rho _);
         holds = ih .holds;
       }

@@ -1,27 +1,175 @@
--- How many words a run leaves in a lent log.
+-- Over challenges lent or supplied beforehand: how many a run samples, how many words it leaves in the log, and that the k-th sample is the k-th challenge.
 -- Assumes nothing.
-use mathlib.Core.Path.{_≡_, refl, _∙_, ap}
-use mathlib.Core.List.{List, [], _∷_, map}
-use Prim.Native.Nat.{ℕ, suc, _+_, _*_}
+use mathlib.Core.Path.{_≡_, refl, _∙_, ap, ap₂, subst}
+use mathlib.Core.Bool.{Bool, true, false, cond}
+use mathlib.Core.List.{List, [], _∷_, _++_, map, append-nil}
+use Prim.Native.Nat.{ℕ, zero, suc, _≤_, _+_, _^_}
+use native.Mathlib.Nat.{zero-add}
 use native.Mathlib.Omega.{arith}
-use lib.ListN.{length, length-append}
+use lib.ListN.{length, length-append, length-map, getD}
+use lib.Dec.{leb}
+use borrow.Author.Tests.{le-leb}
 use Rattle.ring.specs.Field.{Field}
-use Rattle.gkr.specs.Run.{Frac}
+use Rattle.gkr.specs.Run.{Frac, Proof, Transcript}
+use Rattle.gkr.specs.Sizes.{challenges, log-words}
 use Rattle.gkr.specs.Gkr
-use Rattle.gkr.specs.Transcripts.{mark, lent}
-use Rattle.gkr.specs.Count.{run-size, words}
+use Rattle.gkr.specs.Gkr.{done, accepted}
+use Rattle.gkr.specs.Transcripts.{Event, observed, sampled, count, supplied, mark, Words, lent}
+use Rattle.gkr.specs.Count
+use Rattle.gkr.specs.VerifierCount
+use Rattle.gkr.specs.Keeps
 
-length-map : (f : ℕ → ℕ) (l : List ℕ) → length (map f l) ≡ length l
-length-map f [] = refl
-length-map f (x ∷ l) = ap suc (length-map f l)
+-- the words of a log that were sampled: those with the top bit set
+unfoldable pub sampled-words : List ℕ → List ℕ
+sampled-words [] = []
+sampled-words (w ∷ ws) = cond (leb (2 ^ 31) w) (w ∷ sampled-words ws) (sampled-words ws)
 
--- a run over n = suc m rounds leaves 8n² + 16n words
-pub lent-length : (F : Field) (ws : F .ring .carrier → List ℕ) (ch : ℕ → F .ring .carrier) → ((x : F .ring .carrier) → length (ws x) ≡ 4)
-    → (m : ℕ) (f : ℕ → Frac (F .ring .carrier)) → let n = suc m in
-    length (Gkr.run F (lent ws ch) m f (record { log = []; used = 0 }) .log .log) ≡ 8 * (n * n) + 16 * n
-lent-length F ws ch four m f =
-    run-size F (lent ws ch) (λ t. length (t .log)) 4 4
-    (λ x t. length-append (t .log) (ws x) ∙ ap (λ k. length (t .log) + k) (four x))
-    (λ t. length-append (t .log) _ ∙ ap (λ k. length (t .log) + k) (length-map mark (ws (ch (t .used))) ∙ four (ch (t .used))))
-    m f _
-    ∙ omega (arith, words m)
+sampled-append : (a b : List ℕ) → sampled-words (a ++ b) ≡ sampled-words a ++ sampled-words b
+unfolding sampled-words
+sampled-append [] b = refl
+sampled-append (w ∷ a) b = ap (λ l. cond (leb (2 ^ 31) w) (w ∷ l) l) (sampled-append a b) ∙ go (leb (2 ^ 31) w)
+  where
+    go : (t : Bool) → cond t (w ∷ (sampled-words a ++ sampled-words b)) (sampled-words a ++ sampled-words b) ≡ cond t (w ∷ sampled-words a) (sampled-words a) ++ sampled-words b
+    go true = refl
+    go false = refl
+
+sampled-mark : (ws : List ℕ) → sampled-words (map mark ws) ≡ map mark ws
+unfolding sampled-words
+sampled-mark [] = refl
+sampled-mark (w ∷ ws) = ap (λ t. cond t (mark w ∷ sampled-words (map mark ws)) (sampled-words (map mark ws))) (le-leb (2 ^ 31) (mark w) (omega arith)) ∙ ap (λ l. mark w ∷ l) (sampled-mark ws)
+
+module _ (F : Field) (words : F .ring .carrier → List ℕ) (challenge : ℕ → F .ring .carrier) where
+  abbrev R : Type 0
+  R = F .ring .carrier
+
+  abbrev S : Transcript R
+  S = lent words challenge
+
+  -- HOW MANY CHALLENGES ARE SAMPLED
+
+  observe-used : (x : R) (t : Words) → S .observe x t .used ≡ t .used + 0
+  observe-used x t = omega arith
+
+  drawn-used : (t : Words) → S .drawn t .used ≡ t .used + 1
+  drawn-used t = omega arith
+
+  pub done-draws : (asserted : Bool) (m : ℕ) (f : ℕ → Frac R) (t : Words) (P : Gkr.Proved F S)
+      → Gkr.fractional-sumcheck F S asserted m f t ≡ done P → P .log .used ≡ t .used + challenges (suc m)
+  done-draws asserted m f t P e =
+      Count.answer-size F S (λ u. u .used) 0 1 observe-used drawn-used asserted m f t P e
+      ∙ ap (λ k. t .used + k + cond asserted 0 0) (Count.draws m)
+      ∙ go asserted
+    where
+      go : (b : Bool) → t .used + challenges (suc m) + cond b 0 0 ≡ t .used + challenges (suc m)
+      go true = omega arith
+      go false = omega arith
+
+  pub accepted-draws : (m : ℕ) (π : Proof R) (t : Words) (v : Frac R) (xi : List R) (u : Words)
+      → Gkr.verify-gkr F S (suc m) π t ≡ accepted v xi u → u .used ≡ t .used + challenges (suc m)
+  accepted-draws m π t v xi u e =
+      VerifierCount.accepted-size F S (λ u. u .used) 0 1 observe-used drawn-used m π t v xi u e .0 ∙ ap (λ k. t .used + k) (Count.draws m)
+
+  -- accepted or not: at most those
+  pub left-draws : (n : ℕ) (π : Proof R) (t : Words) → Gkr.log-after F S t (Gkr.verify-gkr F S n π t) .used ≤ t .used + challenges n
+  unfolding Gkr.verify-gkr
+  left-draws zero π t = omega arith
+  left-draws (suc m) π t =
+      subst (λ k. Gkr.log-after F S t (Gkr.verify-gkr F S (suc m) π t) .used ≤ t .used + k) (Count.draws m)
+      (VerifierCount.left-size F S (λ u. u .used) 0 1 observe-used drawn-used m π t)
+
+  -- HOW MANY WORDS ARE IN THE LOG, where an element is four words
+
+  module _ (four : (x : R) → length (words x) ≡ 4) where
+    observe-words : (x : R) (t : Words) → length (S .observe x t .log) ≡ length (t .log) + 4
+    observe-words x t = length-append (t .log) (words x) ∙ ap (λ k. length (t .log) + k) (four x)
+
+    drawn-words : (t : Words) → length (S .drawn t .log) ≡ length (t .log) + 4
+    drawn-words t =
+        length-append (t .log) _
+        ∙ ap (λ k. length (t .log) + k) (length-map (words (challenge (t .used))) mark ∙ four (challenge (t .used)))
+
+    pub done-words : (asserted : Bool) (m : ℕ) (f : ℕ → Frac R) (t : Words) (P : Gkr.Proved F S)
+        → Gkr.fractional-sumcheck F S asserted m f t ≡ done P → length (P .log .log) ≡ length (t .log) + log-words asserted (suc m)
+    done-words asserted m f t P e =
+        Count.answer-size F S (λ u. length (u .log)) 4 4 observe-words drawn-words asserted m f t P e
+        ∙ ap (λ k. length (t .log) + k + cond asserted 0 4) (Count.words m)
+        ∙ omega arith
+
+    pub accepted-words : (m : ℕ) (π : Proof R) (t : Words) (v : Frac R) (xi : List R) (u : Words)
+        → Gkr.verify-gkr F S (suc m) π t ≡ accepted v xi u → length (u .log) ≡ length (t .log) + log-words true (suc m)
+    accepted-words m π t v xi u e =
+        VerifierCount.accepted-size F S (λ u. length (u .log)) 4 4 observe-words drawn-words m π t v xi u e .0
+        ∙ ap (λ k. length (t .log) + k) (Count.words m)
+
+    -- accepted or not: at most those
+    pub left-words : (n : ℕ) (π : Proof R) (t : Words)
+        → length (Gkr.log-after F S t (Gkr.verify-gkr F S n π t) .log) ≤ length (t .log) + log-words true n
+    unfolding Gkr.verify-gkr
+    left-words zero π t = omega arith
+    left-words (suc m) π t =
+        subst (λ k. length (Gkr.log-after F S t (Gkr.verify-gkr F S (suc m) π t) .log) ≤ length (t .log) + k) (Count.words m)
+        (VerifierCount.left-size F S (λ u. length (u .log)) 4 4 observe-words drawn-words m π t)
+
+  -- THE ORDER, where no word of an element has its top bit set
+
+  -- the first k challenges as they stand in the log
+  unfoldable pub firsts : (k : ℕ) → List ℕ
+  firsts zero = []
+  firsts (suc k) = firsts k ++ map mark (words (challenge k))
+
+  -- the sampled words of a log are the challenges used so far
+  abbrev pub Ordered : Words → Type 0
+  Ordered t = sampled-words (t .log) ≡ firsts (t .used)
+
+  module _ (plain : (x : R) → sampled-words (words x) ≡ []) where
+    observe-ordered : (x : R) (t : Words) → Ordered t → Ordered (S .observe x t)
+    observe-ordered x t h = sampled-append (t .log) (words x) ∙ ap₂ _++_ h (plain x) ∙ append-nil _
+
+    drawn-ordered : (t : Words) → Ordered t → Ordered (S .drawn t)
+    unfolding firsts
+    drawn-ordered t h = sampled-append (t .log) _ ∙ ap₂ _++_ h (sampled-mark (words (challenge (t .used))))
+
+    -- along the prover's run, and along the verifier's
+    pub done-ordered : (asserted : Bool) (m : ℕ) (f : ℕ → Frac R) (t : Words) (P : Gkr.Proved F S)
+        → Gkr.fractional-sumcheck F S asserted m f t ≡ done P → Ordered t → Ordered (P .log)
+    done-ordered = Keeps.done-keeps F S Ordered observe-ordered drawn-ordered
+
+    pub left-ordered : (n : ℕ) (π : Proof R) (t : Words) → Ordered t → Ordered (Gkr.log-after F S t (Gkr.verify-gkr F S n π t))
+    left-ordered = Keeps.verify-keeps F S Ordered observe-ordered drawn-ordered
+
+    -- from an empty log: the sampled words are the first C(n) challenges, in order
+    pub done-samples : (asserted : Bool) (m : ℕ) (f : ℕ → Frac R) (P : Gkr.Proved F S)
+        → Gkr.fractional-sumcheck F S asserted m f (record { log = []; used = 0 }) ≡ done P → sampled-words (P .log .log) ≡ firsts (challenges (suc m))
+    unfolding sampled-words firsts
+    done-samples asserted m f P e =
+        done-ordered asserted m f (record { log = []; used = 0 }) P e refl ∙ ap firsts (done-draws asserted m f _ P e ∙ zero-add _)
+
+    pub accepted-samples : (m : ℕ) (π : Proof R) (v : Frac R) (xi : List R) (u : Words)
+        → Gkr.verify-gkr F S (suc m) π (record { log = []; used = 0 }) ≡ accepted v xi u → sampled-words (u .log) ≡ firsts (challenges (suc m))
+    unfolding sampled-words firsts
+    accepted-samples m π v xi u e =
+        subst (λ w. Ordered (Gkr.log-after F S (record { log = []; used = 0 }) w)) e (left-ordered (suc m) π (record { log = []; used = 0 }) refl)
+        ∙ ap firsts (accepted-draws m π _ v xi u e ∙ zero-add _)
+
+-- IN A LOG OF EVENTS: the k-th sample is the k-th challenge
+
+unfoldable pub InOrder : {A : Type 0} (challenge : ℕ → A) → List (Event A) → Type 0
+InOrder challenge [] = Unit
+InOrder challenge (observed x ∷ t) = InOrder challenge t
+InOrder challenge (sampled x ∷ t) = (x ≡ challenge (count t)) × InOrder challenge t
+
+module _ (F : Field) (cs : List (F .ring .carrier)) (none : F .ring .carrier) where
+  abbrev Sup : Transcript (F .ring .carrier)
+  Sup = supplied cs none
+
+  abbrev I : List (Event (F .ring .carrier)) → Type 0
+  I = InOrder (λ k. getD cs k none)
+
+  pub done-in-order : (asserted : Bool) (m : ℕ) (f : ℕ → Frac (F .ring .carrier)) (t : List (Event (F .ring .carrier))) (P : Gkr.Proved F Sup)
+      → Gkr.fractional-sumcheck F Sup asserted m f t ≡ done P → I t → I (P .log)
+  unfolding InOrder
+  done-in-order = Keeps.done-keeps F Sup I (λ x t h. h) (λ t h. (refl, h))
+
+  pub left-in-order : (n : ℕ) (π : Proof (F .ring .carrier)) (t : List (Event (F .ring .carrier))) → I t → I (Gkr.log-after F Sup t (Gkr.verify-gkr F Sup n π t))
+  unfolding InOrder
+  left-in-order = Keeps.verify-keeps F Sup I (λ x t h. h) (λ t h. (refl, h))

@@ -5,12 +5,14 @@ use Prim.Native.Nat.{ℕ, suc, _+_, _^_}
 use lib.ListN.{getD}
 use Rattle.gkr.specs.Run.{Transcript}
 
+-- A LOG OF EVENTS, the last one first
+
 pub data Event (A : Type 0) : Type 0 where
   observed : A → Event A
   sampled : A → Event A
 
--- challenges drawn from the log so far; the last event stands first
-abbrev pub logged : {A : Type 0} → (List (Event A) → A) → Transcript A
+-- challenges that are any function of the log so far
+abbrev pub logged : {A : Type 0} (source : List (Event A) → A) → Transcript A
 logged {A} source = record {
   Log = List (Event A);
   observe = λ x t. observed x ∷ t;
@@ -18,26 +20,29 @@ logged {A} source = record {
   drawn = λ t. sampled (source t) ∷ t;
 }
 
-abbrev pub count : {A : Type 0} → List (Event A) → ℕ
+-- how many challenges were sampled
+abbrev pub count : {A : Type 0} (t : List (Event A)) → ℕ
 count [] = 0
 count (observed x ∷ t) = count t
 count (sampled x ∷ t) = suc (count t)
 
--- challenges supplied beforehand, used in their order
-abbrev pub supplied : {A : Type 0} → List A → A → Transcript A
-supplied cs none = logged (λ t. getD cs (count t) none)
+-- challenges supplied beforehand, used in their order; `none` past their end
+abbrev pub supplied : {A : Type 0} (challenges : List A) (none : A) → Transcript A
+supplied challenges none = logged (λ t. getD challenges (count t) none)
 
--- A LOG OF WORDS, in the order of writing; a sampled word has its top bit set
+-- A LOG OF WORDS, in the order of writing
 
+-- a sampled word is the value with its top bit set
 abbrev pub mark : ℕ → ℕ
 mark w = 2 ^ 31 + w
 
--- challenges supplied beforehand: the log, and how many are used
+-- the words so far, and how many challenges were sampled
 pub record Words : Type 0 where
   pub log : List ℕ
   pub used : ℕ
 
-abbrev pub lent : {A : Type 0} → (A → List ℕ) → (ℕ → A) → Transcript A
+-- challenges lent beforehand, used in their order; `words x` is x as words
+abbrev pub lent : {A : Type 0} (words : A → List ℕ) (challenge : ℕ → A) → Transcript A
 lent words challenge = record {
   Log = Words;
   observe = λ x t. record { log = t .log ++ words x; used = t .used };

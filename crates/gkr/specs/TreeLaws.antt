@@ -1,7 +1,7 @@
 -- The laws of the fraction tree: one numbering of all nodes, and the two facts of a layer that the run rests on.
 -- Assumes nothing.
-use mathlib.Core.Path.{_≡_, refl, sym, _∙_, ap, ap₂, subst}
-use mathlib.Core.List.{List, [], _∷_}
+use mathlib.Core.Path.{_≡_, sym, _∙_, ap, ap₂, subst}
+use mathlib.Core.List.{List, _∷_}
 use Prim.Native.Nat.{ℕ, zero, suc, _≤_, _<_, _^_}
 use Prim.Native.Nat.{_+_ as _+ℕ_}
 use native.Mathlib.Nat.{pow-le-pow-right}
@@ -42,6 +42,14 @@ module _ (K : CommRing) where
   abbrev reduce-to-single-evaluation : Claims R → R → Frac R
   reduce-to-single-evaluation = Tree.reduce-to-single-evaluation K
 
+  -- a node is the sum of its two children
+  pub node-plus : (f : ℕ → Frac R) (h i : ℕ) → tree f (suc h) i ≡ Tree.plus K (tree f h (even i)) (tree f h (odd i))
+  unfolding Tree.tree
+  node-plus f h i =
+      let a = tree f h (even i) in
+      let b = tree f h (odd i) in
+      ap (λ x. record { p = a .p * b .q + x; q = a .q * b .q }) (mul-comm (b .p) (a .q))
+
   -- One numbering of all nodes: row i is node 2 ^ n + i, and node k is the sum of the nodes 2k and 2k + 1. Then node 2 ^ d + i is node i at height n - d.
   pub heap : (n : ℕ) (f node : ℕ → Frac R)
       → ((i : ℕ) → i < 2 ^ n → node (2 ^ n +ℕ i) ≡ f i)
@@ -57,20 +65,20 @@ module _ (K : CommRing) where
       (ap node (TableLaws.even-top d i) ∙ heap n f node leaf inner h (suc d) (omega arith) (even i) (omega arith))
       (ap node (TableLaws.odd-top d i) ∙ heap n f node leaf inner h (suc d) (omega arith) (odd i) (omega arith))
 
-  -- TWO FACTS OF A LAYER g
+  -- TWO FACTS OF A LAYER g, on which the honest run rests, and a soundness theorem would, with RoundSumLaws.claim-last
 
   -- the batched claim on the layer above is what the sumcheck sums over g
-  pub claim-total : (g : ℕ → Frac R) (l : R) (z : List R) → let v = value (λ y. compute-recursive-relations (children g y)) z in
-      v .p + l * v .q ≡ RoundSum.total K (length z) l (Table.weight K z) (children g)
+  pub claim-total : (g : ℕ → Frac R) (lambda : R) (xi : List R) → let v = value (λ y. compute-recursive-relations (children g y)) xi in
+      v .p + lambda * v .q ≡ RoundSum.total K (length xi) lambda (Table.weight K xi) (children g)
   unfolding Table.value RoundSum.total
-  claim-total g l z =
-      sym (TableLaws.value-linear K (λ y. compute-recursive-relations (children g y) .p) (λ y. compute-recursive-relations (children g y) .q) l z)
+  claim-total g lambda xi =
+      sym (TableLaws.value-linear K (λ y. compute-recursive-relations (children g y) .p) (λ y. compute-recursive-relations (children g y) .q) lambda xi)
       ∙ TableLaws.sum-cong K _ (λ y. mul-comm _ _)
 
   -- the values of left and right children at a point, brought together at mu, are the values of g at mu and that point
-  pub reduce-value : (g : ℕ → Frac R) (mu : R) (zs : List R) → reduce-to-single-evaluation (RoundSum.values K (children g) zs) mu ≡ value g (mu ∷ zs)
+  pub reduce-value : (g : ℕ → Frac R) (mu : R) (xi : List R) → reduce-to-single-evaluation (RoundSum.values K (children g) xi) mu ≡ value g (mu ∷ xi)
   unfolding Table.fold
-  reduce-value g mu zs = λ i. record { p = column (λ y. g y .p) i; q = column (λ y. g y .q) i }
+  reduce-value g mu xi = λ i. record { p = column (λ y. g y .p) i; q = column (λ y. g y .q) i }
     where
-      column : (t : ℕ → R) → Forms.line K (Table.value K (λ y. t (even y)) zs) (Table.value K (λ y. t (odd y)) zs) mu ≡ Table.value K t (mu ∷ zs)
-      column t = sym (TableLaws.value-fold K t mu zs ∙ TableLaws.value-line K (λ y. t (even y)) (λ y. t (odd y)) mu zs)
+      column : (t : ℕ → R) → Forms.line K (Table.value K (λ y. t (even y)) xi) (Table.value K (λ y. t (odd y)) xi) mu ≡ Table.value K t (mu ∷ xi)
+      column t = sym (TableLaws.value-fold K t mu xi ∙ TableLaws.value-line K (λ y. t (even y)) (λ y. t (odd y)) mu xi)

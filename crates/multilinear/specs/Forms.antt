@@ -1,4 +1,4 @@
--- The forms that polynomials take here: a line, the agreement of two bits, a cubic, and the two interpolations of the Rust.
+-- The forms that polynomials take here: a line, eq of one bit, a cubic, and the interpolations of the Rust.
 -- Assumes nothing.
 use Rattle.ring.specs.Ring.{CommRing, num}
 
@@ -10,19 +10,20 @@ module _ (K : CommRing) where
   abbrev pub _-_ : R → R → R
   a - b = a + neg b
 
-  -- the line through a at 0 and b at 1, taken at x
-  abbrev pub line : R → R → R → R
-  line a b x = a + x * (b - a)
+  -- interpolate_linear_at_01: the line through t0 at 0 and t1 at 1, taken at x
+  abbrev pub line : (t0 t1 x : R) → R
+  line t0 t1 x = t0 + x * (t1 - t0)
 
-  -- 1 where two bits agree and 0 where not, linear in both
-  abbrev pub agree : R → R → R
-  agree x y = x * y + (one - x) * (one - y)
+  -- eq of one bit: 1 where two bits agree and 0 where not, linear in both
+  abbrev pub agree : (xi rho : R) → R
+  agree xi rho = xi * rho + (one - xi) * (one - rho)
 
-  abbrev pub poly : R → R → R → R → R → R
+  -- the polynomial with the coefficients a, b, c, d, taken at x
+  abbrev pub poly : (a b c d x : R) → R
   poly a b c d x = a + x * (b + x * (c + x * d))
 
   -- interpolate_cubic_at_0123, with the inverses of 2 and 6
-  abbrev pub cubic : R → R → R → R → R → R → R → R
+  abbrev pub cubic : (half sixth e0 e1 e2 e3 x : R) → R
   cubic half sixth e0 e1 e2 e3 x =
       let s1 = e1 - e0 in
       let s2 = e2 - e0 in
@@ -33,8 +34,8 @@ module _ (K : CommRing) where
       let r = s1 - p - q in
       ((p * x + q) * x + r) * x + e0
 
-  -- interpolate_quadratic_at_012
-  abbrev pub quadratic : R → R → R → R → R → R
+  -- interpolate_quadratic_at_012, with the inverse of 2
+  abbrev pub quadratic : (half e0 e1 e2 x : R) → R
   quadratic half e0 e1 e2 x =
       let s1 = e1 - e0 in
       let s2 = e2 - e1 in

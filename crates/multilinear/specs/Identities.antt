@@ -1,7 +1,7 @@
 -- The identities of a commutative ring that tables, interpolation and sumcheck need, each by the solver.
 -- Assumes nothing.
 use mathlib.Core.Path.{_≡_}
-use mathlib.Core.List.{List, [], _∷_}
+use mathlib.Core.List.{[], _∷_}
 use Rattle.ring.specs.Ring.{CommRing, num}
 use Rattle.ring.specs.Quote.{ring, ring-by, quote, _▷_}
 use Rattle.multilinear.specs.Forms
@@ -30,15 +30,6 @@ module _ (K : CommRing) where
   quadratic = Forms.quadratic K
 
   -- TABLES
-
-  pub swap : (a b c d : R) → (a + b) + (c + d) ≡ (a + c) + (b + d)
-  swap a b c d = ring K (a ∷ b ∷ c ∷ d ∷ []) (search quote) tt
-
-  pub mul-nil : (a : R) → a * nil ≡ nil
-  mul-nil a = ring K (a ∷ []) (search quote) tt
-
-  pub one-mul : (a : R) → a ≡ one * a
-  one-mul a = ring K (a ∷ []) (search quote) tt
 
   pub alone : (a : R) → nil + a * one ≡ a
   alone a = ring K (a ∷ []) (search quote) tt

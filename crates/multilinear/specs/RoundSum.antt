@@ -1,11 +1,11 @@
--- What a layer's sumcheck sums: eq times the numerator and denominator of the parent, batched by l, over the cube.
+-- What a layer's sumcheck sums over the cube: eq times (p0·q1 + p1·q0 + lambda·q0·q1).
 -- Assumes nothing.
 use mathlib.Core.List.{List}
 use Prim.Native.Nat.{ℕ, _^_}
 use Rattle.ring.specs.Ring.{CommRing}
 use Rattle.multilinear.specs.Table
 
--- the claims on a layer: numerator and denominator of a left and of a right child
+-- the claims on a layer, GkrLayerClaims: numerator and denominator of a left (0) and of a right (1) child
 pub record Claims (A : Type 0) : Type 0 where
   pub p0 : A
   pub q0 : A
@@ -17,24 +17,26 @@ module _ (K : CommRing) where
 
   infixl 65 _+_
   infixl 70 _*_
-  -- a function of a column, at each of the four
-  abbrev pub each : {A : Type 0} → ((ℕ → R) → A) → (ℕ → Claims R) → Claims A
-  each g c = record { p0 = g (λ y. c y .p0); q0 = g (λ y. c y .q0); p1 = g (λ y. c y .p1); q1 = g (λ y. c y .q1) }
+  -- g of each of the four columns pq
+  abbrev pub each : {A : Type 0} (g : (ℕ → R) → A) (pq : ℕ → Claims R) → Claims A
+  each g pq = record { p0 = g (λ y. pq y .p0); q0 = g (λ y. pq y .q0); p1 = g (λ y. pq y .p1); q1 = g (λ y. pq y .q1) }
 
-  abbrev pub folded : (ℕ → Claims R) → R → ℕ → Claims R
-  folded c r y = each (λ t. Table.fold K t r y) c
+  -- the four columns folded at rho
+  abbrev pub folded : (pq : ℕ → Claims R) (rho : R) (y : ℕ) → Claims R
+  folded pq rho y = each (λ t. Table.fold K t rho y) pq
 
-  abbrev pub values : (ℕ → Claims R) → List R → Claims R
-  values c zs = each (λ t. Table.value K t zs) c
+  -- the values of the four columns at a point
+  abbrev pub values : (pq : ℕ → Claims R) (zs : List R) → Claims R
+  values pq zs = each (λ t. Table.value K t zs) pq
 
-  -- numerator and denominator of the parent, batched by l
-  abbrev pub cross : R → Claims R → R
-  cross l c = c .p0 * c .q1 + c .p1 * c .q0 + l * (c .q0 * c .q1)
+  -- numerator of the sum of both fractions, plus lambda times its denominator
+  abbrev pub cross : (lambda : R) (c : Claims R) → R
+  cross lambda c = c .p0 * c .q1 + c .p1 * c .q0 + lambda * (c .q0 * c .q1)
 
-  -- what the sumcheck sums, over the cube of k variables
-  unfoldable pub total : ℕ → R → (ℕ → R) → (ℕ → Claims R) → R
-  total k l e c = Table.sum K (2 ^ k) (λ y. e y * cross l (c y))
+  -- the sum over the cube of k variables, with the column eq and the four columns pq
+  unfoldable pub total : (k : ℕ) (lambda : R) (eq : ℕ → R) (pq : ℕ → Claims R) → R
+  total k lambda eq pq = Table.sum K (2 ^ k) (λ y. eq y * cross lambda (pq y))
 
-  -- the sub-round's polynomial: the columns folded by x, summed over the remaining cube
-  unfoldable pub s : ℕ → R → (ℕ → R) → (ℕ → Claims R) → R → R
-  s k l e c x = total k l (Table.fold K e x) (folded c x)
+  -- a sub-round's polynomial s at x: the sum over the remaining cube of k variables, with all columns folded at x
+  unfoldable pub s : (k : ℕ) (lambda : R) (eq : ℕ → R) (pq : ℕ → Claims R) (x : R) → R
+  s k lambda eq pq x = total k lambda (Table.fold K eq x) (folded pq x)

@@ -1,10 +1,9 @@
 -- The laws of the round sum: s(0) + s(1) is the claim, and s is found from its values at 0, 1, 2, 3.
 -- Assumes nothing.
-use mathlib.Core.Path.{_≡_, refl, sym, _∙_, ap, ap₂, fun-ext}
+use mathlib.Core.Path.{_≡_, sym, _∙_, ap, ap₂, fun-ext}
 use mathlib.Core.List.{List, [], _∷_}
-use Prim.Native.Nat.{ℕ, zero, suc, _^_}
+use Prim.Native.Nat.{ℕ, suc, _^_}
 use native.Mathlib.Nat.{pow-succ'}
-use lib.ListN.{length}
 use Rattle.ring.specs.Ring.{CommRing, num}
 use Rattle.ring.specs.Field.{Field}
 use Rattle.multilinear.specs.Forms
@@ -33,7 +32,7 @@ module _ (F : Field) where
   weight = Table.weight K
 
   abbrev each : {A : Type 0} → ((ℕ → R) → A) → (ℕ → Claims R) → Claims A
-  each g c = RoundSum.each K g c
+  each g pq = RoundSum.each K g pq
 
   abbrev folded : (ℕ → Claims R) → R → ℕ → Claims R
   folded = RoundSum.folded K
@@ -50,11 +49,11 @@ module _ (F : Field) where
   abbrev s : ℕ → R → (ℕ → R) → (ℕ → Claims R) → R → R
   s = RoundSum.s K
 
-  pub values-nil : (c : ℕ → Claims R) → values c [] ≡ c 0
-  values-nil c = λ i. each (λ t. TableLaws.value-nil K t i) c
+  pub values-nil : (pq : ℕ → Claims R) → values pq [] ≡ pq 0
+  values-nil pq = λ i. each (λ t. TableLaws.value-nil K t i) pq
 
-  pub values-fold : (c : ℕ → Claims R) (r : R) (zs : List R) → values c (r ∷ zs) ≡ values (folded c r) zs
-  values-fold c r zs = λ i. each (λ t. TableLaws.value-fold K t r zs i) c
+  pub values-fold : (pq : ℕ → Claims R) (rho : R) (zs : List R) → values pq (rho ∷ zs) ≡ values (folded pq rho) zs
+  values-fold pq rho zs = λ i. each (λ t. TableLaws.value-fold K t rho zs i) pq
 
   fold-0 : (t : ℕ → R) → fold t nil ≡ (λ y. t (even y))
   unfolding Table.fold
@@ -67,37 +66,37 @@ module _ (F : Field) where
   -- THE POLYNOMIAL
 
   -- s(0) + s(1) is the running claim
-  pub s-splits : (k : ℕ) (l : R) (e : ℕ → R) (c : ℕ → Claims R) → total (suc k) l e c ≡ s k l e c nil + s k l e c one
+  pub s-splits : (k : ℕ) (lambda : R) (eq : ℕ → R) (pq : ℕ → Claims R) → total (suc k) lambda eq pq ≡ s k lambda eq pq nil + s k lambda eq pq one
   unfolding RoundSum.total RoundSum.s
-  s-splits k l e c =
-      ap (λ n. Table.sum K n (λ y. e y * cross l (c y))) (pow-succ' 2 k)
+  s-splits k lambda eq pq =
+      ap (λ n. Table.sum K n (λ y. eq y * cross lambda (pq y))) (pow-succ' 2 k)
       ∙ TableLaws.sum-pairs K (2 ^ k) _
       ∙ TableLaws.sum-add K (2 ^ k) _ _
       ∙ sym (ap₂ _+_
-      (λ i. total k l (fold-0 e i) (λ y. each (λ t. fold-0 t i y) c))
-      (λ i. total k l (fold-1 e i) (λ y. each (λ t. fold-1 t i y) c)))
+      (λ i. total k lambda (fold-0 eq i) (λ y. each (λ t. fold-0 t i y) pq))
+      (λ i. total k lambda (fold-1 eq i) (λ y. each (λ t. fold-1 t i y) pq)))
 
   -- s is found from its values at 0, 1, 2, 3
-  pub s-through : (k : ℕ) (l : R) (e : ℕ → R) (c : ℕ → Claims R) (x : R) → Interpolate.through F (s k l e c) x ≡ s k l e c x
+  pub s-through : (k : ℕ) (lambda : R) (eq : ℕ → R) (pq : ℕ → Claims R) (x : R) → Interpolate.through F (s k lambda eq pq) x ≡ s k lambda eq pq x
   unfolding RoundSum.s RoundSum.total Table.fold
-  s-through k l e c x =
-      InterpolateLaws.through-sum F (2 ^ k) (λ y v. fold e v y * cross l (folded c v y)) x
-      (λ y. let a = c (even y) in let b = c (odd y) in
-      InterpolateLaws.through-poly F (λ v. fold e v y * cross l (folded c v y)) _ _ _ _
-      (Identities.summand K l (e (even y)) (e (odd y) - e (even y))
+  s-through k lambda eq pq x =
+      InterpolateLaws.through-sum F (2 ^ k) (λ y v. fold eq v y * cross lambda (folded pq v y)) x
+      (λ y. let a = pq (even y) in let b = pq (odd y) in
+      InterpolateLaws.through-poly F (λ v. fold eq v y * cross lambda (folded pq v y)) _ _ _ _
+      (Identities.summand K lambda (eq (even y)) (eq (odd y) - eq (even y))
       (a .p0) (b .p0 - a .p0) (a .q0) (b .q0 - a .q0) (a .p1) (b .p1 - a .p1) (a .q1) (b .q1 - a .q1)) x)
 
   -- the verifier's next claim is the sum over the folded columns
-  pub claim-step : (k : ℕ) (l : R) (e : ℕ → R) (c : ℕ → Claims R) (claim r : R) → claim ≡ total (suc k) l e c
-      → let f = s k l e c in Interpolate.cubic F (claim - f one) (f one) (f (num K 2)) (f (num K 3)) r ≡ total k l (fold e r) (folded c r)
+  pub claim-step : (k : ℕ) (lambda : R) (eq : ℕ → R) (pq : ℕ → Claims R) (claim rho : R) → claim ≡ total (suc k) lambda eq pq
+      → let f = s k lambda eq pq in Interpolate.cubic F (claim - f one) (f one) (f (num K 2)) (f (num K 3)) rho ≡ total k lambda (fold eq rho) (folded pq rho)
   unfolding RoundSum.s
-  claim-step k l e c claim r hc =
-      let f = s k l e c in
-      ap (λ v. Interpolate.cubic F v (f one) (f (num K 2)) (f (num K 3)) r)
-      (ap (λ v. v - f one) (hc ∙ s-splits k l e c) ∙ Identities.cancel K (f nil) (f one))
-      ∙ s-through k l e c r
+  claim-step k lambda eq pq claim rho hc =
+      let f = s k lambda eq pq in
+      ap (λ v. Interpolate.cubic F v (f one) (f (num K 2)) (f (num K 3)) rho)
+      (ap (λ v. v - f one) (hc ∙ s-splits k lambda eq pq) ∙ Identities.cancel K (f nil) (f one))
+      ∙ s-through k lambda eq pq rho
 
-  -- after the last sub-round the claim is the cross term of the last claims, times eq
-  pub claim-last : (l : R) (e : ℕ → R) (c : ℕ → Claims R) (a : R) → e ≡ (λ y. a * weight [] y) → total 0 l e c ≡ cross l (c 0) * a
+  -- after the last sub-round the claim is the cross term of the last claims, times eq (for the honest run, and for a soundness theorem, with claim-total and reduce-value of the fraction tree)
+  pub claim-last : (lambda : R) (eq : ℕ → R) (pq : ℕ → Claims R) (a : R) → eq ≡ (λ y. a * weight [] y) → total 0 lambda eq pq ≡ cross lambda (pq 0) * a
   unfolding RoundSum.total Table.sum Table.weight
-  claim-last l e c a h = ap (λ t. nil + t 0 * cross l (c 0)) h ∙ Identities.last K a (cross l (c 0))
+  claim-last lambda eq pq a h = ap (λ t. nil + t 0 * cross lambda (pq 0)) h ∙ Identities.last K a (cross lambda (pq 0))

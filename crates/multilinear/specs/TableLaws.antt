@@ -4,13 +4,14 @@ use mathlib.Core.Path.{_≡_, refl, sym, _∙_, ap, ap₂, fun-ext, subst}
 use mathlib.Core.List.{List, [], _∷_, _++_, append-nil, append-assoc}
 use mathlib.Core.Bool.{Bool, true, false, cond, not}
 use Prim.Native.Nat.{ℕ, zero, suc, _≤_, _<_, _/_, _%_, _^_}
-use Prim.Native.Nat.{_+_ as _+ℕ_, _*_ as _*ℕ_, _-_ as _-ℕ_}
+use Prim.Native.Nat.{_+_ as _+ℕ_, _-_ as _-ℕ_}
 use native.Mathlib.Nat.{pow-succ', suc-inj, suc-ne-zero, le-step, le-refl}
 use native.Mathlib.Numerals.{add-one}
 use native.Mathlib.Omega.{arith}
 use lib.ListN.{length, length-append}
 use lib.Dec.{T, ltb, ltb→lt, nltb→le}
 use Rattle.ring.specs.Ring.{CommRing}
+use Rattle.ring.specs.RingLaws
 use Rattle.multilinear.specs.Forms
 use Rattle.multilinear.specs.Identities
 use Rattle.multilinear.specs.Table
@@ -112,11 +113,11 @@ module _ (K : CommRing) where
   pub sum-add : (n : ℕ) (f g : ℕ → R) → sum n (λ i. f i + g i) ≡ sum n f + sum n g
   unfolding Table.sum
   sum-add zero f g = sym (add-nil nil)
-  sum-add (suc n) f g = ap (λ x. x + (f n + g n)) (sum-add n f g) ∙ Identities.swap K _ _ _ _
+  sum-add (suc n) f g = ap (λ x. x + (f n + g n)) (sum-add n f g) ∙ RingLaws.add-swap K _ _ _ _
 
   pub sum-mul : (n : ℕ) (a : R) (f : ℕ → R) → sum n (λ i. a * f i) ≡ a * sum n f
   unfolding Table.sum
-  sum-mul zero a f = sym (Identities.mul-nil K a)
+  sum-mul zero a f = sym (RingLaws.mul-nil K a)
   sum-mul (suc n) a f = ap (λ x. x + a * f n) (sum-mul n a f) ∙ sym (mul-add _ _ _)
 
   -- THE FIRST CHALLENGE BINDS THE LOWEST BIT
@@ -193,11 +194,11 @@ module _ (K : CommRing) where
   eq-value [] (y ∷ ys) e = absurd (suc-ne-zero _ (sym e))
   eq-value (x ∷ xs) [] e = absurd (suc-ne-zero _ e)
   eq-value (x ∷ xs) (y ∷ ys) e =
-      ap (λ f. value f (y ∷ ys)) (fun-ext (λ i. Identities.one-mul K (weight (x ∷ xs) i)))
+      ap (λ f. value f (y ∷ ys)) (fun-ext (λ i. sym (RingLaws.one-mul K (weight (x ∷ xs) i))))
       ∙ value-fold (λ i. one * weight (x ∷ xs) i) y ys
       ∙ ap (λ f. value f ys) (fun-ext (fold-weight one x y xs))
       ∙ value-scale (weight xs) (one * Forms.agree K x y) ys
-      ∙ ap₂ _*_ (sym (Identities.one-mul K _)) (eq-value xs ys (suc-inj e))
+      ∙ ap₂ _*_ (RingLaws.one-mul K _) (eq-value xs ys (suc-inj e))
 
   -- THE WEIGHTS BUILT BY DOUBLING: one variable more, x, takes the low half times 1 - x and the high half times x
 
