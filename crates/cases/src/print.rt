@@ -1,5 +1,6 @@
 // Answers on standard output: numbers with single spaces between them, a line each.
 use field::Ext;
+use refusal::Refusal;
 use refusal::Report;
 
 // The first number of a line, each further one, and the line's end.
@@ -24,13 +25,28 @@ pub fn ext(e: Ext) {
 }
 
 // The number of an answer and its eleven fields.
-pub fn report(r: Report) {
+fn report(r: Report) {
     first(r.number as u64);
     next(r.first as u64);
     next(r.second as u64);
     next(r.third as u64);
     ext(r.left);
     ext(r.right);
+}
+
+pub fn done(first: usize, left: Ext, right: Ext) {
+    report(Report {
+        number: 0,
+        first,
+        second: 0,
+        third: 0,
+        left,
+        right,
+    });
+}
+
+pub fn refused(refusal: Refusal) {
+    report(refusal::number_and_fields(refusal));
 }
 
 // A list: its length, then its numbers.
