@@ -49,6 +49,12 @@ pub fn refused(refusal: Refusal) {
     report(refusal::number_and_fields(refusal));
 }
 
+// The number of a refusal alone.
+pub fn refused_by(refusal: Refusal) {
+    let r = refusal::number_and_fields(refusal);
+    first(r.number as u64);
+}
+
 // A list: its length, then its numbers.
 pub fn words(s: &[u32]) {
     next(s.len() as u64);
