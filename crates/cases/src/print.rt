@@ -25,7 +25,7 @@ pub fn ext(e: Ext) {
 }
 
 // The number of an answer and its eleven fields.
-fn report(r: Report) {
+pub fn report(r: Report) {
     first(r.number as u64);
     next(r.first as u64);
     next(r.second as u64);
