@@ -1,8 +1,8 @@
 -- The value of a table by halves: one step of the recursion.
 -- Assumes nothing.
 use mathlib.Core.Path.{_≡_, refl, sym, _∙_, ap, ap₂, fun-ext}
-use mathlib.Core.List.{List, [], _∷_, _++_}
-use Prim.Native.Nat.{ℕ, zero, suc, _+_, _-_, _*_, _^_, _/_, _≤_, _<_}
+use mathlib.Core.List.{List}
+use Prim.Native.Nat.{ℕ, zero, suc, _+_, _-_, _*_, _^_, _/_, _<_}
 use native.Mathlib.Nat.{two-pow-succ}
 use native.Mathlib.Omega.{arith}
 use lib.ListN.{length, take, drop, length-drop}
@@ -11,7 +11,6 @@ use Rattle.field.specs.Ext as E
 use Rattle.field.specs.ExtRing.{ExtRing}
 use Rattle.field.specs.Cells.{cell}
 use Rattle.field.specs.CellLaws.{cell-take, cell-drop}
-use Rattle.multilinear.specs.Forms as Forms
 use Rattle.multilinear.specs.Table as Table
 use Rattle.multilinear.specs.TableLaws as TableLaws
 use Rattle.step.specs.Values.{line}

@@ -1,11 +1,10 @@
 -- A table evaluated in place: both halves brought together, entry by entry, until one entry is left.
 -- Assumes nothing.
-use mathlib.Core.Path.{_≡_, refl, sym, _∙_, ap, ap₂, fun-ext, subst}
+use mathlib.Core.Path.{_≡_, refl, _∙_, ap, ap₂, fun-ext, subst}
 use mathlib.Core.Bool.{Bool, true, false, cond, not}
 use mathlib.Core.List.{List}
 use Prim.Native.Nat.{ℕ, zero, suc, _+_, _-_, _*_, _/_, _^_, _<_, _≤_}
-use native.Mathlib.Nat.{not-suc-le-zero, two-pow-succ, pow-le-pow-right}
-use native.Mathlib.Bridge.{le-by-compare, IsLe}
+use native.Mathlib.Nat.{not-suc-le-zero, two-pow-succ}
 use native.Mathlib.Omega.{arith}
 use borrow.Author.Count.{below-more}
 use lib.Dec.{T, ltb, ltb→lt, nltb→le}
@@ -61,10 +60,6 @@ in-place-turn ws ws' (suc j) half z x t l e d g h =
     let e′ : half / 2 ≡ 2 ^ j = half-of (suc j) half l e ∙ ap (λ i. 2 ^ i) q in
     let m : Merged ws ws' (2 ^ j) (2 ^ j) (z j) = rw (e′, d, q) at g in
     rw q (ap (Tables.overwrite ExtRing j z) (merged-table ws ws' j (z j) m) ∙ h)
-
-pub power-below : (k n : ℕ) → k ≤ n → 2 ^ k ≤ 2 ^ n
-unfolding IsLe
-power-below k n h = pow-le-pow-right (le-by-compare 1 2 tt) h
 
 -- none is left
 pub in-place-end : (k : ℕ) (ws : List ℕ) (z t : ℕ → E.Ext) → k ≤ 0 → Tables.overwrite ExtRing k z (cell ws) ≡ t → cell ws ≡ t

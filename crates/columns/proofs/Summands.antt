@@ -1,17 +1,15 @@
 -- The three sums of a sub-round, from entries read off five columns.
 -- Assumes nothing.
-use mathlib.Core.Path.{_≡_, _∙_, ap₂}
+use mathlib.Core.Path.{_≡_, ap₂}
 use mathlib.Core.List.{List}
 use Prim.Native.Nat.{ℕ, _+_, _*_, _≤_}
 use native.Mathlib.Omega.{arith}
 use Rattle.field.specs.Ext as E
-use Rattle.field.specs.ExtRing.{ExtRing}
 use Rattle.field.specs.declared.Ext.{Ext}
 use Rattle.field.specs.Element.{dec, Is}
 use Rattle.field.specs.ElementLaws.{is-eq}
 use Rattle.field.specs.Cells.{cell}
 use Rattle.multilinear.specs.Table as Table
-use Rattle.multilinear.specs.RoundSum as RoundSum
 use Rattle.multilinear.specs.RoundSum.{Claims}
 use Rattle.step.specs.declared.Entry.{Entry}
 use Rattle.step.specs.declared.Three.{Three}

@@ -1,12 +1,12 @@
 -- One turn of the loops that answer an element, and their last.
 -- Assumes nothing.
 use mathlib.Core.Path.{_≡_, refl, sym, _∙_, ap, ap₂, fun-ext}
-use mathlib.Core.List.{List, [], _∷_, _++_}
-use Prim.Native.Nat.{ℕ, zero, suc, _+_, _-_, _*_, _<_, _≤_, _^_, _/_}
+use mathlib.Core.List.{List}
+use Prim.Native.Nat.{ℕ, zero, suc, _+_, _-_, _<_, _≤_}
 use native.Mathlib.Nat.{not-suc-le-zero}
 use native.Mathlib.Numerals.{add-one}
 use native.Mathlib.Omega.{arith}
-use lib.ListN.{length, getD}
+use lib.ListN.{getD}
 use Rattle.field.specs.Base as B
 use Rattle.field.specs.Base.{P}
 use Rattle.field.specs.Ext as E
@@ -20,11 +20,7 @@ use Rattle.columns.specs.TablesLaws as TablesLaws
 use Rattle.columns.specs.Passes.{cells, baseCell}
 use Rattle.columns.specs.PointLaws.{cells-length, cells-snoc}
 
--- the words that loops start from
-pub one-is : E.ext 1 0 0 0 ≡ E.one
-unfolding E.one E.emb E.ext B.one B.nil
-one-is = refl
-
+-- the words that sums start from
 pub zero-is : E.ext 0 0 0 0 ≡ E.nil
 unfolding E.nil E.emb E.ext B.nil
 zero-is = refl

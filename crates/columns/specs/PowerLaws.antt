@@ -3,7 +3,7 @@
 use mathlib.Core.Path.{_≡_, refl, sym, _∙_, ap}
 use mathlib.Core.Bool.{Bool, true, false, cond}
 use mathlib.Core.Logic.{⊎-elim}
-use Prim.Native.Nat.{ℕ, zero, suc, _≤_, _<_, _^_, _+_}
+use Prim.Native.Nat.{ℕ, zero, suc, _≤_, _<_, _^_}
 use native.Mathlib.Nat.{eq-or-lt-of-le, pow-le-pow-right, two-pow-succ, one-le-pow}
 use native.Mathlib.Bridge.{le-by-compare, IsLe}
 use native.Mathlib.Omega.{arith}
@@ -56,7 +56,6 @@ any-of (suc m) limit n h l = one-of m limit n (eqb (2 ^ m) n) refl h l (λ q. an
 pub variables-of : (n : ℕ) → powerOfTwo n ≡ true → n ≤ maxRows → n ≡ 2 ^ variablesOf n
 variables-of n h l = any-of n maxRounds n h l
 
--- powers up to the limit are small
-pub power-le : (j : ℕ) → j ≤ maxRounds → 2 ^ j ≤ 2 ^ maxRounds
+pub power-le : (j k : ℕ) → j ≤ k → 2 ^ j ≤ 2 ^ k
 unfolding IsLe
-power-le j h = pow-le-pow-right (le-by-compare 1 2 tt) h
+power-le j k h = pow-le-pow-right (le-by-compare 1 2 tt) h

@@ -1,14 +1,11 @@
 -- In place, entry 0 ends up as the value; Horner's rule gives the plain sum; eq goes on by one coordinate of each point.
 -- Assumes nothing.
-use mathlib.Core.Path.{_≡_, refl, sym, _∙_, ap, ap₂}
+use mathlib.Core.Path.{_≡_, refl, sym, _∙_, ap}
 use mathlib.Core.Bool.{cond}
 use mathlib.Core.List.{List, [], _∷_, _++_}
 use Prim.Native.Nat.{ℕ, zero, suc, _<_, _^_}
-use Prim.Native.Nat.{_+_ as _+ℕ_}
-use native.Mathlib.Nat.{suc-inj, suc-ne-zero, add-suc, suc-add}
-use native.Mathlib.Omega.{arith}
+use native.Mathlib.Nat.{suc-inj, suc-ne-zero}
 use borrow.Author.Tests.{lt-ltb}
-use lib.Dec.{ltb}
 use lib.ListN.{length}
 use Rattle.ring.specs.Ring.{CommRing, pow}
 use Rattle.ring.specs.Quote.{ring, quote}

@@ -1,9 +1,9 @@
 -- What a call answers and leaves, by the outcome of its checks.
 -- Assumes nothing.
-use mathlib.Core.Path.{_≡_, refl, sym, _∙_, ap, ap₂}
-use mathlib.Core.Bool.{Bool, true, false, cond}
+use mathlib.Core.Path.{_≡_, sym, _∙_, ap}
+use mathlib.Core.Bool.{true, false, cond}
 use mathlib.Core.List.{List, [], _++_}
-use Prim.Native.Nat.{ℕ, _+_, _*_, _/_, _≤_}
+use Prim.Native.Nat.{ℕ, _*_, _/_}
 use native.Mathlib.Omega.{arith}
 use borrow.Author.Tests.{eq-eqb, ne-eqb}
 use lib.Dec.{eqb}
@@ -15,13 +15,11 @@ use Rattle.field.specs.declared.Ext.{Ext}
 use Rattle.field.specs.Element.{dec, Is}
 use Rattle.field.specs.ElementLaws.{enc-of-is}
 use Rattle.field.specs.Cells.{cell}
-use Rattle.field.specs.Column.{flat}
 use Rattle.field.specs.ColumnLaws.{length-flat}
 use Rattle.refusal.specs.declared.Refusal.{Refusal}
 use Rattle.multilinear.specs.Table as Table
 use Rattle.poly.specs.declared.Outcome.{Outcome}
 use Rattle.poly.specs.declared.Outcome.the-variants.{Done, Refused}
-use Rattle.poly.specs.declared.Evaluated.{Evaluated}
 use Rattle.poly.specs.declared.Evaluated.the-variants.{Value, Refused as RefusedValue}
 use Rattle.poly.specs.Checks.{count}
 use Rattle.poly.specs.Evaluations.{answer, written, InPlace, Filled}

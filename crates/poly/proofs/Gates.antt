@@ -1,12 +1,12 @@
 -- What is known of the lists where a helper is not refused.
 -- Assumes nothing.
-use mathlib.Core.Path.{_≡_, refl, sym, _∙_, ap}
-use mathlib.Core.Bool.{Bool, true, false, _&&_}
+use mathlib.Core.Path.{_≡_, _∙_, ap}
+use mathlib.Core.Bool.{true, _&&_}
 use mathlib.Core.List.{List}
-use Prim.Native.Nat.{ℕ, _+_, _*_, _/_, _%_, _^_, _≤_}
+use Prim.Native.Nat.{ℕ, _*_, _/_, _%_, _^_, _≤_}
 use native.Mathlib.Omega.{arith}
 use borrow.Author.Tests.{eqb-true, leb-true}
-use lib.Dec.{eqb, leb}
+use lib.Dec.{eqb}
 use lib.ListN.{length}
 use Rattle.field.specs.declared.Ext.{Ext}
 use Rattle.field.specs.Element.{Canon, canonWords}
@@ -15,14 +15,13 @@ use Rattle.field.specs.ExtRing.{both}
 use Rattle.field.specs.Cells.{Clean}
 use Rattle.wire.specs.Words.{allCanonical}
 use Rattle.wire.specs.WordLaws.{canonical-below}
-use Rattle.refusal.specs.Limits.{maxRounds, maxRows}
-use Rattle.refusal.specs.Powers.{powerOfTwo}
+use Rattle.refusal.specs.Limits.{maxRounds}
 use Rattle.columns.specs.Powers.{variablesOf}
 use Rattle.columns.specs.PowerLaws.{variables-of}
 use Rattle.columns.specs.Passes.{Room}
 use Rattle.poly.specs.declared.Outcome.the-variants.{Done}
-use Rattle.poly.specs.Checks.{refusal, whole, count}
-use Rattle.poly.specs.CheckLaws.{Passed, passed}
+use Rattle.poly.specs.Checks.{whole, count}
+use Rattle.poly.specs.CheckLaws.{passed}
 use Rattle.poly.specs.Evaluations.{eqSizes, eqRefusal, mleSizes, mleRefusal, cubeSizes, cubeRefusal, hornerSizes, hornerRefusal, hornerBaseRefusal}
 use Rattle.poly.specs.Folds.{foldSizes, foldRefusal, roundSizes, roundRefusal, allFive}
 

@@ -1,16 +1,13 @@
 -- A sub-round's polynomial: the sums over pairs of entries, and the constant of one entry.
 -- Assumes nothing.
-use mathlib.Core.Path.{_≡_, refl, sym, _∙_, ap, ap₂}
+use mathlib.Core.Path.{_≡_, sym, _∙_, ap}
 use mathlib.Core.List.{List, [], _∷_}
-use Prim.Native.Nat.{ℕ, zero, suc, _+_, _*_, _/_, _^_}
+use Prim.Native.Nat.{ℕ, zero, suc, _/_, _^_}
 use native.Mathlib.Nat.{two-pow-succ, one-le-pow}
 use native.Mathlib.Omega.{arith}
-use lib.ListN.{length}
 use Rattle.ring.specs.Quote.{ring, quote}
 use Rattle.field.specs.Ext as E
 use Rattle.field.specs.ExtRing.{ExtRing}
-use Rattle.field.specs.declared.Ext.{Ext}
-use Rattle.field.specs.Element.{dec, enc, Is}
 use Rattle.field.specs.ElementLaws.{enc-of-is, is-eq}
 use Rattle.field.specs.Cells.{cell}
 use Rattle.refusal.specs.declared.Refusal.{Refusal}
@@ -22,7 +19,6 @@ use Rattle.step.specs.Values.{IsThree, two, three}
 use Rattle.columns.specs.Passes.{summandOf, Sums, Constant}
 use Rattle.poly.specs.declared.Outcome.{Outcome}
 use Rattle.poly.specs.declared.Outcome.the-variants.{Done, Refused}
-use Rattle.poly.specs.declared.RoundEvals.{RoundEvals}
 use Rattle.poly.specs.declared.RoundEvals.the-variants.{Values, Refused as RefusedValues}
 use Rattle.poly.specs.Folds.{roundAt, rounds}
 

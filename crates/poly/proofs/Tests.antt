@@ -8,7 +8,7 @@ use lib.Dec.{eqb}
 use Rattle.refusal.specs.declared.Refusal.the-variants.{BadWord}
 use Rattle.poly.specs.declared.Outcome.{Outcome}
 use Rattle.poly.specs.declared.Outcome.the-variants.{Done, Refused}
-use Rattle.poly.specs.Checks.{unless, andWords}
+use Rattle.poly.specs.Checks.{andWords}
 
 -- the first fails
 pub no-first : (a b : ℕ) (w : Bool) → (a ≡ b → ⊥) → false ≡ (eqb a b && w)

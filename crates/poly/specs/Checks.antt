@@ -22,8 +22,7 @@ refusal s words =
     unless (s .lists) BadLength
     (unless (leb (s .variables) maxRounds) TooManyRounds
     (unless (s .table) BadLength
-    (unless (leb (s .entries) maxRows) TooManyRows
-    (unless (s .power) NotPowerOfTwo
+    (unless (leb (s .entries) maxRows) TooManyRows (unless (s .power) NotPowerOfTwo
     (unless (s .room) ShortRoom
     (unless words BadWord Done))))))
 

@@ -2,7 +2,7 @@
 -- Assumes nothing.
 use mathlib.Core.Bool.{Bool, true, _&&_}
 use mathlib.Core.List.{List, _++_}
-use Prim.Native.Nat.{ℕ, _*_, _/_, _^_}
+use Prim.Native.Nat.{ℕ, _*_, _^_}
 use lib.Dec.{eqb, leb}
 use lib.ListN.{length, drop}
 use Rattle.field.specs.Ext as E

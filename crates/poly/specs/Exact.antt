@@ -7,7 +7,7 @@ use Rattle.ring.specs.Ring.{CommRing, num}
 use Rattle.ring.specs.Field.{Field}
 use Rattle.ring.specs.Quote.{ring, quote}
 use Rattle.field.specs.Ext.{ext}
-use Rattle.field.specs.ExtRing.{ExtRing, arithmetic}
+use Rattle.field.specs.ExtRing.{arithmetic}
 use Rattle.field.specs.Extension.{Extension}
 use Rattle.multilinear.specs.Forms
 use Rattle.multilinear.specs.Identities

@@ -18,7 +18,6 @@ use Rattle.multilinear.specs.RoundSum as RoundSum
 use Rattle.multilinear.specs.RoundSum.{Claims}
 use Rattle.columns.specs.Powers.{variablesOf}
 use Rattle.columns.specs.Passes.{claims}
-use Rattle.step.specs.declared.Three.{Three}
 use Rattle.step.specs.Values.{two, three}
 use Rattle.poly.specs.declared.Outcome.{Outcome}
 use Rattle.poly.specs.declared.Outcome.the-variants.{Done, Refused}

@@ -1,10 +1,11 @@
-use mathlib.Core.Path.{_≡_, refl, sym, _∙_, ap}
-use Prim.Native.Nat.{ℕ, _+_, _*_, _-_, _/_, _^_, _<_, _≤_}
+use mathlib.Core.Path.{_≡_, _∙_, ap}
+use Prim.Native.Nat.{_-_, _≤_}
 use Rattle.field.specs.Element.{dec, Is}
 use Rattle.field.specs.ExtRing.{ExtRing}
 use Rattle.multilinear.specs.Table as Table
 use Rattle.columns.specs.Passes.{cells}
-use Rattle.columns.proofs.Turns.{one-is, eq-none, eq-turn}
+use Rattle.columns.proofs.Turns.{eq-none, eq-turn}
+use Rattle.step.proofs.Algebra.{one-is}
 use borrow.Author.Needs.{needs}
 use native.Mathlib.Omega.{arith}
 use Rattle.columns.proofs.eq.eq_points.Statement.{statement}
@@ -42,7 +43,9 @@ loop-again : tie.Need-loop-again Inv-loop μ-loop
 loop-again c = (omega arith, record { canon = search needs; value = eq-turn (c .before .before .before .before .before .before .before .args .x .now) (c .before .before .before .before .before .before .before .args .y .now) (c .before .before .before .before .loop .i) (dec (c .before .before .before .before .loop .eq)) _ _ (c .before .before .before .before .loop .inv .1 .value) (c .before .before .load .ensures .value) (c .before .load2 .ensures .value) (c .eq-step .ensures .value) })
 
 returns : tie.Need-returns Inv-loop μ-loop
-returns c = let e : c .before .loop .i ≡ c .before .before .before .before .args .n = omega arith in record { canon = search needs; value = c .before .loop .inv .1 .value ∙ ap (λ k. Table.eq ExtRing (cells (c .before .before .before .before .args .x .now) 0 k) (cells (c .before .before .before .before .args .y .now) 0 k)) e }
+returns c =
+    let e : c .before .loop .i ≡ c .before .before .before .before .args .n = omega arith in
+    record { canon = search needs; value = c .before .loop .inv .1 .value ∙ ap (λ k. Table.eq ExtRing (cells (c .before .before .before .before .args .x .now) 0 k) (cells (c .before .before .before .before .args .y .now) 0 k)) e }
 
 pub eq-points-spec : {M : Type 1} → statement M
 eq-points-spec =

@@ -1,11 +1,11 @@
-use mathlib.Core.Path.{_≡_, refl, sym, _∙_, ap}
-use Prim.Native.Nat.{ℕ, _+_, _*_, _-_, _/_, _^_, _<_, _≤_}
+use mathlib.Core.Path.{_≡_, _∙_}
+use Prim.Native.Nat.{_-_, _^_, _≤_}
 use lib.ListN.{length}
-use Rattle.field.specs.Cells.{cell, Clean}
+use Rattle.field.specs.Cells.{Clean}
 use Rattle.field.specs.CellLaws.{clean-zeros}
 use Rattle.columns.specs.Passes.{cells}
-use Rattle.columns.proofs.Turns.{one-is}
-use Rattle.columns.proofs.Merges.{power-below}
+use Rattle.step.proofs.Algebra.{one-is}
+use Rattle.columns.specs.PowerLaws.{power-le}
 use Rattle.columns.proofs.Grows.{Weighs, double-le, weights-start, weights-turn, power-turn, weights-all}
 use borrow.Author.Needs.{needs}
 use native.Mathlib.Omega.{arith}
@@ -28,19 +28,27 @@ clear-requires : tie.Need-clear-requires Inv-loop μ-loop
 clear-requires c κs = search needs
 
 store-requires : tie.Need-store-requires Inv-loop μ-loop
-store-requires c κs = let p = c .before .before .before .before .before .before .before .pre in (omega (arith, p, c .before .before .before .clear .kept, power-below 0 (c .before .before .before .before .before .before .before .args .n) (omega arith)), (rw (c .before .before .before .clear .ensures) (clean-zeros (length (c .before .before .before .before .before .before .before .args .ws .now))), search needs))
+store-requires c κs =
+    let p = c .before .before .before .before .before .before .before .pre in
+    (omega (arith, p, c .before .before .before .clear .kept, power-le 0 (c .before .before .before .before .before .before .before .args .n) (omega arith)), (rw (c .before .before .before .clear .ensures) (clean-zeros (length (c .before .before .before .before .before .before .before .args .ws .now))), search needs))
 
 loop-holds : tie.Need-loop-holds Inv-loop μ-loop
 loop-holds c = (omega arith, search needs, search needs, c .before .before .store .ensures .clean, weights-start _ (c .before .before .store .ensures .here ∙ one-is))
 
 load-requires : tie.Need-load-requires Inv-loop μ-loop
-load-requires c κs = let p = c .before .before .before .before .before .before .before .before .before .before .before .before .before .pre in (omega (arith, p), search needs)
+load-requires c κs =
+    let p = c .before .before .before .before .before .before .before .before .before .before .before .before .before .pre in
+    (omega (arith, p), search needs)
 
 grow-requires : tie.Need-grow-requires Inv-loop μ-loop
-grow-requires c κs = let p = c .before .before .before .before .before .before .before .before .before .before .before .before .before .before .pre in (omega (arith, p, c .before .before .before .before .before .before .store .kept, c .before .before .before .before .before .before .before .before .before .before .clear .kept, double-le (c .before .before .before .loop .j) (c .before .before .before .before .before .before .before .before .before .before .before .before .before .before .args .n) (omega arith)), search needs)
+grow-requires c κs =
+    let p = c .before .before .before .before .before .before .before .before .before .before .before .before .before .before .pre in
+    (omega (arith, p, c .before .before .before .before .before .before .store .kept, c .before .before .before .before .before .before .before .before .before .before .clear .kept, double-le (c .before .before .before .loop .j) (c .before .before .before .before .before .before .before .before .before .before .before .before .before .before .args .n) (omega arith)), search needs)
 
 mul-size : tie.Need-mul-size Inv-loop μ-loop
-mul-size c = let p = c .before .before .before .before .before .before .before .before .before .before .before .before .before .before .before .before .before .pre in omega (arith, p, c .before .before .before .before .before .before .before .before .before .store .kept, c .before .before .before .before .before .before .before .before .before .before .before .before .before .clear .kept, double-le (c .before .before .before .before .before .before .loop .j) (c .before .before .before .before .before .before .before .before .before .before .before .before .before .before .before .before .before .args .n) (omega arith))
+mul-size c =
+    let p = c .before .before .before .before .before .before .before .before .before .before .before .before .before .before .before .before .before .pre in
+    omega (arith, p, c .before .before .before .before .before .before .before .before .before .store .kept, c .before .before .before .before .before .before .before .before .before .before .before .before .before .clear .kept, double-le (c .before .before .before .before .before .before .loop .j) (c .before .before .before .before .before .before .before .before .before .before .before .before .before .before .before .before .before .args .n) (omega arith))
 
 add-j : tie.Need-add-j Inv-loop μ-loop
 add-j c = search needs

@@ -22,7 +22,10 @@ store-requires : tie.Need-store-requires
 store-requires c κs = search needs
 
 store-requires-2 : tie.Need-store-requires-2
-store-requires-2 c κs = let p = c .before .before .before .before .before .before .before .before .before .pre in let k = c .before .before .before .store .kept in (omega (arith, p, k), (c .before .before .before .store .ensures .clean, search needs))
+store-requires-2 c κs =
+    let p = c .before .before .before .before .before .before .before .before .before .pre in
+    let k = c .before .before .before .store .kept in
+    (omega (arith, p, k), (c .before .before .before .store .ensures .clean, search needs))
 
 same-length : tie.Need-same-length
 same-length c = search needs

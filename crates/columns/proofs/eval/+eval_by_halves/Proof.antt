@@ -1,7 +1,7 @@
-use mathlib.Core.Path.{_≡_, refl, sym, _∙_}
-use Prim.Native.Nat.{_+_, _-_, _*_, _^_, _/_}
+use mathlib.Core.Path.{sym, _∙_}
+use Prim.Native.Nat.{_-_, _/_}
 use native.Mathlib.Nat.{one-le-pow}
-use lib.ListN.{length, take, drop, length-drop}
+use lib.ListN.{length, drop, length-drop}
 use lib.Seq.{length-take-le}
 use Rattle.field.specs.CellLaws.{clean-take, clean-drop}
 use Rattle.columns.proofs.Halves.{half, value-none, value-step}
@@ -45,7 +45,9 @@ eval-by-halves-load-requires : (t : ℕ) → eval-by-halves-lts.Need-load-requir
   mix-reads.Asked,
   mix-reads.Learnt,
 ) (eval-by-halves-at t) eval-by-halves.Post
-eval-by-halves-load-requires t c κs = let p = c .before .before .before .pre .1 in (omega (arith, p, one-le-pow (c .before .before .before .args .n) 2 (omega arith)), search needs)
+eval-by-halves-load-requires t c κs =
+    let p = c .before .before .before .pre .1 in
+    (omega (arith, p, one-le-pow (c .before .before .before .args .n) 2 (omega arith)), search needs)
 
 eval-by-halves-returns : (t : ℕ) → eval-by-halves-lts.Need-returns (
   load-reads.Asked,
@@ -55,7 +57,9 @@ eval-by-halves-returns : (t : ℕ) → eval-by-halves-lts.Need-returns (
   mix-reads.Asked,
   mix-reads.Learnt,
 ) (eval-by-halves-at t) eval-by-halves.Post
-eval-by-halves-returns t c = let a = c .before .before .before .before .args in record { canon = search needs; value = value-none (a .n) (a .t .now) (a .x .now) (c .before .if1 .taken) (c .load .ensures .value) }
+eval-by-halves-returns t c =
+    let a = c .before .before .before .before .args in
+    record { canon = search needs; value = value-none (a .n) (a .t .now) (a .x .now) (c .before .if1 .taken) (c .load .ensures .value) }
 
 eval-by-halves-slice-aggregate-eval-by-halves :
     (t : ℕ) → eval-by-halves-lts.Need-slice-aggregate-eval-by-halves (
@@ -66,7 +70,9 @@ eval-by-halves-slice-aggregate-eval-by-halves :
       mix-reads.Asked,
       mix-reads.Learnt,
     ) (eval-by-halves-at t) eval-by-halves.Post
-eval-by-halves-slice-aggregate-eval-by-halves t c = let l = c .before .before .before .before .args .t .now in sym (length-take-le (length l / 2) l (omega arith))
+eval-by-halves-slice-aggregate-eval-by-halves t c =
+    let l = c .before .before .before .before .args .t .now in
+    sym (length-take-le (length l / 2) l (omega arith))
 
 eval-by-halves-sub-eval-by-halves : (t : ℕ) → eval-by-halves-lts.Need-sub-eval-by-halves (
   load-reads.Asked,

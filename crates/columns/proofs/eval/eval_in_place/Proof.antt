@@ -1,12 +1,14 @@
 use Rattle.field.specs.Ext as E
 use Rattle.columns.proofs.Merges.{in-place-end, in-place-value, in-place-table}
-use mathlib.Core.Path.{_≡_, refl, sym, _∙_, ap}
-use Prim.Native.Nat.{ℕ, _+_, _*_, _-_, _/_, _^_, _<_, _≤_}
+use Rattle.columns.specs.PowerLaws.{power-le}
+use mathlib.Core.Path.{_≡_, refl, _∙_, ap}
+use Prim.Native.Nat.{ℕ, _^_, _≤_}
 use lib.ListN.{length}
 use Rattle.field.specs.Cells.{cell, Clean}
 use Rattle.field.specs.ExtRing.{ExtRing}
 use Rattle.columns.specs.Tables as Tables
-use Rattle.columns.proofs.Merges.{power-below, half-of, in-place-turn}
+use Rattle.columns.proofs.Merges.{half-of, in-place-turn}
+use Rattle.columns.specs.PowerLaws.{power-le}
 use borrow.Author.Needs.{needs}
 use native.Mathlib.Omega.{arith}
 use Rattle.columns.proofs.eval.eval_in_place.Statement.{statement}
@@ -32,7 +34,9 @@ load-requires : tie.Need-load-requires Inv-loop μ-loop
 load-requires c κs = search needs
 
 merge-requires : tie.Need-merge-requires Inv-loop μ-loop
-merge-requires c κs = let p = c .before .before .before .before .before .before .pre in (omega (arith, p, power-below (c .before .before .before .loop .k) (c .before .before .before .before .before .before .args .n) (omega arith)), search needs)
+merge-requires c κs =
+    let p = c .before .before .before .before .before .before .pre in
+    (omega (arith, p, power-le (c .before .before .before .loop .k) (c .before .before .before .before .before .before .args .n) (omega arith)), search needs)
 
 loop-less : tie.Need-loop-less Inv-loop μ-loop
 loop-less c = search needs
@@ -41,7 +45,9 @@ loop-again : tie.Need-loop-again Inv-loop μ-loop
 loop-again c = (omega arith, omega (arith, c .before .before .merge .kept), half-of (c .before .before .before .before .before .before .loop .k) (c .before .before .before .before .before .before .loop .half) (omega arith) (c .before .before .before .before .before .before .loop .inv .2), c .before .before .merge .ensures .clean, in-place-turn _ _ (c .before .before .before .before .before .before .loop .k) (c .before .before .before .before .before .before .loop .half) (cell (c .before .before .before .before .before .before .before .before .before .args .x .now)) _ _ (omega arith) (c .before .before .before .before .before .before .loop .inv .2) (c .before .before .before .load .ensures .value) (c .before .before .merge .ensures) (c .before .before .before .before .before .before .loop .inv .4))
 
 load-requires-2 : tie.Need-load-requires-2 Inv-loop μ-loop
-load-requires-2 c κs = let p = c .before .before .before .before .before .pre in (omega (arith, p, power-below 0 (c .before .before .before .before .before .args .n) (omega arith)), search needs)
+load-requires-2 c κs =
+    let p = c .before .before .before .before .before .pre in
+    (omega (arith, p, power-le 0 (c .before .before .before .before .before .args .n) (omega arith)), search needs)
 
 same-length : tie.Need-same-length Inv-loop μ-loop
 same-length c = search needs

@@ -1,7 +1,7 @@
-use mathlib.Core.Path.{_≡_, refl, sym, _∙_, ap}
-use Prim.Native.Nat.{ℕ, _+_, _*_, _-_, _/_, _^_, _<_, _≤_}
-use lib.ListN.{length, drop, replicate}
-use Rattle.field.specs.Element.{dec, Is}
+use mathlib.Core.Path.{_≡_}
+use Prim.Native.Nat.{_-_, _≤_}
+use lib.ListN.{length}
+use Rattle.field.specs.Element.{dec}
 use Rattle.columns.specs.Passes.{Merged}
 use Rattle.columns.proofs.Merges.{merged-none, merged-next}
 use borrow.Author.Needs.{needs}
@@ -37,7 +37,9 @@ same-length : tie.Need-same-length Inv-loop μ-loop
 same-length c = search needs
 
 returns : tie.Need-returns Inv-loop μ-loop
-returns c = let e : c .before .loop .i ≡ c .before .before .before .args .half = omega arith in rw e at (c .before .loop .inv .2)
+returns c =
+    let e : c .before .loop .i ≡ c .before .before .before .args .half = omega arith in
+    rw e at (c .before .loop .inv .2)
 
 pub merge-spec : {M : Type 1} → statement M
 merge-spec =

@@ -1,6 +1,5 @@
-use Rattle.field.specs.Element.{dec, Is}
+use Rattle.field.specs.Element.{dec}
 use Rattle.columns.proofs.Merges.{stored-line}
-use native.Mathlib.Omega.{arith}
 use borrow.Author.Needs.{needs}
 use Rattle.columns.proofs.eval.merge_entry.Statement.{statement}
 use Rattle.columns.proofs.eval.merge_entry.Tie as tie

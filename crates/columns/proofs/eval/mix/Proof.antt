@@ -1,4 +1,3 @@
-use native.Mathlib.Omega.{arith}
 use borrow.Author.Needs.{needs}
 use Rattle.columns.proofs.eval.mix.Statement.{statement}
 use Rattle.columns.proofs.eval.mix.Tie as tie

@@ -1,5 +1,4 @@
 use Rattle.multilinear.specs.Table as Table
-use native.Mathlib.Omega.{arith}
 use borrow.Author.Needs.{needs}
 use Rattle.columns.proofs.fold.fold_entry.Statement.{statement}
 use Rattle.columns.proofs.fold.fold_entry.Tie as tie

@@ -1,9 +1,9 @@
-use mathlib.Core.Path.{_≡_, refl, sym, _∙_, ap}
-use Prim.Native.Nat.{ℕ, _+_, _*_, _-_, _/_, _^_, _<_, _≤_}
-use lib.ListN.{length, drop, replicate}
+use mathlib.Core.Path.{_≡_}
+use Prim.Native.Nat.{_*_, _-_, _≤_}
+use lib.ListN.{length, drop}
 use mathlib.Core.List.{_++_}
-use Rattle.field.specs.Element.{dec, Is}
-use Rattle.field.specs.Cells.{cell, Clean}
+use Rattle.field.specs.Element.{dec}
+use Rattle.field.specs.Cells.{cell}
 use Rattle.field.specs.ExtRing.{ExtRing}
 use Rattle.multilinear.specs.Table as Table
 use Rattle.field.specs.Column.{flat}
@@ -45,7 +45,9 @@ same-length : tie.Need-same-length Inv-loop μ-loop
 same-length c = search needs
 
 returns : tie.Need-returns Inv-loop μ-loop
-returns c = let e : c .before .loop .y ≡ c .before .before .before .before .args .n = omega arith in cc
+returns c =
+    let e : c .before .loop .y ≡ c .before .before .before .before .args .n = omega arith in
+    cc
 
 pub fold-into-spec : {M : Type 1} → statement M
 fold-into-spec =

@@ -1,5 +1,4 @@
 use Rattle.columns.proofs.Turns.{base-cell}
-use native.Mathlib.Omega.{arith}
 use borrow.Author.Needs.{needs}
 use Rattle.columns.proofs.horner.base_at.Statement.{statement}
 use Rattle.columns.proofs.horner.base_at.Tie as tie

@@ -1,7 +1,7 @@
-use mathlib.Core.Path.{_≡_, refl, sym, _∙_, ap}
-use Prim.Native.Nat.{ℕ, _+_, _*_, _-_, _/_, _^_, _<_, _≤_}
+use mathlib.Core.Path.{_∙_}
+use Prim.Native.Nat.{_≤_}
 use Rattle.field.specs.Element.{dec, Is}
-use Rattle.field.specs.Cells.{cell, Clean}
+use Rattle.field.specs.Cells.{cell}
 use Rattle.columns.proofs.Turns.{zero-is, from, horner-start, horner-turn, horner-end}
 use borrow.Author.Needs.{needs}
 use native.Mathlib.Omega.{arith}

@@ -1,5 +1,5 @@
-use mathlib.Core.Path.{_≡_, refl, sym, _∙_, ap}
-use Prim.Native.Nat.{ℕ, _+_, _*_, _-_, _/_, _^_, _<_, _≤_}
+use mathlib.Core.Path.{_∙_}
+use Prim.Native.Nat.{_≤_}
 use Rattle.field.specs.Element.{dec, Is}
 use Rattle.columns.specs.Passes.{baseCell}
 use Rattle.columns.proofs.Turns.{zero-is, from, horner-start, horner-turn, horner-end}

@@ -1,5 +1,6 @@
-use mathlib.Core.Path.{_≡_, refl, sym, _∙_, ap}
-use Prim.Native.Nat.{ℕ, _+_, _*_, _-_, _/_, _^_, _<_, _≤_}
+use Rattle.refusal.specs.Limits.{maxRounds}
+use mathlib.Core.Path.{_≡_}
+use Prim.Native.Nat.{_-_, _^_, _≤_}
 use Rattle.columns.specs.PowerLaws.{power-le}
 use Rattle.columns.proofs.Grows.{power-turn}
 use borrow.Author.Needs.{needs}
@@ -19,7 +20,7 @@ loop-holds : tie.Need-loop-holds Inv-loop μ-loop
 loop-holds c = search needs
 
 mul-p : tie.Need-mul-p Inv-loop μ-loop
-mul-p c = omega (arith, power-le (c .before .loop .j) (omega arith))
+mul-p c = omega (arith, power-le (c .before .loop .j) maxRounds (omega arith))
 
 add-j : tie.Need-add-j Inv-loop μ-loop
 add-j c = search needs
@@ -31,7 +32,9 @@ loop-again : tie.Need-loop-again Inv-loop μ-loop
 loop-again c = (omega arith, power-turn _ (c .before .loop .j) (c .before .loop .inv .1))
 
 returns : tie.Need-returns Inv-loop μ-loop
-returns c = let e : c .before .loop .j ≡ c .before .before .args .k = omega arith in cc
+returns c =
+    let e : c .before .loop .j ≡ c .before .before .args .k = omega arith in
+    cc
 
 pub power-spec : {M : Type 1} → statement M
 power-spec =

@@ -1,5 +1,4 @@
 use Rattle.columns.proofs.Summands.{pair-summands}
-use native.Mathlib.Omega.{arith}
 use borrow.Author.Needs.{needs}
 use Rattle.columns.proofs.round.pair_at.Statement.{statement}
 use Rattle.columns.proofs.round.pair_at.Tie as tie

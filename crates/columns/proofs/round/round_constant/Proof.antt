@@ -1,6 +1,5 @@
 use Rattle.columns.specs.Passes.{claims}
 use Rattle.columns.proofs.Summands.{constant-is}
-use native.Mathlib.Omega.{arith}
 use borrow.Author.Needs.{needs}
 use Rattle.columns.proofs.round.round_constant.Statement.{statement}
 use Rattle.columns.proofs.round.round_constant.Tie as tie

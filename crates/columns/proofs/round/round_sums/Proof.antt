@@ -1,7 +1,7 @@
 use Rattle.columns.proofs.Summands.{room-less}
-use mathlib.Core.Path.{_≡_, refl, sym, _∙_, ap}
-use Prim.Native.Nat.{ℕ, _+_, _*_, _-_, _/_, _^_, _<_, _≤_}
-use Rattle.field.specs.Element.{dec, Is}
+use mathlib.Core.Path.{_≡_}
+use Prim.Native.Nat.{_+_, _*_, _-_, _≤_}
+use Rattle.field.specs.Element.{dec}
 use Rattle.columns.specs.Passes.{claims, Sums}
 use Rattle.columns.proofs.Turns.{zero-is}
 use Rattle.columns.proofs.Summands.{three-canon, sums-none, sums-turn}
@@ -39,7 +39,9 @@ loop-again : tie.Need-loop-again Inv-loop μ-loop
 loop-again c = (omega arith, sums-turn _ _ _ (c .before .before .before .loop .y) _ _ _ (c .before .before .before .loop .inv .1) (c .before .pair-at .ensures) (c .three-plus .ensures))
 
 returns : tie.Need-returns Inv-loop μ-loop
-returns c = let e : c .before .loop .y ≡ c .before .before .before .before .before .before .before .args .n = omega arith in rw e at (c .before .loop .inv .1)
+returns c =
+    let e : c .before .loop .y ≡ c .before .before .before .before .before .before .before .args .n = omega arith in
+    rw e at (c .before .loop .inv .1)
 
 pub round-sums-spec : {M : Type 1} → statement M
 round-sums-spec =

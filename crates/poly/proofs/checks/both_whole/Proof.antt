@@ -1,9 +1,7 @@
-use mathlib.Core.Path.{_≡_, refl, sym, _∙_, ap}
-use Prim.Native.Nat.{ℕ, _+_, _*_, _-_, _/_, _%_, _^_, _<_, _≤_}
-use lib.Dec.{eqb, leb}
+use mathlib.Core.Path.{refl}
+use Prim.Native.Nat.{_%_}
+use lib.Dec.{eqb}
 use Rattle.poly.proofs.Tests.{no-first, yes-first}
-use borrow.Author.Needs.{needs}
-use native.Mathlib.Omega.{arith}
 use Rattle.poly.proofs.checks.both_whole.Statement.{statement}
 use Rattle.poly.proofs.checks.both_whole.Tie as tie
 use Rattle.poly.proofs.checks.both_whole.Reads as reads

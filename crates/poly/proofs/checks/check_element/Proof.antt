@@ -1,8 +1,7 @@
-use mathlib.Core.Path.{_≡_, refl, sym, _∙_, ap}
+use mathlib.Core.Path.{sym, _∙_, ap}
 use Rattle.field.specs.Element.{canonWords}
 use Rattle.poly.specs.declared.Outcome.the-variants.{Done}
 use Rattle.poly.specs.Checks.{andWords}
-use native.Mathlib.Omega.{arith}
 use borrow.Author.Needs.{needs}
 use Rattle.poly.proofs.checks.check_element.Statement.{statement}
 use Rattle.poly.proofs.checks.check_element.Tie as tie

@@ -1,7 +1,5 @@
 use borrow.Author.Tests.{not-true, not-false}
 use Rattle.poly.specs.CheckLaws.{bad-lists, many-rounds, bad-table, many-entries, no-power, short-room, all-passed}
-use borrow.Author.Needs.{needs}
-use native.Mathlib.Omega.{arith}
 use Rattle.poly.proofs.checks.check_sizes.Statement.{statement}
 use Rattle.poly.proofs.checks.check_sizes.Tie as tie
 use Rattle.poly.proofs.checks.check_sizes.Reads as reads

@@ -1,3 +1,4 @@
+use Rattle.refusal.specs.Limits.{maxRounds}
 use Rattle.columns.specs.PowerLaws.{power-le}
 use native.Mathlib.Omega.{arith}
 use borrow.Author.Needs.{needs}
@@ -14,7 +15,7 @@ power-requires : tie.Need-power-requires
 power-requires c κs = search needs
 
 returns-2 : tie.Need-returns-2
-returns-2 c = (omega (arith, c .power .ensures, power-le (c .before .before .args .variables) (c .before .if1 .left)), λ _. c .power .ensures)
+returns-2 c = (omega (arith, c .power .ensures, power-le (c .before .before .args .variables) maxRounds (c .before .if1 .left)), λ _. c .power .ensures)
 
 pub cube-spec : {M : Type 1} → statement M
 cube-spec = tie.close (tie.spec returns power-requires returns-2)

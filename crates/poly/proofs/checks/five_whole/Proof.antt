@@ -1,9 +1,7 @@
-use mathlib.Core.Path.{_≡_, refl, sym, _∙_, ap}
-use mathlib.Core.Bool.{Bool, true, false, _&&_}
-use Prim.Native.Nat.{ℕ, _+_, _*_, _-_, _/_, _%_, _^_, _<_, _≤_}
-use lib.Dec.{eqb, leb}
+use mathlib.Core.Bool.{_&&_}
+use Prim.Native.Nat.{_%_}
+use lib.Dec.{eqb}
 use Rattle.poly.proofs.Tests.{no-first, yes-first}
-use native.Mathlib.Omega.{arith}
 use borrow.Author.Needs.{needs}
 use Rattle.poly.proofs.checks.five_whole.Statement.{statement}
 use Rattle.poly.proofs.checks.five_whole.Tie as tie

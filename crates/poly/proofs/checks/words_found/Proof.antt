@@ -1,5 +1,4 @@
 use Rattle.poly.proofs.Tests.{found-bad}
-use native.Mathlib.Omega.{arith}
 use borrow.Author.Needs.{needs}
 use Rattle.poly.proofs.checks.words_found.Statement.{statement}
 use Rattle.poly.proofs.checks.words_found.Tie as tie

@@ -1,13 +1,12 @@
-use mathlib.Core.Path.{_≡_, refl, sym, _∙_, ap}
-use mathlib.Core.Bool.{Bool, true, false, _&&_}
-use Prim.Native.Nat.{ℕ, _+_, _*_, _-_, _/_, _%_, _^_, _<_, _≤_}
-use lib.ListN.{length, take, drop}
-use lib.Dec.{eqb, leb}
+use mathlib.Core.Path.{refl, _∙_, ap}
+use mathlib.Core.Bool.{true}
+use Prim.Native.Nat.{_*_}
+use lib.ListN.{length}
+use lib.Dec.{leb}
 use Rattle.wire.specs.Words.{allCanonical}
 use Rattle.poly.specs.Checks.{whole, count}
 use Rattle.poly.specs.CheckLaws.{one-check, within}
 use Rattle.poly.specs.Evaluations.{cubeSizes}
-use native.Mathlib.Omega.{arith}
 use borrow.Author.Needs.{needs}
 use Rattle.poly.proofs.eq.cube_refusal.Statement.{statement}
 use Rattle.poly.proofs.eq.cube_refusal.Tie as tie

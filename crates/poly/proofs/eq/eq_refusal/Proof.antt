@@ -1,10 +1,9 @@
-use mathlib.Core.Path.{_≡_, refl, sym, _∙_, ap}
-use mathlib.Core.Bool.{Bool, true, false, _&&_}
+use mathlib.Core.Path.{_∙_, ap}
+use mathlib.Core.Bool.{Bool, true}
 use Rattle.wire.specs.Words.{allCanonical}
 use Rattle.poly.specs.Checks.{refusal, count}
 use Rattle.poly.specs.CheckLaws.{two-checks}
 use Rattle.poly.specs.Evaluations.{eqSizes}
-use native.Mathlib.Omega.{arith}
 use borrow.Author.Needs.{needs}
 use Rattle.poly.proofs.eq.eq_refusal.Statement.{statement}
 use Rattle.poly.proofs.eq.eq_refusal.Tie as tie

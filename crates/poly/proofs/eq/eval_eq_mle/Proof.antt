@@ -1,6 +1,6 @@
-use mathlib.Core.Path.{_≡_, refl, sym, _∙_, ap}
-use Prim.Native.Nat.{ℕ, _+_, _*_, _-_, _/_, _%_, _^_, _<_, _≤_}
-use lib.ListN.{length, take, drop}
+use mathlib.Core.Path.{_≡_, sym, _∙_, ap}
+use Prim.Native.Nat.{_/_}
+use lib.ListN.{length}
 use Rattle.field.specs.ExtRing.{ExtRing}
 use Rattle.field.specs.ElementLaws.{is-eq}
 use Rattle.multilinear.specs.Table as Table
@@ -28,7 +28,9 @@ enum-told : tie.Need-enum-told
 enum-told c = search needs
 
 eq-points-requires : tie.Need-eq-points-requires
-eq-points-requires c κs = let g = eq-open (c .before .before .before .before .before .args .x .now) (c .before .before .before .before .before .args .y .now) (sym (c .before .before .eq-refusal .ensures) ∙ c .enum-told .given .1) in ((omega arith, omega (arith, g .same)), (g .first, g .second))
+eq-points-requires c κs =
+    let g = eq-open (c .before .before .before .before .before .args .x .now) (c .before .before .before .before .before .args .y .now) (sym (c .before .before .eq-refusal .ensures) ∙ c .enum-told .given .1) in
+    ((omega arith, omega (arith, g .same)), (g .first, g .second))
 
 returns : tie.Need-returns
 returns c = refused (Table.eq ExtRing (point (c .before .before .before .before .before .before .args .x .now)) (point (c .before .before .before .before .before .before .args .y .now))) (sym (c .before .before .before .eq-refusal .ensures) ∙ c .before .no .given .1)

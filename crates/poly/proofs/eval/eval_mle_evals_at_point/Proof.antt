@@ -1,11 +1,9 @@
-use mathlib.Core.Path.{_≡_, refl, sym, _∙_, ap}
-use Prim.Native.Nat.{ℕ, _+_, _*_, _-_, _/_, _%_, _^_, _<_, _≤_}
-use lib.ListN.{length, take, drop}
+use mathlib.Core.Path.{sym, _∙_}
+use Prim.Native.Nat.{_^_}
 use Rattle.field.specs.ExtRing.{ExtRing}
 use Rattle.field.specs.Cells.{cell}
 use Rattle.multilinear.specs.Table as Table
-use Rattle.poly.specs.Evaluations.{point, mleRefusal}
-use Rattle.poly.specs.declared.Outcome.the-variants.{Done}
+use Rattle.poly.specs.Evaluations.{point}
 use Rattle.poly.proofs.Gates.{mle-open}
 use Rattle.field.specs.Column.{flat}
 use Rattle.columns.specs.Tables as Tables
@@ -30,19 +28,29 @@ enum-told : tie.Need-enum-told
 enum-told c = search needs
 
 eval-in-place-requires : tie.Need-eval-in-place-requires
-eval-in-place-requires c κs = let t = c .before .before .before .before .before .before .before .args .evals .now in let x = c .before .before .before .before .before .before .before .args .x .now in let g = mle-open t x (sym (c .before .before .before .mle-refusal .ensures) ∙ c .before .enum-told .given .1) in ((g .entries, omega arith), (g .table, g .point))
+eval-in-place-requires c κs =
+    let t = c .before .before .before .before .before .before .before .args .evals .now in
+    let x = c .before .before .before .before .before .before .before .args .x .now in
+    let g = mle-open t x (sym (c .before .before .before .mle-refusal .ensures) ∙ c .before .enum-told .given .1) in
+    ((g .entries, omega arith), (g .table, g .point))
 
 same-length : tie.Need-same-length
 same-length c = search needs
 
 returns : tie.Need-returns
-returns c = let t = c .before .before .before .before .before .before .before .args .evals .now in let x = c .before .before .before .before .before .before .before .args .x .now in refused-table (Table.value ExtRing (cell t) (point x)) (flat (Tables.overwrite ExtRing (count x) (cell x) (cell t)) (2 ^ count x)) t (sym (c .before .before .before .mle-refusal .ensures) ∙ c .before .no .given .1)
+returns c =
+    let t = c .before .before .before .before .before .before .before .args .evals .now in
+    let x = c .before .before .before .before .before .before .before .args .x .now in
+    refused-table (Table.value ExtRing (cell t) (point x)) (flat (Tables.overwrite ExtRing (count x) (cell x) (cell t)) (2 ^ count x)) t (sym (c .before .before .before .mle-refusal .ensures) ∙ c .before .no .given .1)
 
 same-length-2 : tie.Need-same-length-2
 same-length-2 c = search needs
 
 returns-2 : tie.Need-returns-2
-returns-2 c = let t = c .before .before .before .before .before .before .before .before .before .before .args .evals .now in let x = c .before .before .before .before .before .before .before .before .before .before .args .x .now in evaluated-table (Table.value ExtRing (cell t) (point x)) (flat (Tables.overwrite ExtRing (count x) (cell x) (cell t)) (2 ^ count x)) t (sym (c .before .before .before .before .before .before .mle-refusal .ensures) ∙ c .before .before .before .before .enum-told .given .1) (c .before .before .eval-in-place .ensures .0) (c .before .before .eval-in-place .ensures .1)
+returns-2 c =
+    let t = c .before .before .before .before .before .before .before .before .before .before .args .evals .now in
+    let x = c .before .before .before .before .before .before .before .before .before .before .args .x .now in
+    evaluated-table (Table.value ExtRing (cell t) (point x)) (flat (Tables.overwrite ExtRing (count x) (cell x) (cell t)) (2 ^ count x)) t (sym (c .before .before .before .before .before .before .mle-refusal .ensures) ∙ c .before .before .before .before .enum-told .given .1) (c .before .before .eval-in-place .ensures .0) (c .before .before .eval-in-place .ensures .1)
 
 pub eval-mle-evals-at-point-spec : {M : Type 1} → statement M
 eval-mle-evals-at-point-spec =

@@ -1,11 +1,8 @@
-use mathlib.Core.Path.{_≡_, refl, sym, _∙_, ap}
-use Prim.Native.Nat.{ℕ, _+_, _*_, _-_, _/_, _%_, _^_, _<_, _≤_}
-use lib.ListN.{length, take, drop}
+use mathlib.Core.Path.{sym, _∙_}
 use Rattle.field.specs.ExtRing.{ExtRing}
 use Rattle.field.specs.Cells.{cell}
 use Rattle.multilinear.specs.Table as Table
-use Rattle.poly.specs.Evaluations.{point, mleRefusal}
-use Rattle.poly.specs.declared.Outcome.the-variants.{Done}
+use Rattle.poly.specs.Evaluations.{point}
 use Rattle.poly.proofs.Gates.{mle-open}
 use Rattle.poly.proofs.Answers.{refused, evaluated}
 use native.Mathlib.Omega.{arith}
@@ -27,13 +24,23 @@ enum-told : tie.Need-enum-told
 enum-told c = search needs
 
 eval-by-halves-requires : tie.Need-eval-by-halves-requires
-eval-by-halves-requires c κs = let t = c .before .before .before .before .before .args .evals .now in let x = c .before .before .before .before .before .args .x .now in let g = mle-open t x (sym (c .before .before .mle-refusal .ensures) ∙ c .enum-told .given .1) in ((g .entries, omega arith), (g .table, g .point))
+eval-by-halves-requires c κs =
+    let t = c .before .before .before .before .before .args .evals .now in
+    let x = c .before .before .before .before .before .args .x .now in
+    let g = mle-open t x (sym (c .before .before .mle-refusal .ensures) ∙ c .enum-told .given .1) in
+    ((g .entries, omega arith), (g .table, g .point))
 
 returns : tie.Need-returns
-returns c = let t = c .before .before .before .before .before .before .args .evals .now in let x = c .before .before .before .before .before .before .args .x .now in refused (Table.value ExtRing (cell t) (point x)) (sym (c .before .before .before .mle-refusal .ensures) ∙ c .before .no .given .1)
+returns c =
+    let t = c .before .before .before .before .before .before .args .evals .now in
+    let x = c .before .before .before .before .before .before .args .x .now in
+    refused (Table.value ExtRing (cell t) (point x)) (sym (c .before .before .before .mle-refusal .ensures) ∙ c .before .no .given .1)
 
 returns-2 : tie.Need-returns-2
-returns-2 c = let t = c .before .before .before .before .before .before .args .evals .now in let x = c .before .before .before .before .before .before .args .x .now in evaluated (Table.value ExtRing (cell t) (point x)) (sym (c .before .before .before .mle-refusal .ensures) ∙ c .before .enum-told .given .1) (c .eval-by-halves .ensures)
+returns-2 c =
+    let t = c .before .before .before .before .before .before .args .evals .now in
+    let x = c .before .before .before .before .before .before .args .x .now in
+    evaluated (Table.value ExtRing (cell t) (point x)) (sym (c .before .before .before .mle-refusal .ensures) ∙ c .before .enum-told .given .1) (c .eval-by-halves .ensures)
 
 pub eval-mle-evals-by-halves-spec : {M : Type 1} → statement M
 eval-mle-evals-by-halves-spec =

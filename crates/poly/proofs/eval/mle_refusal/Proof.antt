@@ -1,11 +1,10 @@
-use mathlib.Core.Path.{_≡_, refl, sym, _∙_, ap}
-use mathlib.Core.Bool.{Bool, true, false, _&&_}
-use lib.Dec.{eqb, leb}
+use mathlib.Core.Path.{refl, _∙_, ap}
+use mathlib.Core.Bool.{Bool, true, _&&_}
+use lib.Dec.{eqb}
 use Rattle.wire.specs.Words.{allCanonical}
 use Rattle.poly.specs.Checks.{refusal, whole, count}
 use Rattle.poly.specs.CheckLaws.{two-checks, within}
 use Rattle.poly.specs.Evaluations.{mleSizes}
-use native.Mathlib.Omega.{arith}
 use borrow.Author.Needs.{needs}
 use Rattle.poly.proofs.eval.mle_refusal.Statement.{statement}
 use Rattle.poly.proofs.eval.mle_refusal.Tie as tie

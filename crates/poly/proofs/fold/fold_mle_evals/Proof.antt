@@ -1,6 +1,6 @@
-use mathlib.Core.Path.{_≡_, refl, sym, _∙_, ap}
-use Prim.Native.Nat.{ℕ, _+_, _*_, _-_, _/_, _%_, _^_, _<_, _≤_}
-use lib.ListN.{length, take, drop}
+use mathlib.Core.Path.{sym, _∙_, ap}
+use Prim.Native.Nat.{_*_, _/_}
+use lib.ListN.{length, drop}
 use mathlib.Core.List.{_++_}
 use lib.Seq.{length-take-le}
 use Rattle.field.specs.ExtRing.{ExtRing}
@@ -29,25 +29,49 @@ slice-aggregate-result : tie.Need-slice-aggregate-result
 slice-aggregate-result c = search needs
 
 returns : tie.Need-returns
-returns c = let s = c .before .before .before .before .before .before .before .before .args .source .now in let d = c .before .before .before .before .before .before .before .before .args .target .now in let r = c .before .before .before .before .before .before .before .before .args .r in let b = none-back s d r (sym (c .before .before .before .fold-mle-evals-refusal .ensures) ∙ c .before .enum-told .given .1) in (b .0, rw (b .1))
+returns c =
+    let s = c .before .before .before .before .before .before .before .before .args .source .now in
+    let d = c .before .before .before .before .before .before .before .before .args .target .now in
+    let r = c .before .before .before .before .before .before .before .before .args .r in
+    let b = none-back s d r (sym (c .before .before .before .fold-mle-evals-refusal .ensures) ∙ c .before .enum-told .given .1) in
+    (b .0, rw (b .1))
 
 enum-told-2 : tie.Need-enum-told-2
 enum-told-2 c = search needs
 
 returns-2 : tie.Need-returns-2
-returns-2 c = let s = c .before .before .before .before .before .before .before .before .args .source .now in let d = c .before .before .before .before .before .before .before .before .args .target .now in let r = c .before .before .before .before .before .before .before .before .args .r in let b = source-back s d r (sym (c .before .before .before .fold-mle-evals-refusal .ensures) ∙ c .before .enum-told2 .given .1) (c .if1 .taken) in (b .0, rw (b .1))
+returns-2 c =
+    let s = c .before .before .before .before .before .before .before .before .args .source .now in
+    let d = c .before .before .before .before .before .before .before .before .args .target .now in
+    let r = c .before .before .before .before .before .before .before .before .args .r in
+    let b = source-back s d r (sym (c .before .before .before .fold-mle-evals-refusal .ensures) ∙ c .before .enum-told2 .given .1) (c .if1 .taken) in
+    (b .0, rw (b .1))
 
 fold-into-requires : tie.Need-fold-into-requires
-fold-into-requires c κs = let s = c .before .before .before .before .before .before .before .before .before .before .args .source .now in let d = c .before .before .before .before .before .before .before .before .before .before .args .target .now in let r = c .before .before .before .before .before .before .before .before .before .before .args .r in let g = fold-open s d r (sym (c .before .before .before .before .before .fold-mle-evals-refusal .ensures) ∙ c .before .before .before .enum-told2 .given .1) in ((omega arith, omega (arith, g .room)), (g .list, g .element))
+fold-into-requires c κs =
+    let s = c .before .before .before .before .before .before .before .before .before .before .args .source .now in
+    let d = c .before .before .before .before .before .before .before .before .before .before .args .target .now in
+    let r = c .before .before .before .before .before .before .before .before .before .before .args .r in
+    let g = fold-open s d r (sym (c .before .before .before .before .before .fold-mle-evals-refusal .ensures) ∙ c .before .before .before .enum-told2 .given .1) in
+    ((omega arith, omega (arith, g .room)), (g .list, g .element))
 
 mul-target : tie.Need-mul-target
 mul-target c = search needs
 
 slice-aggregate-result-2 : tie.Need-slice-aggregate-result-2
-slice-aggregate-result-2 c = let s = c .before .before .before .before .before .before .before .before .before .before .before .before .before .before .args .source .now in let d = c .before .before .before .before .before .before .before .before .before .before .before .before .before .before .args .target .now in let r = c .before .before .before .before .before .before .before .before .before .before .before .before .before .before .args .r in let g = fold-open s d r (sym (c .before .before .before .before .before .before .before .before .before .fold-mle-evals-refusal .ensures) ∙ c .before .before .before .before .before .before .before .enum-told2 .given .1) in sym (length-take-le (4 * (length s / 8)) (c .before .before .before .fold-into .last .1 .0) (omega (arith, c .before .before .before .fold-into .kept, g .room)))
+slice-aggregate-result-2 c =
+    let s = c .before .before .before .before .before .before .before .before .before .before .before .before .before .before .args .source .now in
+    let d = c .before .before .before .before .before .before .before .before .before .before .before .before .before .before .args .target .now in
+    let r = c .before .before .before .before .before .before .before .before .before .before .before .before .before .before .args .r in
+    let g = fold-open s d r (sym (c .before .before .before .before .before .before .before .before .before .fold-mle-evals-refusal .ensures) ∙ c .before .before .before .before .before .before .before .enum-told2 .given .1) in
+    sym (length-take-le (4 * (length s / 8)) (c .before .before .before .fold-into .last .1 .0) (omega (arith, c .before .before .before .fold-into .kept, g .room)))
 
 returns-3 : tie.Need-returns-3
-returns-3 c = let s = c .before .before .before .before .before .before .before .before .before .before .before .before .before .before .args .source .now in let d = c .before .before .before .before .before .before .before .before .before .before .before .before .before .before .args .target .now in let r = c .before .before .before .before .before .before .before .before .before .before .before .before .before .before .args .r in let g = fold-open s d r (sym (c .before .before .before .before .before .before .before .before .before .fold-mle-evals-refusal .ensures) ∙ c .before .before .before .before .before .before .before .enum-told2 .given .1) in
+returns-3 c =
+    let s = c .before .before .before .before .before .before .before .before .before .before .before .before .before .before .args .source .now in
+    let d = c .before .before .before .before .before .before .before .before .before .before .before .before .before .before .args .target .now in
+    let r = c .before .before .before .before .before .before .before .before .before .before .before .before .before .before .args .r in
+    let g = fold-open s d r (sym (c .before .before .before .before .before .before .before .before .before .fold-mle-evals-refusal .ensures) ∙ c .before .before .before .before .before .before .before .enum-told2 .given .1) in
     let f = c .before .before .before .fold-into .ensures ∙ ap (λ n. flat (Table.fold ExtRing (cell s) (dec r)) n ++ drop (4 * n) d) (eighth (length s)) in
     let b = front-back s d r (sym (c .before .before .before .before .before .before .before .before .before .fold-mle-evals-refusal .ensures) ∙ c .before .before .before .before .before .before .before .enum-told2 .given .1) (c .before .before .before .before .before .before .if1 .left) (g .whole) (length s / 8) (eighth (length s)) f in
     (b .0, rw (b .1))

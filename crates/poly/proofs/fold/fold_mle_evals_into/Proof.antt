@@ -1,6 +1,6 @@
-use mathlib.Core.Path.{_≡_, refl, sym, _∙_, ap}
-use Prim.Native.Nat.{ℕ, _+_, _*_, _-_, _/_, _%_, _^_, _<_, _≤_}
-use lib.ListN.{length, take, drop}
+use mathlib.Core.Path.{sym, _∙_, ap}
+use Prim.Native.Nat.{_*_, _/_}
+use lib.ListN.{length, drop}
 use mathlib.Core.List.{_++_}
 use Rattle.field.specs.ExtRing.{ExtRing}
 use Rattle.field.specs.Element.{dec}
@@ -30,19 +30,32 @@ enum-told : tie.Need-enum-told
 enum-told c = search needs
 
 fold-into-requires : tie.Need-fold-into-requires
-fold-into-requires c κs = let s = c .before .before .before .before .before .before .before .args .source .now in let d = c .before .before .before .before .before .before .before .args .target .now in let r = c .before .before .before .before .before .before .before .args .r in let g = fold-open s d r (sym (c .before .before .before .fold-mle-evals-refusal .ensures) ∙ c .before .enum-told .given .1) in ((omega (arith, g .whole), omega (arith, g .room)), (g .list, g .element))
+fold-into-requires c κs =
+    let s = c .before .before .before .before .before .before .before .args .source .now in
+    let d = c .before .before .before .before .before .before .before .args .target .now in
+    let r = c .before .before .before .before .before .before .before .args .r in
+    let g = fold-open s d r (sym (c .before .before .before .fold-mle-evals-refusal .ensures) ∙ c .before .enum-told .given .1) in
+    ((omega (arith, g .whole), omega (arith, g .room)), (g .list, g .element))
 
 same-length : tie.Need-same-length
 same-length c = search needs
 
 returns : tie.Need-returns
-returns c = let s = c .before .before .before .before .before .before .before .args .source .now in let d = c .before .before .before .before .before .before .before .args .target .now in let r = c .before .before .before .before .before .before .before .args .r in refused-target (foldedWords s r ++ drop (4 * (count s / 2)) d) d (sym (c .before .before .before .fold-mle-evals-refusal .ensures) ∙ c .before .no .given .1)
+returns c =
+    let s = c .before .before .before .before .before .before .before .args .source .now in
+    let d = c .before .before .before .before .before .before .before .args .target .now in
+    let r = c .before .before .before .before .before .before .before .args .r in
+    refused-target (foldedWords s r ++ drop (4 * (count s / 2)) d) d (sym (c .before .before .before .fold-mle-evals-refusal .ensures) ∙ c .before .no .given .1)
 
 same-length-2 : tie.Need-same-length-2
 same-length-2 c = search needs
 
 returns-2 : tie.Need-returns-2
-returns-2 c = let s = c .before .before .before .before .before .before .before .before .before .before .args .source .now in let d = c .before .before .before .before .before .before .before .before .before .before .args .target .now in let r = c .before .before .before .before .before .before .before .before .before .before .args .r in filled-target (foldedWords s r ++ drop (4 * (count s / 2)) d) d (sym (c .before .before .before .before .before .before .fold-mle-evals-refusal .ensures) ∙ c .before .before .before .before .enum-told .given .1) (c .before .before .fold-into .ensures ∙ ap (λ n. flat (Table.fold ExtRing (cell s) (dec r)) n ++ drop (4 * n) d) (eighth (length s)))
+returns-2 c =
+    let s = c .before .before .before .before .before .before .before .before .before .before .args .source .now in
+    let d = c .before .before .before .before .before .before .before .before .before .before .args .target .now in
+    let r = c .before .before .before .before .before .before .before .before .before .before .args .r in
+    filled-target (foldedWords s r ++ drop (4 * (count s / 2)) d) d (sym (c .before .before .before .before .before .before .fold-mle-evals-refusal .ensures) ∙ c .before .before .before .before .enum-told .given .1) (c .before .before .fold-into .ensures ∙ ap (λ n. flat (Table.fold ExtRing (cell s) (dec r)) n ++ drop (4 * n) d) (eighth (length s)))
 
 pub fold-mle-evals-into-spec : {M : Type 1} → statement M
 fold-mle-evals-into-spec =

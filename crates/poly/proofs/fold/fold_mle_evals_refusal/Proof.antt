@@ -1,14 +1,13 @@
-use mathlib.Core.Path.{_≡_, refl, sym, _∙_, ap}
-use mathlib.Core.Bool.{Bool, true, false, _&&_}
-use Prim.Native.Nat.{ℕ, _+_, _*_, _-_, _/_, _%_, _^_, _<_, _≤_}
-use lib.ListN.{length, take, drop}
-use lib.Dec.{eqb, leb}
+use mathlib.Core.Path.{_∙_, ap}
+use mathlib.Core.Bool.{Bool, true}
+use Prim.Native.Nat.{_*_, _/_}
+use lib.ListN.{length}
+use lib.Dec.{leb}
 use Rattle.wire.specs.Words.{allCanonical}
 use Rattle.field.specs.Element.{canonWords}
 use Rattle.poly.specs.Checks.{refusal, whole, count}
 use Rattle.poly.specs.CheckLaws.{two-checks}
 use Rattle.poly.specs.Folds.{foldSizes}
-use native.Mathlib.Omega.{arith}
 use borrow.Author.Needs.{needs}
 use Rattle.poly.proofs.fold.fold_mle_evals_refusal.Statement.{statement}
 use Rattle.poly.proofs.fold.fold_mle_evals_refusal.Tie as tie

@@ -1,10 +1,9 @@
-use mathlib.Core.Bool.{Bool, true, false, _&&_}
-use lib.ListN.{length, take, drop}
+use mathlib.Core.Bool.{true}
+use lib.ListN.{length}
 use Rattle.field.specs.Element.{canonWords}
 use Rattle.wire.specs.Words.{allCanonical}
 use Rattle.poly.specs.CheckLaws.{two-checks}
 use Rattle.poly.specs.Evaluations.{hornerSizes}
-use native.Mathlib.Omega.{arith}
 use borrow.Author.Needs.{needs}
 use Rattle.poly.proofs.horner.horner_base_refusal.Statement.{statement}
 use Rattle.poly.proofs.horner.horner_base_refusal.Tie as tie
@@ -24,7 +23,9 @@ check-element-requires : tie.Need-check-element-requires
 check-element-requires c κs = search needs
 
 returns : tie.Need-returns
-returns c = let s = c .before .before .before .before .args .coeffs .now in two-checks (hornerSizes true (length s)) (allCanonical s) (canonWords (c .before .before .before .before .args .x)) (c .before .before .check-sizes .ensures) (c .before .check-words .ensures) (c .check-element .ensures)
+returns c =
+    let s = c .before .before .before .before .args .coeffs .now in
+    two-checks (hornerSizes true (length s)) (allCanonical s) (canonWords (c .before .before .before .before .args .x)) (c .before .before .check-sizes .ensures) (c .before .check-words .ensures) (c .check-element .ensures)
 
 pub horner-base-refusal-spec : {M : Type 1} → statement M
 horner-base-refusal-spec =

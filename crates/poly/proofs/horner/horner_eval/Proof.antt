@@ -1,4 +1,4 @@
-use mathlib.Core.Path.{_≡_, refl, sym, _∙_, ap}
+use mathlib.Core.Path.{sym, _∙_}
 use Rattle.field.specs.ExtRing.{ExtRing}
 use Rattle.field.specs.Element.{dec}
 use Rattle.columns.specs.Tables as Tables
@@ -25,13 +25,19 @@ enum-told : tie.Need-enum-told
 enum-told c = search needs
 
 horner-requires : tie.Need-horner-requires
-horner-requires c κs = let g = horner-open (c .before .before .before .before .args .coeffs .now) (c .before .before .before .before .args .x) (sym (c .before .before .horner-refusal .ensures) ∙ c .enum-told .given .1) in (omega arith, (g .list, g .element))
+horner-requires c κs =
+    let g = horner-open (c .before .before .before .before .args .coeffs .now) (c .before .before .before .before .args .x) (sym (c .before .before .horner-refusal .ensures) ∙ c .enum-told .given .1) in
+    (omega arith, (g .list, g .element))
 
 returns : tie.Need-returns
-returns c = let s = c .before .before .before .before .before .args .coeffs .now in refused (Tables.polynomial ExtRing (count s) (cell s) (dec (c .before .before .before .before .before .args .x))) (sym (c .before .before .before .horner-refusal .ensures) ∙ c .before .no .given .1)
+returns c =
+    let s = c .before .before .before .before .before .args .coeffs .now in
+    refused (Tables.polynomial ExtRing (count s) (cell s) (dec (c .before .before .before .before .before .args .x))) (sym (c .before .before .before .horner-refusal .ensures) ∙ c .before .no .given .1)
 
 returns-2 : tie.Need-returns-2
-returns-2 c = let s = c .before .before .before .before .before .args .coeffs .now in evaluated (Tables.polynomial ExtRing (count s) (cell s) (dec (c .before .before .before .before .before .args .x))) (sym (c .before .before .before .horner-refusal .ensures) ∙ c .before .enum-told .given .1) (c .horner .ensures)
+returns-2 c =
+    let s = c .before .before .before .before .before .args .coeffs .now in
+    evaluated (Tables.polynomial ExtRing (count s) (cell s) (dec (c .before .before .before .before .before .args .x))) (sym (c .before .before .before .horner-refusal .ensures) ∙ c .before .enum-told .given .1) (c .horner .ensures)
 
 pub horner-eval-spec : {M : Type 1} → statement M
 horner-eval-spec =

@@ -1,9 +1,9 @@
-use mathlib.Core.Path.{_≡_, refl, sym, _∙_, ap}
+use mathlib.Core.Path.{sym, _∙_}
 use Rattle.field.specs.ExtRing.{ExtRing}
 use Rattle.field.specs.Element.{dec}
 use Rattle.columns.specs.Tables as Tables
 use Rattle.poly.proofs.Answers.{refused, evaluated}
-use lib.ListN.{length, take, drop}
+use lib.ListN.{length}
 use Rattle.columns.specs.Passes.{baseCell}
 use Rattle.poly.proofs.Gates.{horner-base-open}
 use native.Mathlib.Omega.{arith}
@@ -25,13 +25,19 @@ enum-told : tie.Need-enum-told
 enum-told c = search needs
 
 horner-base-requires : tie.Need-horner-base-requires
-horner-base-requires c κs = let g = horner-base-open (c .before .before .before .before .args .coeffs .now) (c .before .before .before .before .args .x) (sym (c .before .before .horner-base-refusal .ensures) ∙ c .enum-told .given .1) in (omega arith, (g .list, g .element))
+horner-base-requires c κs =
+    let g = horner-base-open (c .before .before .before .before .args .coeffs .now) (c .before .before .before .before .args .x) (sym (c .before .before .horner-base-refusal .ensures) ∙ c .enum-told .given .1) in
+    (omega arith, (g .list, g .element))
 
 returns : tie.Need-returns
-returns c = let s = c .before .before .before .before .before .args .coeffs .now in refused (Tables.polynomial ExtRing (length s) (baseCell s) (dec (c .before .before .before .before .before .args .x))) (sym (c .before .before .before .horner-base-refusal .ensures) ∙ c .before .no .given .1)
+returns c =
+    let s = c .before .before .before .before .before .args .coeffs .now in
+    refused (Tables.polynomial ExtRing (length s) (baseCell s) (dec (c .before .before .before .before .before .args .x))) (sym (c .before .before .before .horner-base-refusal .ensures) ∙ c .before .no .given .1)
 
 returns-2 : tie.Need-returns-2
-returns-2 c = let s = c .before .before .before .before .before .args .coeffs .now in evaluated (Tables.polynomial ExtRing (length s) (baseCell s) (dec (c .before .before .before .before .before .args .x))) (sym (c .before .before .before .horner-base-refusal .ensures) ∙ c .before .enum-told .given .1) (c .horner-base .ensures)
+returns-2 c =
+    let s = c .before .before .before .before .before .args .coeffs .now in
+    evaluated (Tables.polynomial ExtRing (length s) (baseCell s) (dec (c .before .before .before .before .before .args .x))) (sym (c .before .before .before .horner-base-refusal .ensures) ∙ c .before .enum-told .given .1) (c .horner-base .ensures)
 
 pub horner-eval-base-spec : {M : Type 1} → statement M
 horner-eval-base-spec =

@@ -3,7 +3,6 @@ use Rattle.wire.specs.Words.{allCanonical}
 use Rattle.poly.specs.Checks.{whole, count}
 use Rattle.poly.specs.CheckLaws.{two-checks}
 use Rattle.poly.specs.Evaluations.{hornerSizes}
-use native.Mathlib.Omega.{arith}
 use borrow.Author.Needs.{needs}
 use Rattle.poly.proofs.horner.horner_refusal.Statement.{statement}
 use Rattle.poly.proofs.horner.horner_refusal.Tie as tie
@@ -23,7 +22,9 @@ check-element-requires : tie.Need-check-element-requires
 check-element-requires c κs = search needs
 
 returns : tie.Need-returns
-returns c = let s = c .before .before .before .before .args .coeffs .now in two-checks (hornerSizes (whole s) (count s)) (allCanonical s) (canonWords (c .before .before .before .before .args .x)) (c .before .before .check-sizes .ensures) (c .before .check-words .ensures) (c .check-element .ensures)
+returns c =
+    let s = c .before .before .before .before .args .coeffs .now in
+    two-checks (hornerSizes (whole s) (count s)) (allCanonical s) (canonWords (c .before .before .before .before .args .x)) (c .before .before .check-sizes .ensures) (c .before .check-words .ensures) (c .check-element .ensures)
 
 pub horner-refusal-spec : {M : Type 1} → statement M
 horner-refusal-spec =

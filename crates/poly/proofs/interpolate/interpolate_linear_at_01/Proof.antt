@@ -1,7 +1,6 @@
 use Rattle.field.specs.ElementLaws.{answer}
 use Rattle.field.specs.ExtRing.{ExtRing}
 use Rattle.multilinear.specs.Forms as Forms
-use native.Mathlib.Omega.{arith}
 use borrow.Author.Needs.{needs}
 use Rattle.poly.proofs.interpolate.interpolate_linear_at_01.Statement.{statement}
 use Rattle.poly.proofs.interpolate.interpolate_linear_at_01.Tie as tie

@@ -1,7 +1,6 @@
 use Rattle.field.specs.ElementLaws.{answer}
 use Rattle.field.specs.Extension.{Extension}
 use Rattle.multilinear.specs.Interpolate as Interpolate
-use native.Mathlib.Omega.{arith}
 use borrow.Author.Needs.{needs}
 use Rattle.poly.proofs.interpolate.interpolate_quadratic_at_012.Statement.{statement}
 use Rattle.poly.proofs.interpolate.interpolate_quadratic_at_012.Tie as tie

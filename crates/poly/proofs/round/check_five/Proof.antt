@@ -1,8 +1,7 @@
-use mathlib.Core.Path.{_≡_, refl, sym, _∙_, ap}
+use mathlib.Core.Path.{_∙_, ap}
 use Rattle.wire.specs.Words.{allCanonical}
 use Rattle.poly.specs.Checks.{andWords}
 use Rattle.poly.proofs.Tests.{five-words}
-use native.Mathlib.Omega.{arith}
 use borrow.Author.Needs.{needs}
 use Rattle.poly.proofs.round.check_five.Statement.{statement}
 use Rattle.poly.proofs.round.check_five.Tie as tie

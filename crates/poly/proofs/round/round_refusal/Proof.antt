@@ -1,10 +1,9 @@
-use mathlib.Core.Path.{_≡_, refl, sym, _∙_, ap}
-use mathlib.Core.Bool.{Bool, true, false, _&&_}
+use mathlib.Core.Path.{_∙_}
+use mathlib.Core.Bool.{true}
 use Rattle.field.specs.Element.{canonWords}
 use Rattle.poly.specs.Checks.{refusal, count}
 use Rattle.poly.specs.CheckLaws.{two-checks}
 use Rattle.poly.specs.Folds.{roundSizes, allFive}
-use native.Mathlib.Omega.{arith}
 use borrow.Author.Needs.{needs}
 use Rattle.poly.proofs.round.round_refusal.Statement.{statement}
 use Rattle.poly.proofs.round.round_refusal.Tie as tie

@@ -1,6 +1,6 @@
-use mathlib.Core.Path.{_≡_, refl, sym, _∙_, ap}
-use Prim.Native.Nat.{ℕ, _+_, _*_, _-_, _/_, _%_, _^_, _<_, _≤_}
-use lib.ListN.{length, take, drop}
+use mathlib.Core.Path.{_≡_, sym, _∙_, ap}
+use Prim.Native.Nat.{_*_, _/_}
+use lib.ListN.{length}
 use Rattle.field.specs.Element.{dec}
 use Rattle.field.specs.Cells.{cell}
 use Rattle.columns.specs.Powers.{variablesOf}
@@ -32,19 +32,47 @@ enum-told : tie.Need-enum-told
 enum-told c = search needs
 
 round-constant-requires : tie.Need-round-constant-requires
-round-constant-requires c κs = let a = c .before .before .before .before .before .before .before .before .before .args in let e = a .eq .now in let pq = claims (a .p0 .now) (a .q0 .now) (a .p1 .now) (a .q1 .now) in let z : roundRefusal e (a .p0 .now) (a .q0 .now) (a .p1 .now) (a .q1 .now) (a .lambda) ≡ Done = (sym (c .before .before .before .round-refusal .ensures) ∙ c .before .enum-told .given .1) in let g = round-open e (a .p0 .now) (a .q0 .now) (a .p1 .now) (a .q1 .now) (a .lambda) z in (room-less 4 (length e) (omega (arith, c .if1 .taken)) (g .columns), g .lambda)
+round-constant-requires c κs =
+    let a = c .before .before .before .before .before .before .before .before .before .args in
+    let e = a .eq .now in
+    let pq = claims (a .p0 .now) (a .q0 .now) (a .p1 .now) (a .q1 .now) in
+    let z : roundRefusal e (a .p0 .now) (a .q0 .now) (a .p1 .now) (a .q1 .now) (a .lambda) ≡ Done = (sym (c .before .before .before .round-refusal .ensures) ∙ c .before .enum-told .given .1) in
+    let g = round-open e (a .p0 .now) (a .q0 .now) (a .p1 .now) (a .q1 .now) (a .lambda) z in
+    (room-less 4 (length e) (omega (arith, c .if1 .taken)) (g .columns), g .lambda)
 
 returns : tie.Need-returns
-returns c = let a = c .before .before .before .before .before .before .before .before .before .before .args in let e = a .eq .now in let pq = claims (a .p0 .now) (a .q0 .now) (a .p1 .now) (a .q1 .now) in let z : roundRefusal e (a .p0 .now) (a .q0 .now) (a .p1 .now) (a .q1 .now) (a .lambda) ≡ Done = (sym (c .before .before .before .before .round-refusal .ensures) ∙ c .before .before .enum-told .given .1) in let g = round-open e (a .p0 .now) (a .q0 .now) (a .p1 .now) (a .q1 .now) (a .lambda) z in constant-round (count e) (variablesOf (count e)) (dec (a .lambda)) e pq z (omega (arith, c .before .if1 .taken, g .whole)) (g .power) (c .round-constant .ensures)
+returns c =
+    let a = c .before .before .before .before .before .before .before .before .before .before .args in
+    let e = a .eq .now in
+    let pq = claims (a .p0 .now) (a .q0 .now) (a .p1 .now) (a .q1 .now) in
+    let z : roundRefusal e (a .p0 .now) (a .q0 .now) (a .p1 .now) (a .q1 .now) (a .lambda) ≡ Done = (sym (c .before .before .before .before .round-refusal .ensures) ∙ c .before .before .enum-told .given .1) in
+    let g = round-open e (a .p0 .now) (a .q0 .now) (a .p1 .now) (a .q1 .now) (a .lambda) z in
+    constant-round (count e) (variablesOf (count e)) (dec (a .lambda)) e pq z (omega (arith, c .before .if1 .taken, g .whole)) (g .power) (c .round-constant .ensures)
 
 round-sums-requires : tie.Need-round-sums-requires
-round-sums-requires c κs = let a = c .before .before .before .before .before .before .before .before .before .args in let e = a .eq .now in let pq = claims (a .p0 .now) (a .q0 .now) (a .p1 .now) (a .q1 .now) in let z : roundRefusal e (a .p0 .now) (a .q0 .now) (a .p1 .now) (a .q1 .now) (a .lambda) ≡ Done = (sym (c .before .before .before .round-refusal .ensures) ∙ c .before .enum-told .given .1) in let g = round-open e (a .p0 .now) (a .q0 .now) (a .p1 .now) (a .q1 .now) (a .lambda) z in (room-less (8 * (length e / 8)) (length e) (omega arith) (g .columns), g .lambda)
+round-sums-requires c κs =
+    let a = c .before .before .before .before .before .before .before .before .before .args in
+    let e = a .eq .now in
+    let pq = claims (a .p0 .now) (a .q0 .now) (a .p1 .now) (a .q1 .now) in
+    let z : roundRefusal e (a .p0 .now) (a .q0 .now) (a .p1 .now) (a .q1 .now) (a .lambda) ≡ Done = (sym (c .before .before .before .round-refusal .ensures) ∙ c .before .enum-told .given .1) in
+    let g = round-open e (a .p0 .now) (a .q0 .now) (a .p1 .now) (a .q1 .now) (a .lambda) z in
+    (room-less (8 * (length e / 8)) (length e) (omega arith) (g .columns), g .lambda)
 
 returns-2 : tie.Need-returns-2
-returns-2 c = let a = c .before .before .before .before .before .before .before .before .before .args in let e = a .eq .now in let pq = claims (a .p0 .now) (a .q0 .now) (a .p1 .now) (a .q1 .now) in refused-round (roundAt (variablesOf (count e)) (dec (a .lambda)) (cell e) pq) (sym (c .before .before .before .round-refusal .ensures) ∙ c .before .no .given .1)
+returns-2 c =
+    let a = c .before .before .before .before .before .before .before .before .before .args in
+    let e = a .eq .now in
+    let pq = claims (a .p0 .now) (a .q0 .now) (a .p1 .now) (a .q1 .now) in
+    refused-round (roundAt (variablesOf (count e)) (dec (a .lambda)) (cell e) pq) (sym (c .before .before .before .round-refusal .ensures) ∙ c .before .no .given .1)
 
 returns-3 : tie.Need-returns-3
-returns-3 c = let a = c .before .before .before .before .before .before .before .before .before .before .args in let e = a .eq .now in let pq = claims (a .p0 .now) (a .q0 .now) (a .p1 .now) (a .q1 .now) in let z : roundRefusal e (a .p0 .now) (a .q0 .now) (a .p1 .now) (a .q1 .now) (a .lambda) ≡ Done = (sym (c .before .before .before .before .round-refusal .ensures) ∙ c .before .before .enum-told .given .1) in let g = round-open e (a .p0 .now) (a .q0 .now) (a .p1 .now) (a .q1 .now) (a .lambda) z in sums-round (count e) (length e / 8) (variablesOf (count e)) (dec (a .lambda)) e pq z (λ q. c .before .if1 .left (g .whole ∙ ap (λ k. 4 * k) q)) (g .power) (eighth (length e)) (c .round-sums .ensures)
+returns-3 c =
+    let a = c .before .before .before .before .before .before .before .before .before .before .args in
+    let e = a .eq .now in
+    let pq = claims (a .p0 .now) (a .q0 .now) (a .p1 .now) (a .q1 .now) in
+    let z : roundRefusal e (a .p0 .now) (a .q0 .now) (a .p1 .now) (a .q1 .now) (a .lambda) ≡ Done = (sym (c .before .before .before .before .round-refusal .ensures) ∙ c .before .before .enum-told .given .1) in
+    let g = round-open e (a .p0 .now) (a .q0 .now) (a .p1 .now) (a .q1 .now) (a .lambda) z in
+    sums-round (count e) (length e / 8) (variablesOf (count e)) (dec (a .lambda)) e pq z (λ q. c .before .if1 .left (g .whole ∙ ap (λ k. 4 * k) q)) (g .power) (eighth (length e)) (c .round-sums .ensures)
 
 pub sumcheck-round-poly-evals-spec : {M : Type 1} → statement M
 sumcheck-round-poly-evals-spec =
