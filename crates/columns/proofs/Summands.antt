@@ -5,16 +5,18 @@ use mathlib.Core.List.{List}
 use Prim.Native.Nat.{ℕ, _+_, _*_, _≤_}
 use native.Mathlib.Omega.{arith}
 use Rattle.field.specs.Ext as E
+use Rattle.field.specs.ExtRing.{ExtRing}
 use Rattle.field.specs.declared.Ext.{Ext}
 use Rattle.field.specs.Element.{dec, Is}
 use Rattle.field.specs.ElementLaws.{is-eq}
 use Rattle.field.specs.Cells.{cell}
 use Rattle.multilinear.specs.Table as Table
+use Rattle.multilinear.specs.RoundSum as RoundSum
 use Rattle.multilinear.specs.RoundSum.{Claims}
 use Rattle.step.specs.declared.Entry.{Entry}
 use Rattle.step.specs.declared.Three.{Three}
 use Rattle.step.specs.Values.{CanonThree, IsEntry, IsThree, decClaims, summandAt, two, three}
-use Rattle.step.proofs.Pairs.{entry-claims, plain}
+use Rattle.step.proofs.Pairs.{entry-claims}
 use Rattle.columns.specs.Passes.{Room, summandOf, Summands, Sums, Constant}
 use Rattle.columns.proofs.Turns.{sum-none, sum-turn}
 
@@ -72,7 +74,10 @@ module _ (eq : List ℕ) (pq : ℕ → Claims E.Ext) (l : E.Ext) where
   }
 
   -- one entry
-  pub constant-is : (t : Entry) (s : Ext) → IsEntry t (cell eq 0) (pq 0) → Is s (plain l (dec (t .e)) (decClaims t)) → Constant (record { s1 = s; s2 = s; s3 = s }) eq pq l
+  abbrev batched : E.Ext → Claims E.Ext → E.Ext
+  batched e c = E.mul e (RoundSum.cross ExtRing l c)
+
+  pub constant-is : (t : Entry) (s : Ext) → IsEntry t (cell eq 0) (pq 0) → Is s (batched (dec (t .e)) (decClaims t)) → Constant (record { s1 = s; s2 = s; s3 = s }) eq pq l
   constant-is t s h i =
-      let j : Is s (plain l (cell eq 0) (pq 0)) = is-eq i (ap₂ (plain l) (h .e .value) (entry-claims t _ _ h)) in
+      let j : Is s (batched (cell eq 0) (pq 0)) = is-eq i (ap₂ batched (h .e .value) (entry-claims t _ _ h)) in
       record { s1 = j; s2 = j; s3 = j }
