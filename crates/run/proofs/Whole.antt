@@ -25,7 +25,7 @@ use Rattle.step.specs.Values.{IsFrac}
 use Rattle.tree.specs.Nodes.{node, Built}
 use Rattle.layer.specs.Columns.{cells, claims}
 use Rattle.rounds.specs.Layers.{observedClaims, Closed, Levels, logUpTo, usedUpTo, runs, AllLayers}
-use Rattle.run.specs.Runs.{Planted, origin, nothing, begun, RunOf}
+use Rattle.run.specs.Runs.{Planted, origin, begun, RunOf}
 
 pub planted : (rows ws ws' : List ℕ) (size : ℕ) (root : FracW) → Built rows ws ws' size → IsFrac root (node ws' 1) → Planted rows ws' size root
 planted rows ws ws' size root B R = record {
@@ -42,6 +42,12 @@ begun-asserted lg b x h = rw h (no-steps lg origin)
 
 pub begun-open : (lg lg' : List ℕ) (b : Bool) (x : E.Ext) (r : Pos) → b ≡ false → Steps lg lg' origin r 4 0 (Supplied [] .observe x (logOf lg origin)) → Steps lg lg' origin r (cond b 0 4) 0 (begun b x)
 begun-open lg lg' b x r h s = rw h s
+
+-- what is as before from i on is so from k on
+pub past : (l l' : List ℕ) (i k : ℕ) → i ≤ k → drop i l' ≡ drop i l → drop k l' ≡ drop k l
+past l l' i k v d =
+    let x : i + (k - i) ≡ k = omega arith in
+    ap (λ j. drop j l') (sym x) ∙ sym (drop-drop (k - i) i l') ∙ ap (drop (k - i)) d ∙ drop-drop (k - i) i l ∙ ap (λ j. drop j l) x
 
 -- ROUND 0
 
@@ -72,13 +78,6 @@ run-of ws pt pt' pt'' lg lg₁ lg₂ lg₃ ch n pos p r z q s C all e₃ u f m e
       log = A .log ∙ ap (λ s. s .log) on;
       rest = e₃ ∙ past lg lg₂ (r .put) (z .put) u back;
     }
-  where
-    -- what is as before from i on is so from k on
-    past : (l l' : List ℕ) (i k : ℕ) → i ≤ k → drop i l' ≡ drop i l → drop k l' ≡ drop k l
-    past l l' i k v d =
-        let w : k - i + i ≡ k = omega arith in
-        let x : i + (k - i) ≡ k = omega arith in
-        ap (λ j. drop j l') (sym x) ∙ sym (drop-drop (k - i) i l') ∙ ap (drop (k - i)) d ∙ drop-drop (k - i) i l ∙ ap (λ j. drop j l) x
 
 pub log-one : logUpTo 1 ≡ 24
 unfolding logUpTo

@@ -31,14 +31,10 @@ pub record Planted (rows ws' : List ℕ) (size : ℕ) (root : FracW) : Type 0 wh
 abbrev pub origin : Pos
 origin = record { put = 0; used = 0 }
 
--- the empty log
-abbrev pub nothing : Words
-nothing = record { log = []; used = 0 }
-
 -- the log before root q: root p is in it where zero is not asserted
 abbrev pub begun : (asserted : Bool) (p : E.Ext) → Words
-begun true p = nothing
-begun false p = Supplied [] .observe p nothing
+begun true p = record { log = []; used = 0 }
+begun false p = Supplied [] .observe p (record { log = []; used = 0 })
 
 -- the model's point and log after a run over the rows f, and the rest of the log as before
 pub record RunOf (f : ℕ → Frac E.Ext) (pt' lg lg' ch : List ℕ) (m : ℕ) (pos pos' : Pos) : Type 0 where
