@@ -1,0 +1,175 @@
+-- Demand 3, proved: the prover's bytes are read back as the honest proof, which the model's verifier accepts.
+-- Assumes nothing.
+use mathlib.Core.Path.{_≡_, refl, sym, _∙_, ap, ap₂, subst}
+use mathlib.Core.Bool.{Bool, true, false, cond, not, _||_}
+use mathlib.Core.List.{List, [], _∷_, _++_}
+use Prim.Native.Nat.{ℕ, zero, suc, _+_, _*_, _^_, _<_, _≤_}
+use native.Mathlib.Omega.{arith}
+use native.Mathlib.Nat.{zero-add}
+use borrow.Author.Tests.{le-ltb, ne-eqb}
+use lib.ListN.{length, take, drop}
+use lib.Seq.{take-at}
+use Rattle.field.specs.Ext as E
+use Rattle.field.specs.ExtRing.{ExtRing, same-true}
+use Rattle.field.specs.Extension.{Extension}
+use Rattle.field.specs.Element.{words}
+use Rattle.gkr.specs.Run.{Transcript, Frac, Proof}
+use Rattle.gkr.specs.Transcripts.{Words}
+use Rattle.gkr.specs.Sizes.{challenges, proof-bytes, log-words}
+use Rattle.gkr.specs.Tests.{pass, fail}
+use Rattle.gkr.specs.Tree as Tree
+use Rattle.gkr.specs.Gkr as Gkr
+use Rattle.gkr.specs.Gkr.{done, accepted}
+use Rattle.gkr.specs.Honest as Honest
+use Rattle.gkr.specs.Count as Count
+use Rattle.gkr.specs.TranscriptLaws as TranscriptLaws
+use Rattle.transcript.specs.Log.{Supplied, wordsOf}
+use Rattle.wire.specs.Words.{allCanonical}
+use Rattle.stored.specs.Layout.{layout, proofWords}
+use Rattle.stored.specs.Parse.{parse, parsed}
+use Rattle.stored.specs.RoundTrip.{write-read}
+use Rattle.stored.specs.Elements.{encoded, decoded}
+use Rattle.tree.specs.Nodes.{node}
+use Rattle.gate.specs.Refusals.{Call, rowCount, roundsOf}
+use Rattle.prover.specs.Proved as Prover
+use Rattle.prover.specs.declared.Answer.the-variants.{Done}
+use Rattle.round.specs.Verdicts as Verdicts
+use Rattle.verifier.specs.Verified as Verifier
+use Rattle.agreement.specs.Demand3.{Lent, Taken, root, Room, verdict, Agreed, Demand3}
+use Rattle.agreement.specs.Companions.{OtherSum}
+use Rattle.stored.specs.ElementLaws.{decoded-encoded, encoded-canonical}
+use Rattle.agreement.proofs.HonestSize.{honest-size}
+use Rattle.agreement.proofs.Opening.{opens, rounds-taken-are}
+
+-- both write a point alike
+points : (z : List E.Ext) → Verdicts.pointWords z ≡ Prover.pointWords z
+unfolding Prover.pointWords
+points [] = refl
+points (x ∷ z) = ap (λ l. words x ++ l) (points z)
+
+-- The run over a sheet that is taken, zero asserted or not: t is the log before root q.
+module _ (c : Call) (m : ℕ) (b : Prover.Buffers) (v : Lent) (h : Taken c (suc m)) (r : Room (c .asserted) (suc m) b v) where
+  abbrev needed : List ℕ
+  needed = take (4 * challenges (suc m)) (c .challenges)
+
+  abbrev rows : ℕ → Frac E.Ext
+  rows = node (c .rows)
+
+  abbrev S : Transcript E.Ext
+  S = Supplied needed
+
+  abbrev ended : Lent → Gkr.Verdict Extension S → Verifier.Outcome
+  ended v w = Verifier.ended needed w (v .point) (v .log)
+
+  module _ (t : Words) (e : Gkr.fractional-sumcheck Extension S (c .asserted) m rows Prover.nothing ≡ done (Gkr.run Extension S m rows t)) where
+    abbrev run : Gkr.Proved Extension S
+    run = Gkr.run Extension S m rows t
+
+    -- the prover is done with the model's run
+    pub proved-run : Prover.proved c b ≡ Prover.finished needed (suc m) b run
+    unfolding Prover.proved
+    proved-run =
+        ap (Prover.entered c b) (opens c m b v h r)
+        ∙ ap (λ (n : ℕ). Prover.ran (c .rows) (c .asserted) (c .challenges) n b) (rounds-taken-are c m b v h r)
+        ∙ ap (Prover.after needed (suc m) b) e
+
+    abbrev bytes : List ℕ
+    bytes = layout (encoded (run .proof))
+
+    -- the front of its proof buffer is the proof's layout
+    front : take (proof-bytes (suc m)) (Prover.proved c b .buffers .proof) ≡ bytes
+    front =
+        ap (λ o. take (proof-bytes (suc m)) (o .buffers .proof)) proved-run
+        ∙ take-at bytes (drop (length bytes) (b .proof)) (proof-bytes (suc m)) (honest-size S m rows t)
+
+    -- which the verifier reads as that proof
+    verified-run : Verifier.verified bytes (suc m) (c .challenges) (v .point) (v .log) ≡ ended v (Gkr.verify-gkr Extension S (suc m) (run .proof) Prover.nothing)
+    unfolding Verifier.verified Verifier.firstRefusal
+    verified-run =
+        ap (λ w. Verifier.follow w (suc m) (c .challenges) (v .point) (v .log))
+        (fail _ _ _ (ne-eqb (suc m) 0 (λ e. omega arith))
+        ∙ fail _ _ _ (le-ltb _ _ (h .few))
+        ∙ fail _ _ _ (le-ltb _ _ (h .enough))
+        ∙ fail _ _ _ (le-ltb _ _ (r .point-again))
+        ∙ fail _ _ _ (le-ltb _ _ (r .log-again))
+        ∙ ap (Verifier.readWay needed) (write-read (encoded (run .proof)))
+        ∙ pass _ _ _ (encoded-canonical (run .proof))
+        ∙ pass _ _ _ (h .valid-challenges))
+        ∙ ap (λ π. ended v (Gkr.verify-gkr Extension S (suc m) π Prover.nothing)) (decoded-encoded (run .proof))
+
+    pub verdict-run : verdict c (suc m) (Prover.proved c b) v ≡ ended v (Gkr.verify-gkr Extension S (suc m) (run .proof) Prover.nothing)
+    verdict-run = ap (λ bs. Verifier.verified bs (suc m) (c .challenges) (v .point) (v .log)) front ∙ verified-run
+
+    pub sum-run : Prover.proved c b .answer ≡ Done (suc m) (Prover.encFrac (root c (suc m)))
+    unfolding Gkr.run
+    sum-run = ap (λ o. o .answer) proved-run
+
+-- ZERO ASSERTED, AND THE ROOT NUMERATOR ZERO
+
+module _ (c : Call) (m : ℕ) (b : Prover.Buffers) (v : Lent) (h : Taken c (suc m)) (a : c .asserted ≡ true) (z : root c (suc m) .p ≡ E.nil) (r : Room true (suc m) b v) where
+  abbrev ch : List ℕ
+  ch = take (4 * challenges (suc m)) (c .challenges)
+
+  abbrev P : Gkr.Proved Extension (Supplied ch)
+  P = Gkr.run Extension (Supplied ch) m (node (c .rows)) Prover.nothing
+
+  theorem : (Gkr.fractional-sumcheck Extension (Supplied ch) true m (node (c .rows)) Prover.nothing ≡ done P)
+      × (Gkr.verify-gkr Extension (Supplied ch) (suc m) (P .proof) Prover.nothing ≡ accepted (Tree.value ExtRing (node (c .rows)) (P .point)) (P .point) (P .log))
+  theorem = Honest.honest Extension (Supplied ch) m (node (c .rows)) Prover.nothing z
+
+  is-done : Gkr.fractional-sumcheck Extension (Supplied ch) (c .asserted) m (node (c .rows)) Prover.nothing ≡ done P
+  is-done = ap (λ s. Gkr.fractional-sumcheck Extension (Supplied ch) s m (node (c .rows)) Prover.nothing) a ∙ theorem .0
+
+  r′ : Room (c .asserted) (suc m) b v
+  r′ = subst (λ s. Room s (suc m) b v) (sym a) r
+
+  run-is : Prover.proved c b ≡ Prover.finished ch (suc m) b P
+  run-is = proved-run c m b v h r′ Prover.nothing is-done
+
+  verdict-is : verdict c (suc m) (Prover.proved c b) v ≡ Verifier.ended ch (accepted (Tree.value ExtRing (node (c .rows)) (P .point)) (P .point) (P .log)) (v .point) (v .log)
+  verdict-is = verdict-run c m b v h r′ Prover.nothing is-done ∙ ap (λ w. Verifier.ended ch w (v .point) (v .log)) (theorem .1)
+
+  pub agreed : Agreed c (suc m) b v (Prover.proved c b) (verdict c (suc m) (Prover.proved c b) v)
+  agreed =
+      record {
+        point = P .point;
+        logged = P .log .log;
+        done = sum-run c m b v h r′ Prover.nothing is-done;
+        accepted = ap (λ o. o .answer) verdict-is;
+        coordinates = Count.point-length Extension (Supplied ch) m (node (c .rows)) Prover.nothing;
+        proved-point = ap (λ o. o .buffers .point) run-is;
+        verified-point = ap (λ o. o .point) verdict-is ∙ ap (λ l. Prover.over l (v .point)) (points (P .point));
+        size = TranscriptLaws.done-words Extension wordsOf _ (λ x. refl) true m (node (c .rows)) Prover.nothing P (theorem .0) ∙ zero-add _;
+        proved-log = ap (λ o. o .buffers .log) run-is;
+        verified-log = ap (λ o. o .log) verdict-is;
+      }
+
+none : (n : ℕ) → n ≡ 0 → 1 ≤ n → ⊥
+none n e h = omega arith
+
+-- THE THEOREM
+pub demand-3 : Demand3
+demand-3 c zero b v h a z r = absurd (none 0 refl (h .some))
+demand-3 c (suc m) b v h a z r = agreed c m b v h a z r
+
+-- ANOTHER SUM, NOT ASSERTED
+
+differs : (x : E.Ext) → (x ≡ E.nil → ⊥) → E.same x E.nil ≡ false
+differs x h = go (E.same x E.nil) refl
+  where
+    go : (s : Bool) → E.same x E.nil ≡ s → E.same x E.nil ≡ false
+    go true e = absurd (h (same-true x E.nil e))
+    go false e = e
+
+pub other-sum : OtherSum
+unfolding Gkr.fractional-sumcheck
+other-sum c zero b v h a z r = absurd (none 0 refl (h .some))
+other-sum c (suc m) b v h a z r =
+    let ch = take (4 * challenges (suc m)) (c .challenges) in
+    let f = node (c .rows) in
+    let t = Supplied ch .observe (root c (suc m) .p) Prover.nothing in
+    let e : Gkr.fractional-sumcheck Extension (Supplied ch) (c .asserted) m f Prover.nothing ≡ done (Gkr.run Extension (Supplied ch) m f t) =
+    ap (λ s. Gkr.fractional-sumcheck Extension (Supplied ch) s m f Prover.nothing) a in
+    let r′ : Room (c .asserted) (suc m) b v = subst (λ s. Room s (suc m) b v) (sym a) r in
+    let n = Honest.not-zero Extension (Supplied ch) m f t Prover.nothing (differs (root c (suc m) .p) z) in
+    (sum-run c m b v h r′ t e, ap (λ o. o .answer) (verdict-run c m b v h r′ t e ∙ ap (λ w. Verifier.ended ch w (v .point) (v .log)) n))

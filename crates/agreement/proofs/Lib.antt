@@ -1,0 +1,9 @@
+-- The laws of the agreement.
+pub mod HonestSize
+pub mod Sizing
+pub mod Opening
+pub mod Agreeing
+pub mod Modes
+pub mod Isolating
+pub mod Joining
+pub mod KTableHolds

@@ -1,0 +1,75 @@
+-- Demand 3: what has to hold of a sheet, its challenges and the buffers, and how prover and verifier then agree.
+-- Assumes nothing.
+use mathlib.Core.Path.{_≡_}
+use mathlib.Core.Bool.{Bool, true, false}
+use mathlib.Core.List.{List}
+use Prim.Native.Nat.{ℕ, _*_, _^_, _<_, _≤_}
+use lib.ListN.{length, take}
+use Rattle.field.specs.Ext as E
+use Rattle.field.specs.ExtRing.{ExtRing}
+use Rattle.field.specs.Element.{enc}
+use Rattle.gkr.specs.Run.{Frac}
+use Rattle.gkr.specs.Sizes.{challenges, proof-bytes, point-words, log-words, workspace-words}
+use Rattle.gkr.specs.Tree as Tree
+use Rattle.refusal.specs.Limits.{maxRounds}
+use Rattle.wire.specs.Words.{allCanonical}
+use Rattle.tree.specs.Nodes.{node}
+use Rattle.gate.specs.Refusals.{Call, degenerate}
+use Rattle.prover.specs.Proved as Prover
+use Rattle.prover.specs.declared.Answer.the-variants.{Done}
+use Rattle.verifier.specs.Verified as Verifier
+use Rattle.round.specs.declared.Verdict.the-variants.{Accepted}
+
+-- the buffers lent to the verifier
+pub record Lent : Type 0 where
+  pub point : List ℕ
+  pub log : List ℕ
+
+-- a sheet that both take: 2 ^ n rows and enough challenges, all valid words, n from 1 to the limit, and in live mode the row check passed
+pub record Taken (c : Call) (n : ℕ) : Type 0 where
+  pub some : 1 ≤ n
+  pub few : n ≤ maxRounds
+  pub rows : length (c .rows) ≡ 8 * 2 ^ n
+  pub enough : 4 * challenges n ≤ length (c .challenges)
+  pub valid-rows : allCanonical (c .rows) ≡ true
+  pub valid-challenges : allCanonical (take (4 * challenges n) (c .challenges)) ≡ true
+  pub checked : c .live ≡ true → (i : ℕ) → i < 2 ^ n → degenerate (node (c .rows) i) ≡ false
+
+-- the sum of all rows
+abbrev pub root : (c : Call) (n : ℕ) → Frac E.Ext
+root c n = Tree.tree ExtRing (node (c .rows)) n 0
+
+-- every buffer is long enough: the prover's four, the verifier's two
+pub record Room (asserted : Bool) (n : ℕ) (b : Prover.Buffers) (v : Lent) : Type 0 where
+  pub proof : proof-bytes n ≤ length (b .proof)
+  pub point : point-words n ≤ length (b .point)
+  pub log : log-words asserted n ≤ length (b .log)
+  pub work : workspace-words n ≤ length (b .work)
+  pub point-again : point-words n ≤ length (v .point)
+  pub log-again : log-words true n ≤ length (v .log)
+
+-- what the verifier makes of that proof's bytes, n and the same challenges
+abbrev pub verdict : (c : Call) (n : ℕ) (P : Prover.Outcome) (v : Lent) → Verifier.Outcome
+verdict c n P v = Verifier.verified (take (proof-bytes n) (P .buffers .proof)) n (c .challenges) (v .point) (v .log)
+
+-- THE AGREEMENT of a prover's outcome P over the buffers b and a verifier's outcome Q over the buffers v
+pub record Agreed (c : Call) (n : ℕ) (b : Prover.Buffers) (v : Lent) (P : Prover.Outcome) (Q : Verifier.Outcome) : Type 0 where
+  pub point : List E.Ext
+  pub logged : List ℕ
+  -- the prover is done, with n and the sum of all rows
+  pub done : P .answer ≡ Done n (Prover.encFrac (root c n))
+  -- the verifier accepts; its claims are the values of both columns at the point, the plain sums over all rows
+  pub accepted : Q .answer ≡ (let claims = Tree.value ExtRing (node (c .rows)) point in Accepted (enc (claims .p)) (enc (claims .q)))
+  -- the point is one, and so is the log
+  pub coordinates : length point ≡ n
+  pub proved-point : P .buffers .point ≡ Prover.over (Prover.pointWords point) (b .point)
+  pub verified-point : Q .point ≡ Prover.over (Prover.pointWords point) (v .point)
+  pub size : length logged ≡ log-words true n
+  pub proved-log : P .buffers .log ≡ Prover.over logged (b .log)
+  pub verified-log : Q .log ≡ Prover.over logged (v .log)
+
+-- THE DEMAND: zero asserted, and the root numerator zero
+abbrev pub Demand3 : Type 0
+Demand3 =
+    (c : Call) (n : ℕ) (b : Prover.Buffers) (v : Lent) → Taken c n → c .asserted ≡ true → root c n .p ≡ E.nil → Room true n b v
+    → let P = Prover.proved c b in Agreed c n b v P (verdict c n P v)

@@ -1,0 +1,5 @@
+-- What prover and verifier promise together.
+pub mod Demand3
+pub mod Companions
+pub mod Together
+pub mod KTable

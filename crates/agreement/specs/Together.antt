@@ -1,0 +1,34 @@
+-- Prover and verifier one after the other: what both leave, and when they agree.
+-- Assumes nothing.
+use Prim.Native.Nat.{ℕ}
+use Rattle.gate.specs.Refusals.{Call}
+use Rattle.prover.specs.Proved as Prover
+use Rattle.prover.specs.declared.Answer.{Answer}
+use Rattle.prover.specs.declared.Answer.the-variants.{Done}
+use Rattle.prover.specs.declared.Answer.the-variants.{Refused as Denied}
+use Rattle.verifier.specs.Verified as Verifier
+use Rattle.agreement.specs.declared.Joint.{Joint}
+use Rattle.agreement.specs.declared.Joint.the-variants.{Proved, Refused}
+use Rattle.agreement.specs.Demand3.{Lent, verdict, Agreed}
+
+-- a prover that refuses leaves the verifier's buffers as they were
+pub data Joined : Type 0 where
+  stopped : Prover.Outcome → Lent → Joined
+  ended : Prover.Outcome → Verifier.Outcome → Joined
+
+-- where the prover is done, the verifier gets the proof's bytes, n and the same challenges
+abbrev pub follow : (c : Call) (v : Lent) (P : Prover.Outcome) → Answer → Joined
+follow c v P (Done n s) = ended P (verdict c n P v)
+follow c v P (Denied e) = stopped P v
+
+unfoldable pub together : (c : Call) (b : Prover.Buffers) (v : Lent) → Joined
+together c b v = follow c v (Prover.proved c b) (Prover.proved c b .answer)
+
+-- an answer and the buffers after it
+abbrev pub joined : Joint → Prover.Buffers → Lent → Joined
+joined (Proved n s w) b v = ended (record { answer = Done n s; buffers = b }) (record { answer = w; point = v .point; log = v .log })
+joined (Refused e) b v = stopped (record { answer = Denied e; buffers = b }) v
+
+abbrev pub Agrees : (c : Call) (n : ℕ) (b : Prover.Buffers) (v : Lent) → Joined → Type 0
+Agrees c n b v (ended P Q) = Agreed c n b v P Q
+Agrees c n b v (stopped P w) = ⊥

@@ -1,0 +1,78 @@
+// Prover and verifier one after the other: demand 3 about the two functions that run.
+ghost use mathlib.Core.Path.{_≡_};
+ghost use mathlib.Core.Bool.{true};
+ghost use Prim.Native.Nat.{ℕ, _≤_};
+ghost use Rattle.gkr.specs.Sizes as Sizes;
+ghost use Rattle.refusal.specs.Limits.{maxRounds};
+ghost use Rattle.field.specs.Ext as E;
+ghost use Rattle.agreement.specs.Demand3.{Taken, root, Room};
+ghost use Rattle.agreement.specs.Together.{joined, together, Agrees};
+use prover::Answer;
+use refusal::Refusal;
+use round::Verdict;
+use step::Frac;
+
+// What the prover is done with and what the verifier makes of its proof; or the prover's refusal.
+pub enum Joint {
+    Proved {
+        rounds: usize,
+        sum: Frac,
+        verdict: Verdict,
+    },
+    Refused(Refusal),
+}
+
+fn proof_bytes(n: usize) -> usize
+    requires { ⌜ n ≤ maxRounds ⌝ }
+    ensures { λ r. ⌜ r ≡ Sizes.proof-bytes n ⌝ }
+{
+    if n == 0 {
+        return 23;
+    }
+    22 + 65 * n + 24 * (n * (n - 1))
+}
+
+// Proves a sheet, and hands the proof's bytes, n and the same challenges to the verifier, which has a point and a log of its own.
+pub fn prove_and_verify(
+    rows: &[u32],
+    live: bool,
+    assert_zero: bool,
+    challenges: &[u32],
+    proof: &mut [u8],
+    point: &mut [u32],
+    log: &mut [u32],
+    work: &mut [u32],
+    point_again: &mut [u32],
+    log_again: &mut [u32],
+) -> Joint
+    ensures both { λ r. ⌜ joined r (record { proof = now (proof .exit); point = now (point .exit); log = now (log .exit); work = now (work .exit) }) (record { point = now («point_again» .exit); log = now («log_again» .exit) }) ≡ together (record { rows = now (rows .entry); live = live; asserted = «assert_zero»; challenges = now (challenges .entry) }) (record { proof = now (proof .entry); point = now (point .entry); log = now (log .entry); work = now (work .entry) }) (record { point = now («point_again» .entry); log = now («log_again» .entry) }) ⌝ }
+    ensures demand { λ r. ⌜ ((n : ℕ) → Taken (record { rows = now (rows .entry); live = live; asserted = «assert_zero»; challenges = now (challenges .entry) }) n → «assert_zero» ≡ true → root (record { rows = now (rows .entry); live = live; asserted = «assert_zero»; challenges = now (challenges .entry) }) n .p ≡ E.nil → Room true n (record { proof = now (proof .entry); point = now (point .entry); log = now (log .entry); work = now (work .entry) }) (record { point = now («point_again» .entry); log = now («log_again» .entry) }) → Agrees (record { rows = now (rows .entry); live = live; asserted = «assert_zero»; challenges = now (challenges .entry) }) n (record { proof = now (proof .entry); point = now (point .entry); log = now (log .entry); work = now (work .entry) }) (record { point = now («point_again» .entry); log = now («log_again» .entry) }) (joined r (record { proof = now (proof .exit); point = now (point .exit); log = now (log .exit); work = now (work .exit) }) (record { point = now («point_again» .exit); log = now («log_again» .exit) }))) ⌝ }
+{
+    match prover::fractional_sumcheck(
+        rows,
+        live,
+        assert_zero,
+        challenges,
+        proof,
+        point,
+        log,
+        work,
+    ) {
+        Answer::Done { rounds, sum } => {
+            let size = proof_bytes(rounds);
+            let verdict = verifier::verify_gkr(
+                &proof[..size],
+                rounds,
+                challenges,
+                point_again,
+                log_again,
+            );
+            Joint::Proved {
+                rounds,
+                sum,
+                verdict,
+            }
+        }
+        Answer::Refused(refusal) => Joint::Refused(refusal),
+    }
+}
