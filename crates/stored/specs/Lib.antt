@@ -6,3 +6,10 @@ pub mod ParseLaws
 pub mod ReadWords
 pub mod RoundTrip
 pub mod Lengths
+pub mod Sheet
+pub mod SheetReads
+pub mod SheetLaws
+pub mod Elements
+pub mod ElementLaws
+pub mod Messages
+pub mod OneAnswer
