@@ -94,8 +94,12 @@ fn products() {
 fn main() {
     let kind = if cfg!(feature = "parallel") { "two cores" } else { "serial" };
     println!("{:32} {:>10} {:>10} {:>8}", format!("µs, the Rust {kind}"), "ours", "the Rust", "ratio");
-    [6, 8, 10].map(prover);
-    [4, 10].map(verifier);
+    for n in [6, 8, 10] {
+        prover(n);
+    }
+    for n in [4, 10] {
+        verifier(n);
+    }
     layer();
     products();
 }
