@@ -1,0 +1,2 @@
+-- The laws of the text.
+pub mod Reading
