@@ -1,0 +1,3 @@
+-- What the exported functions return and write.
+pub mod Answer
+pub mod Rooms
