@@ -45,26 +45,29 @@ fn chains(a: u32, b: u32, n: usize) -> u32 {
     plus(plus(x[0], x[1]), plus(x[2], x[3])).0[0]
 }
 
-// The best of nine runs, in nanoseconds.
-fn best(f: impl Fn(u32, u32, usize) -> u32, n: usize) -> (f64, u32) {
-    let mut best = f64::MAX;
-    let mut word = 0;
-    for _ in 0..9 {
-        let start = Instant::now();
-        word = f(black_box(1234567890), black_box(987654321), n);
-        best = best.min(start.elapsed().as_secs_f64() * 1e9);
-    }
-    (best, word)
+type Loop = fn(u32, u32, usize) -> u32;
+
+// Nanoseconds of one run, and its answer.
+fn timed(f: Loop, n: usize) -> (f64, u32) {
+    let start = Instant::now();
+    let word = f(black_box(1234567890), black_box(987654321), n);
+    (start.elapsed().as_secs_f64() * 1e9, word)
 }
 
-fn report(name: &str, products: usize, proved: (f64, u32), plain: (f64, u32)) {
-    assert_eq!(proved.1, plain.1, "the two disagree");
-    let (a, b) = (proved.0 / products as f64, plain.0 / products as f64);
+// The best of many short runs of each, in turn, so that a busy machine disturbs both alike.
+fn compare(name: &str, products: usize, n: usize, proved: Loop, plain: Loop) {
+    let (mut a, mut b) = (f64::MAX, f64::MAX);
+    for _ in 0..400 {
+        let ((t, word), (u, other)) = (timed(proved, n), timed(plain, n));
+        assert_eq!(word, other, "the two disagree");
+        a = a.min(t / products as f64);
+        b = b.min(u / products as f64);
+    }
     println!("{name}: proved {a:.2} ns a product, {:.0} million a second; Rust {b:.2} ns; ratio {:.2}", 1e3 / a, a / b);
 }
 
 fn main() {
-    let n = 2_000_000;
-    report("one chain", n, best(|a, b, n| unsafe { field_bench_chain(a, b, n) }, n), best(chain, n));
-    report("four chains", 4 * n, best(|a, b, n| unsafe { field_bench_chains(a, b, n) }, n), best(chains, n));
+    let n = 20_000;
+    compare("one chain", n, n, |a, b, n| unsafe { field_bench_chain(a, b, n) }, chain);
+    compare("four chains", 4 * n, n, |a, b, n| unsafe { field_bench_chains(a, b, n) }, chains);
 }

@@ -1,7 +1,7 @@
 -- Words and the field elements that they stand for.
 -- Assumes nothing.
-use mathlib.Core.Path.{_≡_, refl, sym, _∙_, ap, ap₂}
-use Prim.Native.Nat.{ℕ, _+_, _*_, _-_, _%_, _≤_, _<_}
+use mathlib.Core.Path.{_≡_, sym, _∙_, ap}
+use Prim.Native.Nat.{ℕ, _+_, _-_, _%_, _≤_}
 use native.Mathlib.Nat.{mod-eq-sub-mod, add-mod-right}
 use native.Mathlib.Omega.{arith}
 use mathlib.Core.List.{List, [], _∷_}

@@ -1,6 +1,6 @@
 -- m < n as a fact that computes: at numerals it is `Unit`, so that two records that hold it are equal by computation.
 -- Assumes nothing.
-use Prim.Native.Nat.{ℕ, zero, suc, _%_, _<_, compare, Ordering, Ordering·lt, Ordering·eq, Ordering·gt, zero-le, suc-le-suc, compare·zero-zero, compare·zero-suc, compare·suc-zero, compare·suc-suc}
+use Prim.Native.Nat.{ℕ, zero, suc, _<_, compare, Ordering, Ordering·lt, Ordering·eq, Ordering·gt, zero-le, suc-le-suc, compare·zero-zero, compare·zero-suc, compare·suc-zero, compare·suc-suc}
 use mathlib.Core.Path.{_≡_, refl, subst, subst⁻¹}
 use native.Mathlib.Nat.{not-suc-le-zero, le-of-suc-le-suc}
 

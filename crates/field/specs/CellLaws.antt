@@ -1,10 +1,9 @@
 -- Laws of cells: what is read from parts of a list and after a store, and which lists are clean.
 -- Assumes nothing.
-use mathlib.Core.Path.{_≡_, refl, sym, _∙_, ap, subst}
+use mathlib.Core.Path.{_≡_, refl, sym, _∙_, ap}
 use mathlib.Core.List.{List, [], _∷_, _++_}
 use Prim.Native.Nat.{ℕ, zero, suc, _+_, _*_, _<_, _≤_}
 use native.Mathlib.Omega.{arith}
-use native.Mathlib.Nat.{le-trans}
 use lib.ListN.{length, getD, set, take, drop, replicate, length-drop, List·getD-append}
 use lib.Seq.{sets, length-sets, getD-take, getD-drop, getD-append-add}
 use Rattle.field.specs.Base as B

@@ -1,15 +1,15 @@
 -- Words and elements are one another's inverses on canonical words, so no second answer fits.
 -- Assumes nothing.
 use mathlib.Core.Path.{_≡_, refl, sym, _∙_, ap, subst}
-use mathlib.Core.Bool.{Bool, true, false, _&&_}
+use mathlib.Core.Bool.{true}
 use Prim.Native.Nat.{ℕ, _<_}
 use native.Mathlib.Nat.{mod-eq-of-lt}
+use native.Mathlib.Omega.{arith}
 use borrow.Author.Tests.{ltb-true, lt-ltb}
-use Rattle.field.specs.Base as B
 use Rattle.field.specs.Base.{F, P, of}
 use Rattle.field.specs.BaseRing.{val-of, val-lt, of-val}
 use Rattle.field.specs.Ext as E
-use Rattle.field.specs.ExtRing.{Ext-path, both}
+use Rattle.field.specs.ExtRing.{Ext-path, arithmetic, both}
 use Rattle.field.specs.declared.Base.{Base}
 use Rattle.field.specs.declared.Ext.{Ext}
 use Rattle.field.specs.BaseElement as W
@@ -69,6 +69,22 @@ is-eq h e = record { canon = h .canon; value = h .value ∙ e }
 
 pub answer : {r : Ext} {x y : E.Ext} → Is r x → x ≡ y → r ≡ enc y
 answer h e = enc-of-is (is-eq h e)
+
+-- ---- the constants
+small : (n : ℕ) → n < P → Canon (record { c0 = n; c1 = 0; c2 = 0; c3 = 0 })
+small n h = record { c0 = h; c1 = omega arith; c2 = omega arith; c3 = omega arith }
+
+pub zero-is : Is (record { c0 = 0; c1 = 0; c2 = 0; c3 = 0 }) E.nil
+unfolding arithmetic
+zero-is = record { canon = small 0 (omega arith); value = refl }
+
+pub one-is : Is (record { c0 = 1; c1 = 0; c2 = 0; c3 = 0 }) E.one
+unfolding arithmetic
+one-is = record { canon = small 1 (omega arith); value = refl }
+
+pub two-is : Is (record { c0 = 2; c1 = 0; c2 = 0; c3 = 0 }) E.two
+unfolding arithmetic
+two-is = record { canon = small 2 (omega arith); value = refl }
 
 -- ---- the tests
 pub canon-true : (e : Ext) → canonWords e ≡ true → Canon e

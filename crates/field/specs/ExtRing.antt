@@ -1,7 +1,7 @@
 -- The extension is a commutative ring, in which 2 and 6 have inverses.
 -- Assumes nothing.
 use Prim.Native.Nat.{ℕ, zero, suc}
-use mathlib.Core.Path.{_≡_, refl, sym, _∙_, ap, ap₂}
+use mathlib.Core.Path.{_≡_, refl, sym, _∙_, ap}
 use mathlib.Core.List.{List, [], _∷_}
 use mathlib.Core.Bool.{Bool, true, false, _&&_}
 use lib.Dec.{eqb}
@@ -19,8 +19,8 @@ pub Ext-path : {a b : Ext} → a .c0 ≡ b .c0 → a .c1 ≡ b .c1 → a .c2 ≡
 Ext-path p q r s = λ i. record { c0 = p i; c1 = q i; c2 = r i; c3 = s i }
 
 -- the words of three elements, and 11: what the solver takes for unknowns
-abbrev words : Ext → Ext → Ext → List F
-words a b c = a .c0 ∷ a .c1 ∷ a .c2 ∷ a .c3 ∷ b .c0 ∷ b .c1 ∷ b .c2 ∷ b .c3 ∷ c .c0 ∷ c .c1 ∷ c .c2 ∷ c .c3 ∷ eleven ∷ []
+abbrev unknowns : Ext → Ext → Ext → List F
+unknowns a b c = a .c0 ∷ a .c1 ∷ a .c2 ∷ a .c3 ∷ b .c0 ∷ b .c1 ∷ b .c2 ∷ b .c3 ∷ c .c0 ∷ c .c1 ∷ c .c2 ∷ c .c3 ∷ eleven ∷ []
 
 -- ---- the laws
 pub e-add-assoc : (a b c : Ext) → add (add a b) c ≡ add a (add b c)
@@ -42,25 +42,25 @@ e-add-neg a = Ext-path (Base .add-neg (a .c0)) (Base .add-neg (a .c1)) (Base .ad
 pub e-mul-assoc : (a b c : Ext) → mul (mul a b) c ≡ mul a (mul b c)
 unfolding mul
 e-mul-assoc a b c =
-    let ρ : List F = words a b c in
+    let ρ : List F = unknowns a b c in
     Ext-path (ring Base ρ (search quote depth 20 fits 9999) tt) (ring Base ρ (search quote depth 20 fits 9999) tt) (ring Base ρ (search quote depth 20 fits 9999) tt) (ring Base ρ (search quote depth 20 fits 9999) tt)
 
 pub e-mul-comm : (a b : Ext) → mul a b ≡ mul b a
 unfolding mul
 e-mul-comm a b =
-    let ρ : List F = words a b a in
+    let ρ : List F = unknowns a b a in
     Ext-path (ring Base ρ (search quote depth 20 fits 9999) tt) (ring Base ρ (search quote depth 20 fits 9999) tt) (ring Base ρ (search quote depth 20 fits 9999) tt) (ring Base ρ (search quote depth 20 fits 9999) tt)
 
 pub e-mul-one : (a : Ext) → mul a one ≡ a
 unfolding mul one emb
 e-mul-one a =
-    let ρ : List F = words a a a in
+    let ρ : List F = unknowns a a a in
     Ext-path (ring Base ρ (search quote depth 20 fits 9999) tt) (ring Base ρ (search quote depth 20 fits 9999) tt) (ring Base ρ (search quote depth 20 fits 9999) tt) (ring Base ρ (search quote depth 20 fits 9999) tt)
 
 pub e-mul-add : (a b c : Ext) → mul a (add b c) ≡ add (mul a b) (mul a c)
 unfolding mul add
 e-mul-add a b c =
-    let ρ : List F = words a b c in
+    let ρ : List F = unknowns a b c in
     Ext-path (ring Base ρ (search quote depth 20 fits 9999) tt) (ring Base ρ (search quote depth 20 fits 9999) tt) (ring Base ρ (search quote depth 20 fits 9999) tt) (ring Base ρ (search quote depth 20 fits 9999) tt)
 
 -- ---- the ring
@@ -91,7 +91,7 @@ from-zero a = nil-add ExtRing (neg a)
 pub mul-emb : (a : Ext) (b : F) → mul a (emb b) ≡ record { c0 = B.mul (a .c0) b; c1 = B.mul (a .c1) b; c2 = B.mul (a .c2) b; c3 = B.mul (a .c3) b }
 unfolding mul emb
 mul-emb a b =
-    let ρ : List F = b ∷ words a a a in
+    let ρ : List F = b ∷ unknowns a a a in
     Ext-path (ring Base ρ (search quote depth 20 fits 9999) tt) (ring Base ρ (search quote depth 20 fits 9999) tt) (ring Base ρ (search quote depth 20 fits 9999) tt) (ring Base ρ (search quote depth 20 fits 9999) tt)
 
 -- ---- by computation: `unfolding arithmetic` opens all that closed elements compute by

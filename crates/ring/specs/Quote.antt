@@ -3,13 +3,14 @@
 -- `ring-by R (a ∷ b ∷ []) (c ▷ h ∷ []) (search quote) tt` may also use h : l ≡ r, taken c times.
 -- `Quote R ρ u t` holds the ways to write t over the list ρ.
 -- Assumes nothing.
-use Prim.Native.Nat.{ℕ, zero, suc, _+_}
+use Prim.Native.Nat.{ℕ, suc, _+_}
 use mathlib.Core.Path.{_≡_, refl, sym, _∙_, ap, ap₂}
 use mathlib.Core.List.{List, [], _∷_}
 use native.Mathlib.Nat.{zero-add, add-zero, add-suc, suc-add}
 use Rattle.ring.specs.Ring.{CommRing, num}
 use Rattle.ring.specs.RingLaws.{eq-of-sub, sub-of-eq, mul-nil}
-use Rattle.ring.specs.Solver.{vanishes, nth, den, Checks, E, var, #_, 𝟎, 𝟏, _⊕_, _⊖_, _⊗_, ⊝_}
+use Rattle.ring.specs.Expression.{nth, den, Checks, E, var, #_, 𝟎, 𝟏, _⊕_, _⊖_, _⊗_, ⊝_}
+use Rattle.ring.specs.Solver.{vanishes}
 
 -- The first index of these three types is always `R .one`. It says nothing: `search` finds a ring that is a definition, as `ExtRing`, only
 -- where what it looks for names one of the ring's fields.

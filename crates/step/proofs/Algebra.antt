@@ -1,12 +1,18 @@
 -- The identities behind the fast forms.
 -- Assumes nothing.
-use mathlib.Core.Path.{_≡_}
+use mathlib.Core.Path.{_≡_, refl}
 use mathlib.Core.List.{List, [], _∷_}
 use Rattle.ring.specs.Quote.{ring, quote}
+use Rattle.field.specs.Base as B
+use Rattle.field.specs.Base.{of}
+use Rattle.field.specs.Ext as E
 use Rattle.field.specs.Ext.{Ext, add, mul, neg, one}
 use Rattle.field.specs.ExtRing.{ExtRing}
+use Rattle.field.specs.Extension.{Extension}
+use Rattle.multilinear.specs.Forms as Forms
+use Rattle.multilinear.specs.Interpolate as Interpolate
 use Rattle.multilinear.specs.RoundSum as RoundSum
-use Rattle.step.specs.Values.{minus, line, two, three}
+use Rattle.step.specs.Values.{minus, line, two, three, cubicFrom}
 
 pub at-one : (a b : Ext) → b ≡ line one a b
 at-one a b = ring ExtRing (a ∷ b ∷ []) (search quote depth 20 fits 9999) tt
@@ -26,3 +32,40 @@ cross-fast p0 q0 p1 q1 l = ring ExtRing (p0 ∷ q0 ∷ p1 ∷ q1 ∷ l ∷ []) (
 
 pub low-part : (t x : Ext) → minus t (mul t x) ≡ mul t (minus one x)
 low-part t x = ring ExtRing (t ∷ x ∷ []) (search quote depth 20 fits 9999) tt
+
+-- three times a, by additions
+pub thrice : (a : Ext) → add (add a a) a ≡ mul a three
+thrice a = ring ExtRing (a ∷ []) (search quote depth 20 fits 9999) tt
+
+-- the inverses of 2 and 6 are the words that code takes
+pub by-half : (a : Ext) → mul a (E.emb (of 1006632961)) ≡ mul a E.half
+unfolding E.half B.half
+by-half a = refl
+
+pub by-sixth : (a : Ext) → mul a (E.emb (of 1677721601)) ≡ mul a E.sixth
+unfolding E.sixth B.sixth
+by-sixth a = refl
+
+pub quadratic-is : (e0 e1 e2 x : Ext) → let s1 = minus e1 e0 in
+    let p = mul (minus (minus e2 e1) s1) E.half in
+    add (mul (add (mul p x) (minus s1 p)) x) e0 ≡ Interpolate.quadratic Extension e0 e1 e2 x
+unfolding Interpolate.quadratic
+quadratic-is e0 e1 e2 x = refl
+
+pub cubic-is : (e0 e1 e2 e3 x : Ext) → let s1 = minus e1 e0 in
+    let s2 = minus e2 e0 in
+    cubicFrom s1 s2 (minus (minus e3 e0) (mul (minus s2 s1) three)) e0 x ≡ Interpolate.cubic Extension e0 e1 e2 e3 x
+unfolding Interpolate.cubic
+cubic-is e0 e1 e2 e3 x = refl
+
+-- the steps of `cubic_from`, put together
+pub cubic-steps : (s1 s2 d3 e0 x : Ext) {p m h q n r a b c : Ext} → p ≡ mul d3 (E.emb (of 1677721601)) → m ≡ minus s2 d3 → h ≡ mul m (E.emb (of 1006632961)) → q ≡ minus h s1
+    → n ≡ minus s1 p → r ≡ minus n q → a ≡ add (mul p x) q → b ≡ add (mul a x) r → c ≡ add (mul b x) e0 → c ≡ cubicFrom s1 s2 d3 e0 x
+cubic-steps s1 s2 d3 e0 x {m = m} ep em eh eq en er ea eb ec = cc (by-sixth d3, by-half m)
+
+pub agree-fast : (x y : Ext) → add (add (mul x y) (mul x y)) (minus (minus one x) y) ≡ Forms.agree ExtRing x y
+agree-fast x y = ring ExtRing (x ∷ y ∷ []) (search quote depth 20 fits 9999) tt
+
+pub one-is : E.ext 1 0 0 0 ≡ one
+unfolding one E.emb E.ext B.one B.nil
+one-is = refl

@@ -9,6 +9,9 @@ ghost use Rattle.multilinear.specs.RoundSum as RoundSum;
 ghost use Rattle.step.specs.Values.{CanonFrac, IsFrac, decFrac, CanonEntry, IsEntry, decClaims, CanonThree, IsThree, zip, zipFrac, minus, line, two, three, summandAt};
 use field::Ext;
 
+pub mod eq; // eq, one coordinate more
+pub mod interpolate; // values at x of the polynomials through given values
+
 // A fraction p / q, never reduced.
 pub struct Frac {
     pub p: Ext,

@@ -1,61 +1,45 @@
 use Prim.Native.Nat.{_+_, _*_}
 use Rattle.field.specs.Cells.{cell}
-use native.Mathlib.Omega.{arith}
 use borrow.Author.Needs.{needs}
 use Rattle.field.proofs.load.Statement.{statement}
 use Rattle.field.proofs.load.Tie as tie
-use Rattle.field.proofs.load.Reads as reads
-use Rattle.field.proofs.load.Lts as lts
 
--- src/lib.rt:125:13
 mul-k : tie.Need-mul-k
 mul-k c = search needs
 
--- src/lib.rt:127:13
 mul-t4 : tie.Need-mul-t4
 mul-t4 c = search needs
 
--- src/lib.rt:127:13
 shared-slice-read-t6 : tie.Need-shared-slice-read-t6
 shared-slice-read-t6 c = search needs
 
--- src/lib.rt:128:15
 add-t7 : tie.Need-add-t7
 add-t7 c = search needs
 
--- src/lib.rt:128:13
 mul-t8 : tie.Need-mul-t8
 mul-t8 c = search needs
 
--- src/lib.rt:128:13
 shared-slice-read-t10 : tie.Need-shared-slice-read-t10
 shared-slice-read-t10 c = search needs
 
--- src/lib.rt:129:15
 add-t11 : tie.Need-add-t11
 add-t11 c = search needs
 
--- src/lib.rt:129:13
 mul-t12 : tie.Need-mul-t12
 mul-t12 c = search needs
 
--- src/lib.rt:129:13
 shared-slice-read-t14 : tie.Need-shared-slice-read-t14
 shared-slice-read-t14 c = search needs
 
--- src/lib.rt:130:15
 add-t15 : tie.Need-add-t15
 add-t15 c = search needs
 
--- src/lib.rt:130:13
 mul-t16 : tie.Need-mul-t16
 mul-t16 c = search needs
 
--- src/lib.rt:130:13
 shared-slice-read-t18 : tie.Need-shared-slice-read-t18
 shared-slice-read-t18 c = search needs
 
--- src/lib.rt:120:1
 returns : tie.Need-returns
 unfolding cell
 returns c =

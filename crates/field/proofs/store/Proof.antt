@@ -4,62 +4,46 @@ use native.Mathlib.Omega.{arith}
 use borrow.Author.Needs.{needs}
 use Rattle.field.proofs.store.Statement.{statement}
 use Rattle.field.proofs.store.Tie as tie
-use Rattle.field.proofs.store.Reads as reads
-use Rattle.field.proofs.store.Lts as lts
 
--- src/lib.rt:140:13
 mul-k : tie.Need-mul-k
 mul-k c = search needs
 
--- src/lib.rt:141:5
 mul-s : tie.Need-mul-s
 mul-s c = search needs
 
--- src/lib.rt:141:5
 slice-write-s : tie.Need-slice-write-s
 slice-write-s c = search needs
 
--- src/lib.rt:142:7
 add-s : tie.Need-add-s
 add-s c = search needs
 
--- src/lib.rt:142:5
 mul-s-2 : tie.Need-mul-s-2
 mul-s-2 c = search needs
 
--- src/lib.rt:142:5
 slice-write-s-2 : tie.Need-slice-write-s-2
 slice-write-s-2 c = simp length-set (omega arith)
 
--- src/lib.rt:143:7
 add-s-2 : tie.Need-add-s-2
 add-s-2 c = search needs
 
--- src/lib.rt:143:5
 mul-s-3 : tie.Need-mul-s-3
 mul-s-3 c = search needs
 
--- src/lib.rt:143:5
 slice-write-s-3 : tie.Need-slice-write-s-3
 slice-write-s-3 c = simp length-set (omega arith)
 
--- src/lib.rt:144:7
 add-s-3 : tie.Need-add-s-3
 add-s-3 c = search needs
 
--- src/lib.rt:144:5
 mul-s-4 : tie.Need-mul-s-4
 mul-s-4 c = search needs
 
--- src/lib.rt:144:5
 slice-write-s-4 : tie.Need-slice-write-s-4
-slice-write-s-4 c = search needs
+slice-write-s-4 c = simp length-set (omega arith)
 
--- src/lib.rt:134:1
 same-length : tie.Need-same-length
 same-length c = search needs
 
--- src/lib.rt:134:1
 returns : tie.Need-returns
 returns c = let a = c .args in stored (a .s .now) (a .i) (a .e) (search needs) (search needs) (search needs)
 

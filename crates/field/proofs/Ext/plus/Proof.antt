@@ -1,29 +1,20 @@
 use Rattle.field.specs.Ext as E
-use native.Mathlib.Omega.{arith}
 use borrow.Author.Needs.{needs}
 use Rattle.field.proofs.Ext.plus.Statement.{statement}
 use Rattle.field.proofs.Ext.plus.Tie as tie
-use Rattle.field.proofs.Ext.plus.Reads as reads
-use Rattle.field.proofs.Ext.plus.Lts as lts
-use Rattle.field.proofs.words.add_word.Reads as add-word-reads
 
--- src/lib.rt:81:17
 add-word-requires : tie.Need-add-word-requires
 add-word-requires c κs = search needs
 
--- src/lib.rt:82:17
 add-word-requires-2 : tie.Need-add-word-requires-2
 add-word-requires-2 c κs = search needs
 
--- src/lib.rt:83:17
 add-word-requires-3 : tie.Need-add-word-requires-3
 add-word-requires-3 c κs = search needs
 
--- src/lib.rt:84:17
 add-word-requires-4 : tie.Need-add-word-requires-4
 add-word-requires-4 c κs = search needs
 
--- src/lib.rt:76:5
 returns : tie.Need-returns
 unfolding E.ext E.add E.neg
 returns c = record { canon = search needs; value = cc }

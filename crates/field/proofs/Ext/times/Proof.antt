@@ -1,44 +1,31 @@
 use Rattle.field.specs.Base.{of}
 use Rattle.field.specs.Ext as E
 use Rattle.field.proofs.Residues.{coord0, coord1, coord2}
-use native.Mathlib.Omega.{arith}
 use borrow.Author.Needs.{needs}
 use Rattle.field.proofs.Ext.times.Statement.{statement}
 use Rattle.field.proofs.Ext.times.Tie as tie
-use Rattle.field.proofs.Ext.times.Reads as reads
-use Rattle.field.proofs.Ext.times.Lts as lts
-use Rattle.field.proofs.words.dot.Reads as dot-reads
-use Rattle.field.proofs.words.eleven.Reads as eleven-reads
 
--- src/lib.rt:108:13
 eleven-requires : tie.Need-eleven-requires
 eleven-requires c κs = search needs
 
--- src/lib.rt:109:13
 eleven-requires-2 : tie.Need-eleven-requires-2
 eleven-requires-2 c κs = search needs
 
--- src/lib.rt:110:13
 eleven-requires-3 : tie.Need-eleven-requires-3
 eleven-requires-3 c κs = search needs
 
--- src/lib.rt:112:17
 dot-requires : tie.Need-dot-requires
 dot-requires c κs = search needs
 
--- src/lib.rt:113:17
 dot-requires-2 : tie.Need-dot-requires-2
 dot-requires-2 c κs = search needs
 
--- src/lib.rt:114:17
 dot-requires-3 : tie.Need-dot-requires-3
 dot-requires-3 c κs = search needs
 
--- src/lib.rt:115:17
 dot-requires-4 : tie.Need-dot-requires-4
 dot-requires-4 c κs = search needs
 
--- src/lib.rt:100:5
 returns : tie.Need-returns
 unfolding E.ext E.mul
 returns c =

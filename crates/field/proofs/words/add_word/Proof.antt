@@ -1,22 +1,16 @@
 use mathlib.Core.Path.{_∙_}
 use Rattle.field.specs.BaseRing.{of-add}
 use Rattle.field.proofs.Residues.{over}
-use native.Mathlib.Omega.{arith}
 use borrow.Author.Needs.{needs}
 use Rattle.field.proofs.words.add_word.Statement.{statement}
 use Rattle.field.proofs.words.add_word.Tie as tie
-use Rattle.field.proofs.words.add_word.Reads as reads
-use Rattle.field.proofs.words.add_word.Lts as lts
 
--- src/lib.rt:22:13
 add-s : tie.Need-add-s
 add-s c = search needs
 
--- src/lib.rt:24:9
 returns : tie.Need-returns
 returns c = (search needs, of-add _ _)
 
--- src/lib.rt:18:1
 returns-2 : tie.Need-returns-2
 returns-2 c = (search needs, over _ (search needs) ∙ of-add _ _)
 

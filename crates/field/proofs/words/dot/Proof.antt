@@ -1,45 +1,32 @@
 use Rattle.field.specs.BaseRing.{of-rules}
-use native.Mathlib.Omega.{arith}
 use borrow.Author.Needs.{needs}
 use Rattle.field.proofs.words.dot.Statement.{statement}
 use Rattle.field.proofs.words.dot.Tie as tie
-use Rattle.field.proofs.words.dot.Reads as reads
-use Rattle.field.proofs.words.dot.Lts as lts
-use Rattle.field.proofs.words.prod.Reads as prod-reads
 
--- src/lib.rt:58:7
 prod-requires : tie.Need-prod-requires
 prod-requires c κs = search needs
 
--- src/lib.rt:58:24
 prod-requires-2 : tie.Need-prod-requires-2
 prod-requires-2 c κs = search needs
 
--- src/lib.rt:58:7
 add-result : tie.Need-add-result
 add-result c = search needs
 
--- src/lib.rt:58:41
 prod-requires-3 : tie.Need-prod-requires-3
 prod-requires-3 c κs = search needs
 
--- src/lib.rt:58:7
 add-result-2 : tie.Need-add-result-2
 add-result-2 c = search needs
 
--- src/lib.rt:58:58
 prod-requires-4 : tie.Need-prod-requires-4
 prod-requires-4 c κs = search needs
 
--- src/lib.rt:58:7
 add-result-3 : tie.Need-add-result-3
 add-result-3 c = search needs
 
--- src/lib.rt:58:5
 cast-result : tie.Need-cast-result
 cast-result c = search needs
 
--- src/lib.rt:53:1
 returns : tie.Need-returns
 returns c =
     let s = c .before .before .before .prod .ensures .0 in

@@ -1,21 +1,16 @@
 use mathlib.Core.Path.{refl}
 use Prim.Native.Nat.{_*_, _≤_}
 use native.Mathlib.Nat.{mul-le-mul}
-use borrow.Author.Needs.{needs}
 use native.Mathlib.Omega.{arith}
 use Rattle.field.proofs.words.prod.Statement.{statement}
 use Rattle.field.proofs.words.prod.Tie as tie
-use Rattle.field.proofs.words.prod.Reads as reads
-use Rattle.field.proofs.words.prod.Lts as lts
 
 small : (c : tie.Start) → c .args .a * c .args .b ≤ 4053239664633446400
 small c = mul-le-mul {n₂ = 2013265920} {m₂ = 2013265920} (omega arith) (omega arith)
 
--- src/lib.rt:44:5
 mul-result : tie.Need-mul-result
 mul-result c = omega (arith, small c)
 
--- src/lib.rt:40:1
 returns : tie.Need-returns
 returns c = (refl, small c)
 

@@ -1,0 +1,61 @@
+use Rattle.field.specs.Element.{dec}
+use Rattle.step.proofs.Algebra.{cubic-steps}
+use native.Mathlib.Omega.{arith}
+use borrow.Author.Needs.{needs}
+use Rattle.step.proofs.interpolate.cubic_from.Statement.{statement}
+use Rattle.step.proofs.interpolate.cubic_from.Tie as tie
+use Rattle.step.proofs.interpolate.cubic_from.Reads as reads
+use Rattle.step.proofs.interpolate.cubic_from.Lts as lts
+use Rattle.field.proofs.Ext.minus.Reads as minus-reads
+use Rattle.field.proofs.Ext.times_word.Reads as times-word-reads
+use Rattle.step.proofs.interpolate.horner_step.Reads as horner-step-reads
+
+times-word-requires : tie.Need-times-word-requires
+times-word-requires c κs = search needs
+
+minus-requires : tie.Need-minus-requires
+minus-requires c κs = search needs
+
+times-word-requires-2 : tie.Need-times-word-requires-2
+times-word-requires-2 c κs = search needs
+
+minus-requires-2 : tie.Need-minus-requires-2
+minus-requires-2 c κs = search needs
+
+minus-requires-3 : tie.Need-minus-requires-3
+minus-requires-3 c κs = search needs
+
+minus-requires-4 : tie.Need-minus-requires-4
+minus-requires-4 c κs = search needs
+
+horner-step-requires : tie.Need-horner-step-requires
+horner-step-requires c κs = search needs
+
+horner-step-requires-2 : tie.Need-horner-step-requires-2
+horner-step-requires-2 c κs = search needs
+
+horner-step-requires-3 : tie.Need-horner-step-requires-3
+horner-step-requires-3 c κs = search needs
+
+returns : tie.Need-returns
+returns c =
+    let a = c .before .before .before .before .before .before .before .before .before .args in
+    record {
+      canon = search needs;
+      value = cubic-steps (dec (a .s1)) (dec (a .s2)) (dec (a .d3)) (dec (a .e0)) (dec (a .x)) (c .before .before .before .before .before .before .before .before .times-word .ensures .value) (c .before .before .before .before .before .before .before .minus .ensures .value) (c .before .before .before .before .before .before .times-word2 .ensures .value) (c .before .before .before .before .before .minus2 .ensures .value) (c .before .before .before .before .minus3 .ensures .value) (c .before .before .before .minus4 .ensures .value) (c .before .before .horner-step .ensures .value) (c .before .horner-step2 .ensures .value) (c .horner-step3 .ensures .value);
+    }
+
+pub cubic-from-spec : {M : Type 1} → statement M
+cubic-from-spec =
+    tie.close
+    (tie.spec
+    times-word-requires
+    minus-requires
+    times-word-requires-2
+    minus-requires-2
+    minus-requires-3
+    minus-requires-4
+    horner-step-requires
+    horner-step-requires-2
+    horner-step-requires-3
+    returns)
