@@ -1,6 +1,7 @@
 // The refusals of every call, by document 01's names, and the number and fields of each; and the limits on sizes.
 ghost use mathlib.Core.Path.{_≡_};
 ghost use Rattle.refusal.specs.Numbers.{plain, elements, reportOf};
+ghost use Rattle.refusal.specs.Powers.{powerOfTwo};
 use field::Ext;
 
 // The most rounds, and so the most rows, that a call takes.
@@ -129,4 +130,22 @@ pub fn number_and_fields(refusal: Refusal) -> Report
             actual,
         } => element_report(19, round, expected, actual),
     }
+}
+
+pub fn power_of_two(n: usize) -> bool
+    ensures { λ r. ⌜ r ≡ powerOfTwo n ⌝ }
+{
+    if n == 0 {
+        return false;
+    }
+    let mut k: usize = 0;
+    let mut p: usize = 1;
+    while p < n {
+        if n - p < p {
+            return false;
+        }
+        p += p;
+        k += 1;
+    }
+    true
 }

@@ -1,0 +1,4 @@
+pub mod ShapeLaws
+pub mod SearchLaws
+pub mod SheetSteps
+pub mod SheetPuts

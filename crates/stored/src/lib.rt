@@ -1,0 +1,166 @@
+// The stored form of a proof: its shape, its elements, and the search for a bad word in it.
+ghost use mathlib.Core.Path.{_≡_};
+ghost use mathlib.Core.Bool.{true};
+ghost use Prim.Native.Nat.{_+_, _*_, _≤_};
+ghost use lib.ListN.{length, drop};
+ghost use Rattle.wire.specs.Words.{allCanonical, firstBad};
+ghost use Rattle.stored.specs.Layout.{polysWords, proofWords};
+ghost use Rattle.stored.specs.Parse.{parse, entriesFit, entriesFrom, proofOf, claimsOf, cubicOf};
+ghost use Rattle.stored.specs.ParseLaws.{Shaped};
+ghost use Rattle.stored.specs.Shapes.{shapeOf, claimsIn, cubicIn};
+use field::Ext;
+use refusal::Refusal;
+
+pub mod sheet;
+
+// The counts of the two lists, and the place of the first polynomial entry.
+pub struct Outline {
+    pub layers: usize,
+    pub entries: usize,
+    pub polys: usize,
+}
+
+pub enum Shape {
+    Good(Outline),
+    Refused(Refusal),
+}
+
+// What reading or writing a sheet ends with.
+pub enum SheetAnswer {
+    Done(usize),
+    Refused(Refusal),
+}
+
+// The claims of a layer, and the polynomial of a sub-round, their words not yet checked.
+pub struct LayerClaims {
+    pub p_xi_0: Ext,
+    pub q_xi_0: Ext,
+    pub p_xi_1: Ext,
+    pub q_xi_1: Ext,
+}
+
+pub struct SubroundEvals {
+    pub s_1: Ext,
+    pub s_2: Ext,
+    pub s_3: Ext,
+}
+
+// Whether so many polynomial entries use up the bytes from a place on.
+fn entries_fit(proof: &[u8], from: usize, count: usize) -> bool
+    requires { ⌜ from ≤ length (now proof) ⌝ }
+    ensures { λ r. ⌜ r ≡ entriesFit count (drop from (now (proof .entry))) ⌝ }
+{
+    let mut at = from;
+    for k in 0..count {
+        if proof.len() <= at {
+            return false;
+        }
+        let size = 1 + 48 * (wire::wide(proof[at]) as usize);
+        if proof.len() - at < size {
+            return false;
+        }
+        at += size;
+    }
+    at == proof.len()
+}
+
+pub fn read_shape(proof: &[u8]) -> Shape
+    ensures { λ r. ⌜ r ≡ shapeOf (parse (now (proof .entry))) ⌝ }
+{
+    if proof.len() == 0 {
+        return Shape::Refused(Refusal::BadVersion);
+    }
+    if proof[0] != 1 {
+        return Shape::Refused(Refusal::BadVersion);
+    }
+    if proof.len() < 23 {
+        return Shape::Refused(Refusal::BadLength);
+    }
+    if wire::word_at(proof, 1) as usize != proof.len() - 5 {
+        return Shape::Refused(Refusal::BadLength);
+    }
+    let layers = wire::wide(proof[21]) as usize;
+    let polys = 23 + 64 * layers;
+    if proof.len() < polys {
+        return Shape::Refused(Refusal::BadLength);
+    }
+    let entries = wire::wide(proof[polys - 1]) as usize;
+    if !entries_fit(proof, polys, entries) {
+        return Shape::Refused(Refusal::BadLength);
+    }
+    Shape::Good(Outline {
+        layers,
+        entries,
+        polys,
+    })
+}
+
+pub fn read_claims(proof: &[u8], at: usize) -> LayerClaims
+    requires { ⌜ at + 64 ≤ length (now proof) ⌝ }
+    ensures { λ r. ⌜ claimsIn r ≡ claimsOf (drop at (now (proof .entry))) ⌝ }
+{
+    LayerClaims {
+        p_xi_0: wire::element_at(proof, at),
+        q_xi_0: wire::element_at(proof, at + 16),
+        p_xi_1: wire::element_at(proof, at + 32),
+        q_xi_1: wire::element_at(proof, at + 48),
+    }
+}
+
+pub fn read_subround(proof: &[u8], at: usize) -> SubroundEvals
+    requires { ⌜ at + 48 ≤ length (now proof) ⌝ }
+    ensures { λ r. ⌜ cubicIn r ≡ cubicOf (drop at (now (proof .entry))) ⌝ }
+{
+    SubroundEvals {
+        s_1: wire::element_at(proof, at),
+        s_2: wire::element_at(proof, at + 16),
+        s_3: wire::element_at(proof, at + 32),
+    }
+}
+
+// The place of the first bad word among the polynomial entries from a place on: left by the label at that word's sub-round.
+fn first_bad_in_entries(proof: &[u8], from: usize, count: usize) -> usize
+    requires { ⌜ (from ≤ length (now proof)) × (entriesFit count (drop from (now proof)) ≡ true) ⌝ }
+    ensures { λ r. ⌜ (r ≡ firstBad (polysWords (entriesFrom count (drop from (now (proof .entry)))))) × (4 * r ≤ length (now (proof .entry))) ⌝ }
+{
+    let mut place = 0;
+    let mut at = from;
+    'entries: for k in 0..count {
+        let subrounds = wire::wide(proof[at]) as usize;
+        at += 1;
+        for j in 0..subrounds {
+            let bad = wire::first_bad_stored(proof, at, 12);
+            place += bad;
+            if bad < 12 {
+                break 'entries;
+            }
+            at += 48;
+        }
+    }
+    place
+}
+
+// The place of the first bad word of a proof, counted over the words of its elements; their number if there is none.
+pub fn first_bad_in_proof(proof: &[u8], outline: Outline) -> usize
+    requires { ⌜ Shaped (now proof) outline ⌝ }
+    ensures { λ r. ⌜ r ≡ firstBad (proofWords (proofOf (now (proof .entry)))) ⌝ }
+{
+    let root = wire::first_bad_stored(proof, 5, 4);
+    if root < 4 {
+        return root;
+    }
+    let words = 16 * outline.layers;
+    let claims = wire::first_bad_stored(proof, 22, words);
+    if claims < words {
+        return 4 + claims;
+    }
+    4 + words + first_bad_in_entries(proof, outline.polys, outline.entries)
+}
+
+// Whether every word of a proof is canonical.
+pub fn canonical_proof(proof: &[u8], outline: Outline) -> bool
+    requires { ⌜ Shaped (now proof) outline ⌝ }
+    ensures { λ r. ⌜ r ≡ allCanonical (proofWords (proofOf (now (proof .entry)))) ⌝ }
+{
+    first_bad_in_proof(proof, outline) == (proof.len() - 7 - outline.entries) / 4
+}

@@ -1,0 +1,57 @@
+use mathlib.Core.Path.{_≡_, refl, sym, _∙_, ap}
+use Prim.Native.Nat.{ℕ, _+_, _*_, _-_, _/_, _%_, _≤_, _<_}
+use lib.ListN.{length, getD, drop, length-set}
+use Rattle.wire.specs.Bytes.{word, wordsFrom}
+use Rattle.wire.specs.Words.{allCanonical, firstBad}
+use Rattle.wire.proofs.Steps.{first-go, first-stop, first-end}
+use borrow.Author.Needs.{needs}
+use native.Mathlib.Omega.{arith}
+use Rattle.wire.proofs.first_bad_word.Statement.{statement}
+use Rattle.wire.proofs.first_bad_word.Tie as tie
+use Rattle.wire.proofs.first_bad_word.Reads as reads
+use Rattle.wire.proofs.first_bad_word.Lts as lts
+
+abbrev Inv-loop : tie.InvT-loop
+Inv-loop words i₀ i = (i ≤ length words) × (firstBad words ≡ i + firstBad (drop i words))
+
+abbrev μ-loop : tie.MeasureT-loop
+μ-loop words i₀ i = length words - i
+
+loop-holds : tie.Need-loop-holds Inv-loop μ-loop
+loop-holds c = search needs
+
+mul-if1 : tie.Need-mul-if1 Inv-loop μ-loop
+mul-if1 c = search needs
+
+shared-slice-read-if1 : tie.Need-shared-slice-read-if1 Inv-loop μ-loop
+shared-slice-read-if1 c = search needs
+
+add-i : tie.Need-add-i Inv-loop μ-loop
+add-i c = search needs
+
+loop-less : tie.Need-loop-less Inv-loop μ-loop
+loop-less c = search needs
+
+loop-again : tie.Need-loop-again Inv-loop μ-loop
+loop-again c = omega (arith, first-go (c .before .before .before .before .args .words .now) (c .before .before .before .loop .i) (omega arith) (c .if1 .left))
+
+returns : tie.Need-returns Inv-loop μ-loop
+returns c = omega (arith, first-end (c .before .before .args .words .now) (c .before .loop .i) (omega arith))
+
+returns-2 : tie.Need-returns-2 Inv-loop μ-loop
+returns-2 c = omega (arith, first-stop (c .before .before .before .before .args .words .now) (c .before .before .before .loop .i) (omega arith) (c .if1 .taken))
+
+pub first-bad-word-spec : {M : Type 1} → statement M
+first-bad-word-spec =
+    tie.close
+    (tie.spec
+    Inv-loop
+    μ-loop
+    loop-holds
+    mul-if1
+    shared-slice-read-if1
+    add-i
+    loop-less
+    loop-again
+    returns
+    returns-2)

@@ -1,0 +1,76 @@
+use mathlib.Core.Path.{_≡_, refl, sym, _∙_, ap}
+use Prim.Native.Nat.{ℕ, _+_, _*_, _-_, _/_, _%_, _≤_, _<_}
+use lib.ListN.{length, getD, drop, length-set}
+use Rattle.wire.specs.Bytes.{word, wordsFrom}
+use Rattle.wire.specs.Words.{allCanonical, firstBad}
+use Rattle.wire.proofs.Steps.{four-sets}
+use mathlib.Core.List.{[], _∷_}
+use Rattle.wire.specs.WrittenLaws.{sets-written}
+use Rattle.wire.specs.Bytes.{be4}
+use native.Mathlib.Omega.{arith}
+use borrow.Author.Needs.{needs}
+use Rattle.wire.proofs.put_word.Statement.{statement}
+use Rattle.wire.proofs.put_word.Tie as tie
+use Rattle.wire.proofs.put_word.Reads as reads
+use Rattle.wire.proofs.put_word.Lts as lts
+
+cast-out : tie.Need-cast-out
+cast-out c = search needs
+
+slice-write-out : tie.Need-slice-write-out
+slice-write-out c = search needs
+
+cast-out-2 : tie.Need-cast-out-2
+cast-out-2 c = search needs
+
+add-out : tie.Need-add-out
+add-out c = search needs
+
+slice-write-out-2 : tie.Need-slice-write-out-2
+slice-write-out-2 c = simp length-set (omega arith)
+
+cast-out-3 : tie.Need-cast-out-3
+cast-out-3 c = search needs
+
+add-out-2 : tie.Need-add-out-2
+add-out-2 c = search needs
+
+slice-write-out-3 : tie.Need-slice-write-out-3
+slice-write-out-3 c = simp length-set (omega arith)
+
+cast-out-4 : tie.Need-cast-out-4
+cast-out-4 c = search needs
+
+add-out-3 : tie.Need-add-out-3
+add-out-3 c = search needs
+
+slice-write-out-4 : tie.Need-slice-write-out-4
+slice-write-out-4 c = simp length-set (omega arith)
+
+add-result : tie.Need-add-result
+add-result c = search needs
+
+same-length : tie.Need-same-length
+same-length c = search needs
+
+returns : tie.Need-returns
+returns c = rw (four-sets (c .args .out .now) (c .args .at) (c .args .w / 16777216) (c .args .w / 65536 % 256) (c .args .w / 256 % 256) (c .args .w % 256)) (sets-written (be4 (c .args .w)) (c .args .out .now) (c .args .at) (c .args .at + 4) (omega arith) refl)
+
+pub put-word-spec : {M : Type 1} → statement M
+put-word-spec =
+    tie.close
+    (tie.spec
+    cast-out
+    slice-write-out
+    cast-out-2
+    add-out
+    slice-write-out-2
+    cast-out-3
+    add-out-2
+    slice-write-out-3
+    cast-out-4
+    add-out-3
+    slice-write-out-4
+    add-result
+    same-length
+    returns)
