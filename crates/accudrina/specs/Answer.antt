@@ -15,3 +15,11 @@ extWords e = e .c0 ∷ e .c1 ∷ e .c2 ∷ e .c3 ∷ []
 unfoldable pub answerWords : Report → List ℕ
 answerWords r =
     r .number ∷ fieldWord (r .first) ∷ fieldWord (r .second) ∷ fieldWord (r .third) ∷ (extWords (r .left) ++ (extWords (r .right) ++ (0 ∷ 0 ∷ 0 ∷ 0 ∷ [])))
+
+-- what a call returns, and the words that it writes
+pub record Told : Type 0 where
+  pub number : ℕ
+  pub words : List ℕ
+
+abbrev pub tells : Report → Told
+tells r = record { number = r .number; words = answerWords r }

@@ -1,3 +1,4 @@
 -- What the exported functions return and write.
 pub mod Answer
+pub mod Reports
 pub mod Rooms

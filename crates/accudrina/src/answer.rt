@@ -1,6 +1,6 @@
 // The sixteen words of an answer.
 ghost use mathlib.Core.Path.{_≡_};
-ghost use Rattle.accudrina.specs.Answer.{fieldWord, answerWords};
+ghost use Rattle.accudrina.specs.Answer.{fieldWord, tells};
 use refusal::Report;
 
 fn field_word(x: usize) -> u32
@@ -11,7 +11,7 @@ fn field_word(x: usize) -> u32
 
 // Every word of the answer is written; the number comes back.
 pub fn tell(report: Report, answer: &mut [u32; 16]) -> u32
-    ensures { λ r. ⌜ (r ≡ report .number) × (now (answer .exit) ≡ answerWords report) ⌝ }
+    ensures { λ r. ⌜ record { number = r; words = now (answer .exit) } ≡ tells report ⌝ }
 {
     let number = report.number;
     let first = field_word(report.first);

@@ -1,3 +1,22 @@
 // The functions that C and Rust call: a number is returned, and sixteen words of answer are written.
+ghost use mathlib.Core.Path.{_≡_};
+ghost use Rattle.stored.specs.SheetReads.{sheetRead};
+ghost use Rattle.accudrina.specs.Answer.{tells};
+ghost use Rattle.accudrina.specs.Reports.{sheetReport};
+
 mod answer; // the sixteen words
+mod report; // what they say of each call's answer
 mod rooms; // how much room a run asks for
+
+#[no_mangle]
+pub extern "C" fn accudrina_read_sheet(
+    sheet: &[u8],
+    rows: &mut [u32],
+    answer: &mut [u32; 16],
+) -> u32
+    ensures told { λ r. ⌜ record { number = r; words = now (answer .exit) } ≡ tells (sheetReport (sheetRead (now (sheet .entry)) (now (rows .entry)) .answer)) ⌝ }
+    ensures rows { λ _. ⌜ now (rows .exit) ≡ sheetRead (now (sheet .entry)) (now (rows .entry)) .buffer ⌝ }
+{
+    let read = stored::sheet::read_sheet(sheet, rows);
+    answer::tell(report::of_sheet(read), answer)
+}

@@ -1,4 +1,3 @@
-use mathlib.Core.Path.{refl}
 use Rattle.accudrina.specs.Answer.{answerWords}
 use borrow.Author.Needs.{needs}
 use Rattle.accudrina.proofs.answer.tell.Statement.{statement}
@@ -15,7 +14,7 @@ field-word-requires-3 c κs = search needs
 
 returns : tie.Need-returns
 unfolding answerWords
-returns c = (refl, simp (c .before .before .before .before .before .field-word .ensures, c .before .before .before .before .field-word2 .ensures, c .before .before .before .field-word3 .ensures))
+returns c = cc (c .before .before .before .before .before .field-word .ensures, c .before .before .before .before .field-word2 .ensures, c .before .before .before .field-word3 .ensures)
 
 pub tell-spec : {M : Type 1} → statement M
 tell-spec =

@@ -1,0 +1,26 @@
+use mathlib.Core.Path.{ap, _∙_}
+use Rattle.accudrina.specs.Answer.{tells}
+use Rattle.accudrina.specs.Reports.{sheetReport}
+use borrow.Author.Needs.{needs}
+use Rattle.accudrina.proofs.accudrina_read_sheet.Statement.{statement}
+use Rattle.accudrina.proofs.accudrina_read_sheet.Tie as tie
+
+read-sheet-requires : tie.Need-read-sheet-requires
+read-sheet-requires c κs = search needs
+
+of-sheet-requires : tie.Need-of-sheet-requires
+of-sheet-requires c κs = search needs
+
+tell-requires : tie.Need-tell-requires
+tell-requires c κs = search needs
+
+same-length : tie.Need-same-length
+same-length c = search needs
+
+returns : tie.Need-returns
+returns c =
+    (c .tell .ensures ∙ ap tells (c .before .before .of-sheet .ensures ∙ ap (λ e. sheetReport (e .answer)) (c .before .before .before .before .before .read-sheet .ensures)), ap (λ e. e .buffer) (c .before .before .before .before .before .read-sheet .ensures))
+
+pub accudrina-read-sheet-spec : {M : Type 1} → statement M
+accudrina-read-sheet-spec =
+    tie.close (tie.spec read-sheet-requires of-sheet-requires tell-requires same-length returns)
