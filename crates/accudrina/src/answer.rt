@@ -20,7 +20,7 @@ pub fn tell(report: Report, answer: &mut [u32; 16]) -> u32
     let left = report.left;
     let right = report.right;
     *answer = [
-        number,
+        report.number,
         first,
         second,
         third,

@@ -14,7 +14,7 @@ field-word-requires-3 c κs = search needs
 
 returns : tie.Need-returns
 unfolding answerWords
-returns c = cc (c .before .before .before .before .before .field-word .ensures, c .before .before .before .before .field-word2 .ensures, c .before .before .before .field-word3 .ensures)
+returns c = cc
 
 pub tell-spec : {M : Type 1} → statement M
 tell-spec =
