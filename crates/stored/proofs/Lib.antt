@@ -2,3 +2,5 @@ pub mod ShapeLaws
 pub mod SearchLaws
 pub mod SheetSteps
 pub mod SheetPuts
+pub mod PutLaws
+pub mod WholeLaws

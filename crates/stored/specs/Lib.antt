@@ -9,3 +9,7 @@ pub mod Lengths
 pub mod Sheet
 pub mod SheetReads
 pub mod SheetLaws
+pub mod Elements
+pub mod ElementLaws
+pub mod Messages
+pub mod OneAnswer

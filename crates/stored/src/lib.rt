@@ -11,7 +11,8 @@ ghost use Rattle.stored.specs.Shapes.{shapeOf, claimsIn, cubicIn};
 use field::Ext;
 use refusal::Refusal;
 
-pub mod sheet;
+pub mod sheet; // sheets, read and written
+pub mod writer; // a proof, written from the log
 
 // The counts of the two lists, and the place of the first polynomial entry.
 pub struct Outline {
