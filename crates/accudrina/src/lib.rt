@@ -1,8 +1,6 @@
 // The functions that C and Rust call: a number is returned, and sixteen words of answer are written.
 ghost use mathlib.Core.Path.{_≡_};
-ghost use Rattle.stored.specs.SheetReads.{sheetRead};
-ghost use Rattle.accudrina.specs.Answer.{tells};
-ghost use Rattle.accudrina.specs.Reports.{sheetReport};
+ghost use Rattle.accudrina.specs.Calls.{reading};
 
 mod answer; // the sixteen words
 mod report; // what they say of each call's answer
@@ -14,8 +12,7 @@ pub extern "C" fn accudrina_read_sheet(
     rows: &mut [u32],
     answer: &mut [u32; 16],
 ) -> u32
-    ensures told { λ r. ⌜ record { number = r; words = now (answer .exit) } ≡ tells (sheetReport (sheetRead (now (sheet .entry)) (now (rows .entry)) .answer)) ⌝ }
-    ensures rows { λ _. ⌜ now (rows .exit) ≡ sheetRead (now (sheet .entry)) (now (rows .entry)) .buffer ⌝ }
+    ensures { λ r. ⌜ record { told = record { number = r; words = now (answer .exit) }; buffers = now (rows .exit) } ≡ reading (now (sheet .entry)) (now (rows .entry)) ⌝ }
 {
     let read = stored::sheet::read_sheet(sheet, rows);
     answer::tell(report::of_sheet(read), answer)

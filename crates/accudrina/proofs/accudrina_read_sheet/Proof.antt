@@ -1,5 +1,5 @@
 use mathlib.Core.Path.{ap, _∙_}
-use Rattle.accudrina.specs.Answer.{tells}
+use Rattle.accudrina.proofs.Telling.{returned}
 use Rattle.accudrina.specs.Reports.{sheetReport}
 use borrow.Author.Needs.{needs}
 use Rattle.accudrina.proofs.accudrina_read_sheet.Statement.{statement}
@@ -19,7 +19,8 @@ same-length c = search needs
 
 returns : tie.Need-returns
 returns c =
-    (c .tell .ensures ∙ ap tells (c .before .before .of-sheet .ensures ∙ ap (λ e. sheetReport (e .answer)) (c .before .before .before .before .before .read-sheet .ensures)), ap (λ e. e .buffer) (c .before .before .before .before .before .read-sheet .ensures))
+    let read = c .before .before .before .before .before .read-sheet .ensures in
+    returned (c .tell .ensures) (c .before .before .of-sheet .ensures ∙ ap (λ e. sheetReport (e .answer)) read) (ap (λ e. e .buffer) read)
 
 pub accudrina-read-sheet-spec : {M : Type 1} → statement M
 accudrina-read-sheet-spec =

@@ -1,0 +1,16 @@
+-- What each exported call returns, writes as its answer and leaves in the buffers: the inner call's outcome, told in words.
+-- Assumes nothing.
+use mathlib.Core.List.{List}
+use Prim.Native.Nat.{ℕ}
+use Rattle.refusal.specs.declared.Report.{Report}
+use Rattle.stored.specs.SheetReads.{sheetRead}
+use Rattle.accudrina.specs.Answer.{Told, tells}
+use Rattle.accudrina.specs.Reports.{sheetReport}
+
+pub record Returned (B : Type 0) : Type 0 where
+  pub told : Told
+  pub buffers : B
+
+-- of the sheet's bytes, and the buffer for rows
+abbrev pub reading : List ℕ → List ℕ → Returned (List ℕ)
+reading sheet rows = record { told = tells (sheetReport (sheetRead sheet rows .answer)); buffers = sheetRead sheet rows .buffer }
