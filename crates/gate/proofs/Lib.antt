@@ -1,0 +1,3 @@
+-- The laws of the gate.
+pub mod Sizing
+pub mod Admitting

@@ -1,0 +1,4 @@
+-- The laws of a layer's columns.
+pub mod Weights
+pub mod Entries
+pub mod Agree

@@ -1,0 +1,2 @@
+-- A layer's columns in the workspace.
+pub mod Columns

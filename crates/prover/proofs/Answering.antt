@@ -1,0 +1,134 @@
+-- What each way through the prover answers and leaves is what the definition says.
+-- Assumes nothing.
+use mathlib.Core.Path.{_≡_, refl, sym, _∙_, ap, ap₂}
+use mathlib.Core.Bool.{Bool, true, false, not, _&&_, cond}
+use mathlib.Core.List.{List, [], _∷_, _++_, append-nil}
+use Prim.Native.Nat.{ℕ, zero, suc, _+_, _*_, _^_, _<_, _≤_}
+use native.Mathlib.Omega.{arith}
+use borrow.Author.Tests.{not-true, not-false, eq-eqb, ne-eqb}
+use lib.ListN.{length, take, drop, replicate, length-append, length-replicate, take-append-drop}
+use lib.Seq.{length-take-le, drop-drop}
+use Rattle.field.specs.Base as B
+use Rattle.field.specs.Ext as E
+use Rattle.field.specs.ExtRing.{ExtRing}
+use Rattle.field.specs.Extension.{Extension}
+use Rattle.field.specs.Element.{dec, enc}
+use Rattle.field.specs.ElementLaws.{enc-of-is}
+use Rattle.gkr.specs.Run.{Frac}
+use Rattle.gkr.specs.Count as Count
+use Rattle.gkr.specs.Tree as Tree
+use Rattle.gkr.specs.Gkr as Gkr
+use Rattle.gkr.specs.Gkr.{done, non-zero-root-sum}
+use Rattle.transcript.specs.Log.{Supplied}
+use Rattle.step.specs.declared.Frac.{Frac as FracW}
+use Rattle.step.specs.Values.{IsFrac}
+use Rattle.tree.specs.Nodes.{node}
+use Rattle.refusal.specs.declared.Refusal.the-variants.{NonZeroRootSum, SingleRow}
+use Rattle.refusal.specs.declared.Refusal.{Refusal}
+use Rattle.gate.specs.Refusals.{rowCount, workRoom}
+use Rattle.stored.specs.Layout.{layout}
+use Rattle.stored.specs.Messages.{noRows}
+use Rattle.prover.specs.declared.Answer.{Answer}
+use Rattle.prover.specs.declared.Answer.the-variants.{Done, Refused}
+use Rattle.prover.specs.Proved.{Buffers, Outcome, over, wiped, encFrac, nothing, refused, after, oneRow, ran, pointWords}
+use Rattle.prover.specs.Inner.{runOf, Written}
+use Rattle.prover.proofs.Writing.{drop-all, whole-proof}
+
+-- THE TEST OF ROOT P
+
+pub deny-asserted : (b s : Bool) {r : Bool} → b ≡ true → r ≡ s → not r ≡ (b && not s)
+deny-asserted b s h e = rw (h, e)
+
+pub deny-open : (b s : Bool) → b ≡ false → false ≡ (b && not s)
+deny-open b s h = rw h
+
+module _ (ch : List ℕ) (f : ℕ → Frac E.Ext) (m : ℕ) where
+  abbrev root : Frac E.Ext
+  root = Tree.tree ExtRing f (suc m) 0
+
+  abbrev model : Bool → Gkr.Answer Extension (Supplied ch)
+  model b = Gkr.fractional-sumcheck Extension (Supplied ch) b m f nothing
+
+  pub sumcheck-refused : (b : Bool) → (b && not (E.same (root .p) E.nil)) ≡ true → model b ≡ non-zero-root-sum
+  unfolding Gkr.fractional-sumcheck
+  sumcheck-refused true h = ap (λ t. cond t (done (runOf f true m ch)) non-zero-root-sum) (not-true (E.same (root .p) E.nil) h)
+  sumcheck-refused false h = absurd (let z : _≡_ {A = ℕ} 0 1 = cc in omega arith)
+
+  pub sumcheck-done : (b : Bool) → (b && not (E.same (root .p) E.nil)) ≡ false → model b ≡ done (runOf f b m ch)
+  unfolding Gkr.fractional-sumcheck
+  sumcheck-done true h = ap (λ t. cond t (done (runOf f true m ch)) non-zero-root-sum) (not-false (E.same (root .p) E.nil) h)
+  sumcheck-done false h = refl
+
+pub zeros-length : (n : ℕ) → length (replicate {A = ℕ} n 0) ≡ n
+zeros-length n = let z : ℕ = 0 in length-replicate n z
+
+-- the workspace of a run is the whole of its part
+whole-work : (ws ws' : List ℕ) (m n size : ℕ) → n ≡ suc m → size ≡ 2 ^ n → length ws ≡ 32 * size → ws' ≡ replicate (length ws) 0 → ws' ≡ wiped n ws
+whole-work ws ws' m n size e s l h =
+    let k : length ws ≡ workRoom n = l ∙ ap (λ k. 32 * k) (s ∙ ap (λ k. 2 ^ k) e) ∙ ap workRoom (sym e) in
+    h ∙ ap (λ k. replicate k 0) k ∙ sym (append-nil (replicate (workRoom n) 0))
+    ∙ ap (λ r. replicate (workRoom n) 0 ++ r) (sym (drop-all (length (replicate (workRoom n) 0)) ws (omega (arith, k, zeros-length (workRoom n)))))
+
+module _ (rows ch pf pt lg ws : List ℕ) (asserted : Bool) (m n size : ℕ) (root : FracW) (e : n ≡ suc m) (se : size ≡ 2 ^ n) (lw : length ws ≡ 32 * size)
+    (R : IsFrac root (Tree.tree ExtRing (node rows) (suc m) 0)) {t : Bool} (te : t ≡ (asserted && not (E.same (dec (root .p)) E.nil))) where
+  abbrev f : ℕ → Frac E.Ext
+  f = node rows
+
+  abbrev before : Buffers
+  before = record { proof = pf; point = pt; log = lg; work = ws }
+
+  abbrev told : Bool → Gkr.Answer Extension (Supplied ch)
+  told b = Gkr.fractional-sumcheck Extension (Supplied ch) b m f nothing
+
+  tested : t ≡ (asserted && not (E.same (Tree.tree ExtRing f (suc m) 0 .p) E.nil))
+  tested = te ∙ ap (λ x. asserted && not (E.same x E.nil)) (R .p .value)
+
+  pub prove-refused : (ws₁ ws' : List ℕ) → t ≡ true → length ws₁ ≡ length ws → ws' ≡ replicate (length ws₁) 0
+      → _≡_ {A = Outcome} (record { answer = Refused NonZeroRootSum; buffers = record { proof = pf; point = pt; log = lg; work = ws' } }) (after ch n before (told asserted))
+  prove-refused ws₁ ws' h l w =
+      let W = whole-work ws ws' m n size e se lw (w ∙ ap (λ k. replicate k 0) l) in
+      (λ i. record { answer = Refused NonZeroRootSum; buffers = record { proof = pf; point = pt; log = lg; work = W i } })
+      ∙ ap (after ch n before) (sym (sumcheck-refused ch f m asserted (sym tested ∙ h)))
+
+  pub prove-done : (b' : Buffers) → t ≡ false → Written f asserted m ch before b' → _≡_ {A = Outcome} (record { answer = Done n root; buffers = b' }) (after ch n before (told asserted))
+  unfolding Gkr.run
+  prove-done b' h w =
+      let S : root ≡ encFrac (runOf f asserted m ch .sum) = (λ i. record { p = enc-of-is (R .p) i; q = enc-of-is (R .q) i }) in
+      let W = whole-work ws (b' .work) m n size e se lw (w .work) in
+      (λ i. record { answer = Done n (S i); buffers = record { proof = w .proof i; point = w .point i; log = w .log i; work = W i } })
+      ∙ ap (after ch n before) (sym (sumcheck-done ch f m asserted (sym tested ∙ h)))
+
+-- NO ROUNDS
+
+pub one-refused : (rows : List ℕ) (asserted : Bool) (f : FracW) {t : Bool} → IsFrac f (node rows 0) → t ≡ (asserted && not (E.same (dec (f .p)) E.nil)) → t ≡ true → NonZeroRootSum ≡ oneRow rows asserted
+one-refused rows asserted f h te e = ap (λ b. cond b NonZeroRootSum SingleRow) (sym e ∙ te ∙ ap (λ x. asserted && not (E.same x E.nil)) (h .p .value))
+
+pub one-single : (rows : List ℕ) (asserted : Bool) (f : FracW) {t : Bool} → IsFrac f (node rows 0) → t ≡ (asserted && not (E.same (dec (f .p)) E.nil)) → t ≡ false → SingleRow ≡ oneRow rows asserted
+one-single rows asserted f h te e = ap (λ b. cond b NonZeroRootSum SingleRow) (sym e ∙ te ∙ ap (λ x. asserted && not (E.same x E.nil)) (h .p .value))
+
+zero-words : enc E.nil ≡ record { c0 = 0; c1 = 0; c2 = 0; c3 = 0 }
+unfolding E.nil E.emb B.nil B.of
+zero-words = refl
+
+one-words : enc E.one ≡ record { c0 = 1; c1 = 0; c2 = 0; c3 = 0 }
+unfolding E.one E.emb B.nil B.one B.of
+one-words = refl
+
+pub none-done : (rows pf pf' : List ℕ) (asserted : Bool) → rowCount rows ≡ 0 → 23 ≤ length pf → length pf' ≡ length pf → pf' ≡ layout noRows ++ drop 23 pf → (pt lg ws : List ℕ)
+    → _≡_ {A = Outcome}
+    (record {
+      answer = Done 0 (record { p = record { c0 = 0; c1 = 0; c2 = 0; c3 = 0 }; q = record { c0 = 1; c1 = 0; c2 = 0; c3 = 0 } });
+      buffers = record { proof = pf'; point = pt; log = lg; work = ws };
+    })
+    (ran rows asserted [] 0 (record { proof = pf; point = pt; log = lg; work = ws }))
+unfolding pointWords
+none-done rows pf pf' asserted h l k e pt lg ws =
+    let P = whole-proof pf pf' (layout noRows) 23 l k e in
+    (λ i. record { answer = Done 0 (record { p = zero-words (~ i); q = one-words (~ i) }); buffers = record { proof = P i; point = pt; log = lg; work = ws } })
+    ∙ sym (rw (eq-eqb (rowCount rows) 0 h))
+
+pub one-done : (rows pf : List ℕ) (asserted : Bool) {r : Refusal} → (rowCount rows ≡ 0 → ⊥) → r ≡ oneRow rows asserted → (pt lg ws : List ℕ)
+    → _≡_ {A = Outcome} (record { answer = Refused r; buffers = record { proof = pf; point = pt; log = lg; work = ws } }) (ran rows asserted [] 0 (record { proof = pf; point = pt; log = lg; work = ws }))
+one-done rows pf asserted h e pt lg ws =
+    let b : Buffers = record { proof = pf; point = pt; log = lg; work = ws } in
+    ap (λ r. refused r b) e ∙ sym (rw (ne-eqb (rowCount rows) 0 h))

@@ -1,0 +1,6 @@
+-- The laws of the prover.
+pub mod Transcribed
+pub mod Writing
+pub mod Answering
+pub mod Parts
+pub mod Opening

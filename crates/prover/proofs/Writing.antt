@@ -1,0 +1,109 @@
+-- What a run leaves in the buffers, in exact words: point, log and proof bytes from the front, and the rest as before.
+-- Assumes nothing.
+use mathlib.Core.Path.{_≡_, refl, sym, _∙_, ap, ap₂}
+use mathlib.Core.Bool.{Bool, true, false, cond}
+use mathlib.Core.List.{List, [], _∷_, _++_, append-nil}
+use Prim.Native.Nat.{ℕ, zero, suc, _+_, _*_, _-_, _/_, _≤_}
+use native.Mathlib.Omega.{arith}
+use lib.ListN.{length, take, drop, replicate, length-append, length-drop, take-append-drop}
+use lib.Seq.{take-add, drop-drop, length-take-le, take-all}
+use Rattle.field.specs.Ext as E
+use Rattle.field.specs.ExtRing.{ExtRing}
+use Rattle.field.specs.Extension.{Extension}
+use Rattle.field.specs.Element.{dec, words}
+use Rattle.field.specs.Cells.{cell, Clean}
+use Rattle.field.specs.CellLaws.{words-cell}
+use Rattle.gkr.specs.Run.{Frac}
+use Rattle.gkr.specs.Transcripts.{Words}
+use Rattle.gkr.specs.Tree as Tree
+use Rattle.gkr.specs.Gkr as Gkr
+use Rattle.transcript.specs.declared.Pos.{Pos}
+use Rattle.transcript.specs.Log.{Supplied, logOf, Steps}
+use Rattle.step.specs.declared.Frac.{Frac as FracW}
+use Rattle.step.specs.Values.{IsFrac}
+use Rattle.layer.specs.Columns.{cells}
+use Rattle.layer.proofs.Weights.{cells-length}
+use Rattle.stored.specs.Layout.{layout}
+use Rattle.stored.specs.Lengths.{proofSize}
+use Rattle.stored.specs.Elements.{encoded}
+use Rattle.stored.specs.Messages.{storedProof, readProof}
+use Rattle.run.specs.Runs.{origin, begun, RunOf}
+use Rattle.run.proofs.Whole.{past}
+use Rattle.prover.specs.Proved.{over, pointWords}
+use Rattle.prover.specs.Inner.{runOf, Written}
+use Rattle.prover.proofs.Transcribed.{Extends, proof-there}
+
+-- THE POINT
+
+pub point-length : (xs : List E.Ext) → length (pointWords xs) ≡ 4 * length xs
+unfolding pointWords
+point-length [] = refl
+point-length (x ∷ xs) = length-append (words x) (pointWords xs) ∙ omega (arith, point-length xs)
+
+cells-words : (ws : List ℕ) (at n : ℕ) → Clean ws → 4 * (at + n) ≤ length ws → take (4 * n) (drop (4 * at) ws) ≡ pointWords (cells ws at n)
+unfolding pointWords
+cells-words ws at zero c h = refl
+cells-words ws at (suc n) c h =
+    let e : 4 * suc n ≡ 4 + 4 * n = omega arith in
+    let d : 4 * at + 4 ≡ 4 * suc at = omega arith in
+    ap (λ k. take k (drop (4 * at) ws)) e
+    ∙ take-add 4 (4 * n) (drop (4 * at) ws)
+    ∙ ap₂ (λ a b. a ++ b) (words-cell ws at c (omega arith))
+    (ap (take (4 * n)) (drop-drop 4 (4 * at) ws ∙ ap (λ k. drop k ws) d) ∙ cells-words ws (suc at) n c (omega arith))
+
+pub drop-all : (n : ℕ) (l : List ℕ) → length l ≤ n → drop n l ≡ []
+drop-all n l h = empty (drop n l) (omega (arith, length-drop n l))
+  where
+    empty : (l : List ℕ) → length l ≤ 0 → l ≡ []
+    empty [] h = refl
+    empty (a ∷ l) h = absurd (omega arith)
+
+-- a point of n cells is the whole of its buffer
+pub whole-point : (pt pt' : List ℕ) (n : ℕ) (zs : List E.Ext) → Clean pt' → length pt ≡ 4 * n → length pt' ≡ 4 * n → cells pt' 0 n ≡ zs → pt' ≡ over (pointWords zs) pt
+whole-point pt pt' n zs c h h' e =
+    let l : length (pointWords zs) ≡ 4 * n = point-length zs ∙ ap (λ k. 4 * k) (ap length (sym e) ∙ cells-length pt' 0 n) in
+    sym (take-all (4 * n) pt' (omega arith)) ∙ cells-words pt' 0 n c (omega arith) ∙ ap pointWords e
+    ∙ sym (append-nil (pointWords zs)) ∙ ap (λ r. pointWords zs ++ r) (sym (drop-all (length (pointWords zs)) pt (omega arith)))
+
+-- THE LOG
+
+pub whole-log : (lg lg' ws : List ℕ) (k : ℕ) → k ≤ length lg' → take k lg' ≡ ws → drop k lg' ≡ drop k lg → lg' ≡ over ws lg
+whole-log lg lg' ws k h e d =
+    let l : k ≡ length ws = sym (length-take-le k lg' h) ∙ ap length e in
+    sym (take-append-drop k lg') ∙ ap₂ (λ a b. a ++ b) e (d ∙ ap (λ n. drop n lg) l)
+
+-- THE PROOF
+
+pub whole-proof : (pf pf' bs : List ℕ) (k : ℕ) → k ≤ length pf → length pf' ≡ length pf → pf' ≡ bs ++ drop k pf → pf' ≡ over bs pf
+whole-proof pf pf' bs k h l e =
+    let s : length bs ≡ k = omega (arith, ap length e ∙ length-append bs (drop k pf), length-drop k pf) in
+    e ∙ ap (λ n. bs ++ drop n pf) (sym s)
+
+-- root p's four words, or none, are whole cells
+pub quarter : (b : Bool) (put : ℕ) → put ≡ 0 + cond b 0 4 → put ≡ 4 * (put / 4)
+quarter true put h = omega arith
+quarter false put h = omega arith
+
+-- ALL
+
+pub written : (f : ℕ → Frac E.Ext) (asserted : Bool) (m n : ℕ) (ch pf pf' pt pt' lg lg₁ lg₂ ws ws₁ ws' : List ℕ) (pos z : Pos) (root : FracW)
+    → n ≡ suc m → IsFrac root (Tree.tree ExtRing f (suc m) 0)
+    → Steps lg lg₁ origin pos (cond asserted 0 4) 0 (begun asserted (dec (root .p))) → pos .put ≤ length lg₁
+    → RunOf f pt' lg₁ lg₂ ch m pos z → pos .put ≤ z .put → z .put ≤ length lg₂
+    → Clean pt' → length pt ≡ 4 * n → length pt' ≡ 4 * n
+    → proofSize n ≤ length pf → length pf' ≡ length pf → pf' ≡ layout (storedProof lg₂ (pos .put / 4) (n - 1)) ++ drop (proofSize n) pf
+    → ws' ≡ replicate (length ws₁) 0 → length ws₁ ≡ length ws
+    → Written f asserted m ch (record { proof = pf; point = pt; log = lg; work = ws }) (record { proof = pf'; point = pt'; log = lg₂; work = ws' })
+written f asserted m n ch pf pf' pt pt' lg lg₁ lg₂ ws ws₁ ws' pos z root e h s l₁ R u l₂ c lp lp' kp kf ep ew lw =
+    let run : Words → Gkr.Proved Extension (Supplied ch) = Gkr.run Extension (Supplied ch) m f in
+    let t : logOf lg₁ pos ≡ begun asserted (Tree.tree ExtRing f (suc m) 0 .p) = s .log ∙ ap (begun asserted) (h .p .value) in
+    let i = pos .put / 4 in
+    let q : n - 1 ≡ m = omega arith in
+    let X : Extends (run (logOf lg₁ pos) .log) lg₂ = record { rest = drop (z .put) lg₂; whole = sym (take-append-drop (z .put) lg₂) ∙ ap (λ w. w .log ++ drop (z .put) lg₂) (R .log) } in
+    let there = proof-there ch m f (logOf lg₁ pos) lg₂ i (length-take-le (pos .put) lg₁ l₁ ∙ quarter asserted (pos .put) (s .put)) X in
+    record {
+      proof = whole-proof pf pf' (layout (encoded (runOf f asserted m ch .proof))) (proofSize n) kp kf (ep ∙ ap (λ π. layout (encoded π) ++ drop (proofSize n) pf) (ap (λ k. readProof lg₂ i k) q ∙ there ∙ ap (λ u. run u .proof) t));
+      point = whole-point pt pt' n _ c lp lp' (ap (cells pt' 0) e ∙ R .point ∙ ap (λ u. run u .point) t);
+      log = whole-log lg lg₂ _ (z .put) l₂ (ap (λ w. w .log) (R .log) ∙ ap (λ u. run u .log .log) t) (R .rest ∙ past lg lg₁ (pos .put) (z .put) u (s .rest));
+      work = ew ∙ ap (λ k. replicate k 0) lw;
+    }

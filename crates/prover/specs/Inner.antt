@@ -1,0 +1,58 @@
+-- What the prover's inner functions ask for and leave.
+-- Assumes nothing.
+use mathlib.Core.Path.{_≡_}
+use mathlib.Core.Bool.{Bool, cond}
+use mathlib.Core.List.{List}
+use mathlib.Core.Logic.{_⊎_}
+use Prim.Native.Nat.{ℕ, suc, _+_, _*_, _^_, _<_, _≤_}
+use lib.ListN.{length, take, replicate}
+use Rattle.field.specs.Ext as E
+use Rattle.field.specs.ExtRing.{ExtRing}
+use Rattle.field.specs.Extension.{Extension}
+use Rattle.field.specs.Cells.{Clean}
+use Rattle.gkr.specs.Run.{Frac}
+use Rattle.gkr.specs.Sizes as Sizes
+use Rattle.gkr.specs.Tree as Tree
+use Rattle.gkr.specs.Gkr as Gkr
+use Rattle.transcript.specs.Log.{Supplied}
+use Rattle.stored.specs.Layout.{layout}
+use Rattle.stored.specs.Elements.{encoded}
+use Rattle.stored.specs.Lengths.{proofSize}
+use Rattle.run.specs.Runs.{begun}
+use Rattle.rounds.specs.Layers.{logUpTo, usedUpTo}
+use Rattle.gate.specs.Refusals.{Rooms, rowCount, roundsOf, logRoom, workRoom}
+use Rattle.prover.specs.Proved.{Buffers, over, pointWords}
+
+-- the model's run over 2 ^ suc m rows f
+abbrev pub runOf : (f : ℕ → Frac E.Ext) (asserted : Bool) (m : ℕ) (ch : List ℕ) → Gkr.Proved Extension (Supplied ch)
+runOf f asserted m ch = Gkr.run Extension (Supplied ch) m f (begun asserted (Tree.tree ExtRing f (suc m) 0 .p))
+
+-- it is written, and the workspace wiped
+pub record Written (f : ℕ → Frac E.Ext) (asserted : Bool) (m : ℕ) (ch : List ℕ) (b b' : Buffers) : Type 0 where
+  pub proof : b' .proof ≡ over (layout (encoded (runOf f asserted m ch .proof))) (b .proof)
+  pub point : b' .point ≡ over (pointWords (runOf f asserted m ch .point)) (b .point)
+  pub log : b' .log ≡ over (runOf f asserted m ch .log .log) (b .log)
+  pub work : b' .work ≡ replicate (length (b .work)) 0
+
+-- the room of a run over n rounds, in the lent parts
+pub record Room (asserted : Bool) (n size : ℕ) (c p x l w : ℕ) : Type 0 where
+  pub some : 1 ≤ n
+  pub few : n < 256
+  pub pow : size ≡ 2 ^ n
+  pub proof : proofSize n ≤ p
+  pub point : x ≡ 4 * n
+  pub log : cond asserted 0 4 + logUpTo n ≤ l
+  pub used : 4 * usedUpTo n ≤ c + 4
+  pub work : w ≡ 32 * size
+
+-- what an open gate tells
+pub record Opens (rows : List ℕ) (asserted : Bool) (ch : List ℕ) (r : Rooms) : Type 0 where
+  pub words : length rows ≡ 8 * rowCount rows
+  pub size : (roundsOf (rowCount rows) ≡ 0) ⊎ (rowCount rows ≡ 2 ^ roundsOf (rowCount rows))
+  pub challenges : 4 * Sizes.challenges (roundsOf (rowCount rows)) ≤ length ch
+  pub proof : Sizes.proof-bytes (roundsOf (rowCount rows)) ≤ r .proof
+  pub point : Sizes.point-words (roundsOf (rowCount rows)) ≤ r .point
+  pub log : logRoom asserted (roundsOf (rowCount rows)) ≤ r .log
+  pub work : workRoom (roundsOf (rowCount rows)) ≤ r .work
+  pub clean : Clean rows
+  pub supplied : Clean (take (4 * Sizes.challenges (roundsOf (rowCount rows))) ch)

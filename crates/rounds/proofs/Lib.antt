@@ -1,0 +1,3 @@
+-- The laws of the rounds.
+pub mod Sending
+pub mod Descent

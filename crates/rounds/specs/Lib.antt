@@ -1,0 +1,3 @@
+-- The rounds over lent buffers, against the model.
+pub mod SubRounds
+pub mod Layers

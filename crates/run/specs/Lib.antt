@@ -1,0 +1,2 @@
+-- The run over 2^n rows, against the model.
+pub mod Runs

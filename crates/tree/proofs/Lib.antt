@@ -1,0 +1,3 @@
+-- The laws of the workspace's nodes.
+pub mod Memory
+pub mod Heap

@@ -1,0 +1,2 @@
+-- Nodes of the fraction tree in a workspace of words.
+pub mod Nodes
