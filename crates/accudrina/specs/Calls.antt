@@ -2,7 +2,6 @@
 -- Assumes nothing.
 use mathlib.Core.List.{List}
 use Prim.Native.Nat.{ℕ}
-use Rattle.refusal.specs.declared.Report.{Report}
 use Rattle.stored.specs.SheetReads.{sheetRead}
 use Rattle.accudrina.specs.Answer.{Told, tells}
 use Rattle.accudrina.specs.Reports.{sheetReport}

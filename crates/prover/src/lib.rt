@@ -2,9 +2,6 @@ use refusal::Refusal;
 use step::Frac;
 
 pub enum Answer {
-    Done {
-        rounds: usize,
-        sum: Frac,
-    },
+    Done { rounds: usize, sum: Frac },
     Refused(Refusal),
 }
