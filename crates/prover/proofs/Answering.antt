@@ -1,6 +1,6 @@
 -- What each way through the prover answers and leaves is what the definition says.
 -- Assumes nothing.
-use mathlib.Core.Path.{_≡_, refl, sym, _∙_, ap, ap₂}
+use mathlib.Core.Path.{_≡_, refl, sym, _∙_, ap, subst}
 use mathlib.Core.Bool.{Bool, true, false, not, _&&_, cond}
 use mathlib.Core.List.{List, [], _∷_, _++_, append-nil}
 use Prim.Native.Nat.{ℕ, zero, suc, _+_, _*_, _^_, _<_, _≤_}
@@ -23,14 +23,17 @@ use Rattle.transcript.specs.Log.{Supplied}
 use Rattle.step.specs.declared.Frac.{Frac as FracW}
 use Rattle.step.specs.Values.{IsFrac}
 use Rattle.tree.specs.Nodes.{node}
+use Rattle.rounds.specs.Layers.{Levels}
 use Rattle.refusal.specs.declared.Refusal.the-variants.{NonZeroRootSum, SingleRow}
 use Rattle.refusal.specs.declared.Refusal.{Refusal}
-use Rattle.gate.specs.Refusals.{rowCount, workRoom}
+use Rattle.gate.specs.declared.Gate.{Gate}
+use Rattle.gate.specs.declared.Gate.the-variants.{Open, Shut}
+use Rattle.gate.specs.Refusals.{Call, rowCount, roundsOf, workRoom, firstRefusal}
 use Rattle.stored.specs.Layout.{layout}
 use Rattle.stored.specs.Messages.{noRows}
 use Rattle.prover.specs.declared.Answer.{Answer}
 use Rattle.prover.specs.declared.Answer.the-variants.{Done, Refused}
-use Rattle.prover.specs.Proved.{Buffers, Outcome, over, wiped, encFrac, nothing, refused, after, oneRow, ran, pointWords}
+use Rattle.prover.specs.Proved.{Buffers, Outcome, over, wiped, encFrac, nothing, refused, after, oneRow, ran, entered, proved, roomsOf, pointWords}
 use Rattle.prover.specs.Inner.{runOf, Written}
 use Rattle.prover.proofs.Writing.{drop-all, whole-proof}
 
@@ -61,6 +64,14 @@ module _ (ch : List ℕ) (f : ℕ → Frac E.Ext) (m : ℕ) where
 
 pub zeros-length : (n : ℕ) → length (replicate {A = ℕ} n 0) ≡ n
 zeros-length n = let z : ℕ = 0 in length-replicate n z
+
+-- the same workspace room, and the same tree, under the other number
+pub rewritten : {f : ℕ → Frac E.Ext} {asserted : Bool} {m : ℕ} {ch pf pt lg ws ws₁ : List ℕ} {b' : Buffers} → length ws₁ ≡ length ws
+    → Written f asserted m ch (record { proof = pf; point = pt; log = lg; work = ws₁ }) b' → Written f asserted m ch (record { proof = pf; point = pt; log = lg; work = ws }) b'
+rewritten e w = record { proof = w .proof; point = w .point; log = w .log; work = w .work ∙ ap (λ k. replicate k 0) e }
+
+pub levels-at : {f : ℕ → Frac E.Ext} {ws : List ℕ} {m n : ℕ} → n ≡ suc m → Levels f ws (suc m) 0 → Levels f ws n 0
+levels-at {f} {ws} e L = subst (λ n. Levels f ws n 0) (sym e) L
 
 -- the workspace of a run is the whole of its part
 whole-work : (ws ws' : List ℕ) (m n size : ℕ) → n ≡ suc m → size ≡ 2 ^ n → length ws ≡ 32 * size → ws' ≡ replicate (length ws) 0 → ws' ≡ wiped n ws
@@ -124,7 +135,7 @@ pub none-done : (rows pf pf' : List ℕ) (asserted : Bool) → rowCount rows ≡
 unfolding pointWords
 none-done rows pf pf' asserted h l k e pt lg ws =
     let P = whole-proof pf pf' (layout noRows) 23 l k e in
-    (λ i. record { answer = Done 0 (record { p = zero-words (~ i); q = one-words (~ i) }); buffers = record { proof = P i; point = pt; log = lg; work = ws } })
+    (λ i. record { answer = Done 0 (record { p = sym zero-words i; q = sym one-words i }); buffers = record { proof = P i; point = pt; log = lg; work = ws } })
     ∙ sym (rw (eq-eqb (rowCount rows) 0 h))
 
 pub one-done : (rows pf : List ℕ) (asserted : Bool) {r : Refusal} → (rowCount rows ≡ 0 → ⊥) → r ≡ oneRow rows asserted → (pt lg ws : List ℕ)
@@ -132,3 +143,14 @@ pub one-done : (rows pf : List ℕ) (asserted : Bool) {r : Refusal} → (rowCoun
 one-done rows pf asserted h e pt lg ws =
     let b : Buffers = record { proof = pf; point = pt; log = lg; work = ws } in
     ap (λ r. refused r b) e ∙ sym (rw (ne-eqb (rowCount rows) 0 h))
+
+-- THE WHOLE CALL
+
+pub proved-shut : (c : Call) (b : Buffers) {g : Gate} {r : Refusal} → g ≡ firstRefusal c (roomsOf b) → g ≡ Shut r → refused r b ≡ proved c b
+unfolding proved
+proved-shut c b e h = ap (entered c b) (sym h ∙ e)
+
+pub proved-open : (c : Call) (b : Buffers) {g : Gate} {o : Outcome} → g ≡ firstRefusal c (roomsOf b) → g ≡ Open
+    → o ≡ ran (c .rows) (c .asserted) (c .challenges) (roundsOf (rowCount (c .rows))) b → o ≡ proved c b
+unfolding proved
+proved-open c b e h k = k ∙ ap (entered c b) (sym h ∙ e)

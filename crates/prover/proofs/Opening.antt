@@ -80,7 +80,7 @@ gate-opens c r h1 =
 
 -- THE ROOM OF A RUN
 
-log-sum : (n : ℕ) → logUpTo n ≡ 8 * (n * n) + 16 * n
+pub log-sum : (n : ℕ) → logUpTo n ≡ 8 * (n * n) + 16 * n
 unfolding logUpTo
 log-sum zero = refl
 log-sum (suc n) = omega (arith, log-sum n)
@@ -89,6 +89,12 @@ used-sum : (n : ℕ) → 2 * usedUpTo n ≡ 3 * n + n * n
 unfolding usedUpTo
 used-sum zero = refl
 used-sum (suc n) = omega (arith, used-sum n)
+
+used-needed : (m : ℕ) → usedUpTo (suc m) ≡ Sizes.challenges (suc m) + 1
+used-needed m =
+    let e : m ≡ suc m - 1 = omega arith in
+    let h : usedUpTo (suc m) ≡ 2 * suc m - 1 + suc m * m / 2 + 1 = omega (arith, used-sum (suc m)) in
+    h ∙ ap (λ k. 2 * suc m - 1 + suc m * k / 2 + 1) e
 
 pub run-room : (rows : List ℕ) (asserted : Bool) (ch : List ℕ) (r : Rooms) (n size need c p x l w : ℕ) → Opens rows asserted ch r
     → n ≡ roundsOf (rowCount rows) → n ≤ maxRounds → (n ≡ 0 → ⊥) → size ≡ 2 ^ n → need ≡ 4 * Sizes.challenges n
@@ -101,7 +107,7 @@ run-room rows asserted ch r (suc m) size need c p x l w O e f z s d ec ep ex el 
   proof = let h : Sizes.proof-bytes (suc m) ≤ r .proof = subst (λ n. Sizes.proof-bytes n ≤ r .proof) (sym e) (O .proof) in omega arith;
   point = ex;
   log = let h : logRoom asserted (suc m) ≤ r .log = subst (λ n. logRoom asserted n ≤ r .log) (sym e) (O .log) in omega (arith, log-sum (suc m));
-  used = omega (arith, used-sum (suc m));
+  used = omega (arith, used-needed m);
   work = ew;
 }
 
@@ -111,3 +117,19 @@ rows-room rows asserted ch r n size O e z s = go (O .size)
     go : (roundsOf (rowCount rows) ≡ 0) ⊎ (rowCount rows ≡ 2 ^ roundsOf (rowCount rows)) → 8 * size ≤ length rows
     go (inl h) = absurd (z (e ∙ h))
     go (inr h) = let w = O .words in let q : rowCount rows ≡ size = h ∙ ap (λ k. 2 ^ k) (sym e) ∙ sym s in omega arith
+
+-- the needed parts are there
+pub parts-room : (rows : List ℕ) (asserted : Bool) (ch : List ℕ) (r : Rooms) (n size need : ℕ) → Opens rows asserted ch r → n ≡ roundsOf (rowCount rows) → (n ≡ 0 → ⊥) → size ≡ 2 ^ n → need ≡ 4 * Sizes.challenges n
+    → (need ≤ length ch) × (4 * n ≤ r .point) × (32 * size ≤ r .work)
+parts-room rows asserted ch r n size need O e z s d = (
+  subst (λ k. k ≤ length ch) (ap (λ n. 4 * Sizes.challenges n) (sym e) ∙ sym d) (O .challenges),
+  subst (λ n. 4 * n ≤ r .point) (sym e) (O .point),
+  subst (λ k. k ≤ r .work) (ap workRoom (sym e) ∙ room n z ∙ ap (λ k. 32 * k) (sym s)) (O .work),
+)
+  where
+    room : (n : ℕ) → (n ≡ 0 → ⊥) → workRoom n ≡ 32 * 2 ^ n
+    room zero z = absurd (z refl)
+    room (suc m) z = refl
+
+pub supplied-part : (rows : List ℕ) (asserted : Bool) (ch : List ℕ) (r : Rooms) (n need : ℕ) → Opens rows asserted ch r → n ≡ roundsOf (rowCount rows) → need ≡ 4 * Sizes.challenges n → Clean (take need ch)
+supplied-part rows asserted ch r n need O e d = subst (λ k. Clean (take k ch)) (ap (λ n. 4 * Sizes.challenges n) (sym e) ∙ sym d) (O .supplied)

@@ -66,3 +66,7 @@ run-parts rows ch pf pt lg ws asserted n need size k w r pf' xi' lg' ws' ne nz s
     ∙ (λ i. after (take (de i) ch) (e i) b (Gkr.fractional-sumcheck Extension (Supplied (take (de i) ch)) asserted m (node rows) nothing))
     ∙ ap (λ j. after (take (4 * challenges j) ch) (suc m) b (Gkr.fractional-sumcheck Extension (Supplied (take (4 * challenges j) ch)) asserted m (node rows) nothing)) e
     ∙ ap (λ j. ran rows asserted ch j b) (sym e ∙ ne)
+
+-- no rounds take no challenges
+pub no-parts : (rows ch : List ℕ) (asserted : Bool) (b : Buffers) {o : Outcome} → o ≡ ran rows asserted [] 0 b → 0 ≡ roundsOf (rowCount rows) → o ≡ ran rows asserted ch (roundsOf (rowCount rows)) b
+no-parts rows ch asserted b h e = h ∙ ap (λ n. ran rows asserted ch n b) e

@@ -1,7 +1,208 @@
+// The prover: fractional_sumcheck over lent buffers.
+ghost use mathlib.Core.Path.{_≡_};
+ghost use mathlib.Core.Bool.{not, _&&_};
+ghost use mathlib.Core.List.{List, []};
+ghost use Prim.Native.Nat.{ℕ, suc, _*_, _≤_};
+ghost use lib.ListN.{length};
+ghost use Rattle.field.specs.Ext as E;
+ghost use Rattle.field.specs.ExtRing.{ExtRing};
+ghost use Rattle.field.specs.Extension.{Extension};
+ghost use Rattle.field.specs.Element.{dec};
+ghost use Rattle.field.specs.Cells.{Clean};
+ghost use Rattle.gkr.specs.Run.{Frac as Fraction};
+ghost use Rattle.gkr.specs.Tree as Tree;
+ghost use Rattle.gkr.specs.Gkr as Gkr;
+ghost use Rattle.transcript.specs.Log.{Supplied};
+ghost use Rattle.step.specs.Values.{CanonFrac, IsFrac};
+ghost use Rattle.tree.specs.Nodes.{node};
+ghost use Rattle.rounds.specs.Layers.{Levels};
+ghost use Rattle.gate.specs.Refusals.{rowCount, roundsOf};
+ghost use Rattle.prover.specs.Proved.{oneRow, nothing, after, ran, proved};
+ghost use Rattle.prover.specs.Inner.{Written, Room, Opens};
+ghost use Rattle.prover.specs.Report.{answerReport};
+use field::Ext;
+use gate::Gate;
 use refusal::Refusal;
+use refusal::Report;
 use step::Frac;
 
+// Done tells n and the sum of all rows.
 pub enum Answer {
     Done { rounds: usize, sum: Frac },
     Refused(Refusal),
+}
+
+// The run over the tree in the workspace, its proof from the log, and the wiping of the workspace.
+fn write_run(
+    n: usize,
+    size: usize,
+    root: Frac,
+    asserted: bool,
+    challenges: &[u32],
+    proof: &mut [u8],
+    xi: &mut [u32],
+    log: &mut [u32],
+    work: &mut [u32],
+)
+    requires room { ⌜ Room asserted n size (length (now challenges)) (length (now proof)) (length (now xi)) (length (now log)) (length (now work)) ⌝ }
+    requires clean { ⌜ Clean (now work) × Clean (now challenges) × CanonFrac root ⌝ }
+    ensures { λ _. ⌜ ((f : ℕ → Fraction E.Ext) (m : ℕ) → n ≡ suc m → Levels f (now (work .entry)) n 0 → IsFrac root (Tree.tree ExtRing f (suc m) 0) → Written f asserted m (now (challenges .entry)) (record { proof = now (proof .entry); point = now (xi .entry); log = now (log .entry); work = now (work .entry) }) (record { proof = now (proof .exit); point = now (xi .exit); log = now (log .exit); work = now (work .exit) })) ⌝ }
+{
+    let pos = run::begin(log, asserted, root.p);
+    run::run_rounds(n, size, root.q, work, xi, log, challenges, pos);
+    let i = pos.put / 4;
+    stored::writer::put_proof(proof, log, i, n);
+    tree::clear(work);
+}
+
+// Whether zero is asserted of a sum whose numerator is not zero.
+fn contradicts(asserted: bool, p: Ext) -> bool
+    ensures { λ r. ⌜ r ≡ (asserted && not (E.same (dec p) E.nil)) ⌝ }
+{
+    if asserted {
+        return !p.is_zero();
+    }
+    false
+}
+
+// The run over size = 2^n rows. Nothing but the workspace is written before the test of root p.
+fn prove(
+    rows: &[u32],
+    asserted: bool,
+    n: usize,
+    size: usize,
+    challenges: &[u32],
+    proof: &mut [u8],
+    xi: &mut [u32],
+    log: &mut [u32],
+    work: &mut [u32],
+) -> Answer
+    requires room { ⌜ Room asserted n size (length (now challenges)) (length (now proof)) (length (now xi)) (length (now log)) (length (now work)) × (8 * size ≤ length (now rows)) ⌝ }
+    requires clean { ⌜ Clean (now rows) × Clean (now challenges) ⌝ }
+    ensures { λ r. ⌜ ((m : ℕ) → n ≡ suc m → record { answer = r; buffers = record { proof = now (proof .exit); point = now (xi .exit); log = now (log .exit); work = now (work .exit) } } ≡ after (now (challenges .entry)) n (record { proof = now (proof .entry); point = now (xi .entry); log = now (log .entry); work = now (work .entry) }) (Gkr.fractional-sumcheck Extension (Supplied (now (challenges .entry))) asserted m (node (now (rows .entry))) nothing)) ⌝ }
+{
+    let root = run::sum_rows(rows, size, work);
+    if contradicts(asserted, root.p) {
+        tree::clear(work);
+        return Answer::Refused(Refusal::NonZeroRootSum);
+    }
+    write_run(n, size, root, asserted, challenges, proof, xi, log, work);
+    Answer::Done {
+        rounds: n,
+        sum: root,
+    }
+}
+
+// One row: 8 where zero is asserted and p is not zero, else 9.
+fn one_row(rows: &[u32], asserted: bool) -> Refusal
+    requires { ⌜ (8 ≤ length (now rows)) × Clean (now rows) ⌝ }
+    ensures { λ r. ⌜ r ≡ oneRow (now (rows .entry)) asserted ⌝ }
+{
+    if contradicts(asserted, tree::load_node(rows, 0).p) {
+        return Refusal::NonZeroRootSum;
+    }
+    Refusal::SingleRow
+}
+
+// No rounds: no rows are done, with the 23 bytes of their proof; one row is refused.
+fn no_rounds(rows: &[u32], asserted: bool, proof: &mut [u8]) -> Answer
+    requires { ⌜ (length (now rows) ≡ 8 * rowCount (now rows)) × (23 ≤ length (now proof)) × Clean (now rows) ⌝ }
+    ensures { λ r. ⌜ ((pt lg ws : List ℕ) → record { answer = r; buffers = record { proof = now (proof .exit); point = pt; log = lg; work = ws } } ≡ ran (now (rows .entry)) asserted [] 0 (record { proof = now (proof .entry); point = pt; log = lg; work = ws })) ⌝ }
+{
+    if rows.len() / 8 == 0 {
+        stored::writer::put_no_rows(proof);
+        return Answer::Done {
+            rounds: 0,
+            sum: Frac {
+                p: Ext::ZERO,
+                q: Ext::ONE,
+            },
+        };
+    }
+    Answer::Refused(one_row(rows, asserted))
+}
+
+// What passed the gate. A run gets the needed parts of the challenges, the point and the workspace.
+fn admitted(
+    rows: &[u32],
+    asserted: bool,
+    challenges: &[u32],
+    proof: &mut [u8],
+    point: &mut [u32],
+    log: &mut [u32],
+    work: &mut [u32],
+) -> Answer
+    requires { ⌜ Opens (now rows) asserted (now challenges) (record { proof = length (now proof); point = length (now point); log = length (now log); work = length (now work) }) ⌝ }
+    ensures { λ r. ⌜ record { answer = r; buffers = record { proof = now (proof .exit); point = now (point .exit); log = now (log .exit); work = now (work .exit) } } ≡ ran (now (rows .entry)) asserted (now (challenges .entry)) (roundsOf (rowCount (now (rows .entry)))) (record { proof = now (proof .entry); point = now (point .entry); log = now (log .entry); work = now (work .entry) }) ⌝ }
+{
+    let size = gate::least_size(rows.len() / 8);
+    let n = size.n;
+    if n == 0 {
+        return no_rounds(rows, asserted, proof);
+    }
+    let need = gate::challenge_words(n);
+    let k = 4 * n;
+    let w = 32 * size.rows;
+    prove(
+        rows,
+        asserted,
+        n,
+        size.rows,
+        &challenges[..need],
+        proof,
+        &mut point[..k],
+        log,
+        &mut work[..w],
+    )
+}
+
+// Proves that the fractions of a sheet sum up, over lent buffers: row words, live or sandbox, zero asserted or not, challenge words;
+// rooms for the proof's bytes, the point, the log, and a workspace.
+pub fn fractional_sumcheck(
+    rows: &[u32],
+    live: bool,
+    assert_zero: bool,
+    challenges: &[u32],
+    proof: &mut [u8],
+    point: &mut [u32],
+    log: &mut [u32],
+    work: &mut [u32],
+) -> Answer
+    ensures { λ r. ⌜ record { answer = r; buffers = record { proof = now (proof .exit); point = now (point .exit); log = now (log .exit); work = now (work .exit) } } ≡ proved (record { rows = now (rows .entry); live = live; asserted = «assert_zero»; challenges = now (challenges .entry) }) (record { proof = now (proof .entry); point = now (point .entry); log = now (log .entry); work = now (work .entry) }) ⌝ }
+{
+    let gate = gate::first_refusal(
+        rows,
+        live,
+        assert_zero,
+        challenges,
+        proof.len(),
+        point.len(),
+        log.len(),
+        work.len(),
+    );
+    match gate {
+        Gate::Shut(r) => Answer::Refused(r),
+        Gate::Open => admitted(rows, assert_zero, challenges, proof, point, log, work),
+    }
+}
+
+// The answer as document 01 has it: its number, and its values.
+pub fn number_and_values(answer: Answer) -> Report
+    ensures { λ r. ⌜ r ≡ answerReport answer ⌝ }
+{
+    match answer {
+        Answer::Done { rounds, sum } => {
+            let p = sum.p;
+            let q = sum.q;
+            Report {
+                number: 0,
+                first: rounds,
+                second: 0,
+                third: 0,
+                left: p,
+                right: q,
+            }
+        }
+        Answer::Refused(r) => refusal::number_and_fields(r),
+    }
 }

@@ -1,0 +1,79 @@
+use Prim.Native.Nat.{_^_}
+use mathlib.Core.Path.{_∙_, ap}
+use lib.Pow.{pow-pos}
+use Rattle.tree.specs.Nodes.{node}
+use Rattle.prover.proofs.Answering.{prove-refused, prove-done, rewritten, levels-at}
+use native.Mathlib.Omega.{arith}
+use borrow.Author.Needs.{needs}
+use Rattle.prover.proofs.prove.Statement.{statement}
+use Rattle.prover.proofs.prove.Tie as tie
+use Rattle.prover.proofs.prove.Reads as reads
+use Rattle.prover.proofs.prove.Lts as lts
+use Rattle.prover.proofs.contradicts.Reads as contradicts-reads
+use Rattle.prover.proofs.write_run.Reads as write-run-reads
+use Rattle.run.proofs.sum_rows.Reads as sum-rows-reads
+use Rattle.tree.proofs.clear.Reads as clear-reads
+
+sum-rows-requires : tie.Need-sum-rows-requires
+sum-rows-requires c κs =
+    let p = c .before .before .before .before .before .before .before .pre .0 in
+    ((omega (arith, p .0 .pow, pow-pos (c .before .before .before .before .before .before .before .args .n)), p .1, omega (arith, p .0 .work)), c .before .before .before .before .before .before .before .pre .1 .0)
+
+contradicts-requires : tie.Need-contradicts-requires
+contradicts-requires c κs = search needs
+
+clear-requires : tie.Need-clear-requires
+clear-requires c κs = search needs
+
+same-length : tie.Need-same-length
+same-length c = search needs
+
+returns : tie.Need-returns
+returns c =
+    let p = c .before .before .before .before .before .before .before .before .before .before .before .before .before .before .before .before .pre .0 .0 in
+    let s = c .before .before .before .before .before .before .before .before .sum-rows .ensures in
+    λ m e. prove-refused (c .before .before .before .before .before .before .before .before .before .before .before .before .before .before .before .before .args .rows .now) _ _ _ _ (c .before .before .before .before .before .before .before .before .before .before .before .before .before .before .before .before .args .work .now) _ m _ _ _ e (p .pow) (p .work) (s .sum m (p .pow ∙ ap (λ k. 2 ^ k) e)) (c .before .before .before .before .before .contradicts .ensures) (c .before .before .before .before .before .before .before .before .sum-rows .last .1 .1 .0) _ (c .before .before .before .before .if1 .taken) (omega (arith, c .before .before .before .before .before .before .before .before .sum-rows .kept)) (c .before .before .clear .ensures)
+
+write-run-requires : tie.Need-write-run-requires
+write-run-requires c κs =
+    let p = c .before .before .before .before .before .before .before .before .before .before .before .before .before .before .before .before .pre in
+    let s = c .before .before .before .before .before .before .before .before .sum-rows .ensures in
+    let k = c .before .before .before .before .before .before .before .before .sum-rows .kept in
+    let r = p .0 .0 in
+    (record { some = r .some; few = r .few; pow = r .pow; proof = r .proof; point = r .point; log = r .log; used = r .used; work = omega (arith, r .work, k) }, (s .clean, p .1 .1, record { p = s .known .p .canon; q = s .known .q .canon }))
+
+same-length-2 : tie.Need-same-length-2
+same-length-2 c = search needs
+
+same-length-3 : tie.Need-same-length-3
+same-length-3 c = search needs
+
+same-length-4 : tie.Need-same-length-4
+same-length-4 c = search needs
+
+same-length-5 : tie.Need-same-length-5
+same-length-5 c = search needs
+
+returns-2 : tie.Need-returns-2
+returns-2 c =
+    let p = c .before .before .before .before .before .before .before .before .before .before .before .before .before .before .before .before .before .before .before .before .before .before .before .before .before .pre .0 .0 in
+    let s = c .before .before .before .before .before .before .before .before .before .before .before .before .before .before .before .before .before .sum-rows .ensures in
+    λ m e.
+    let z = p .pow ∙ ap (λ k. 2 ^ k) e in
+    prove-done (c .before .before .before .before .before .before .before .before .before .before .before .before .before .before .before .before .before .before .before .before .before .before .before .before .before .args .rows .now) _ _ _ _ (c .before .before .before .before .before .before .before .before .before .before .before .before .before .before .before .before .before .before .before .before .before .before .before .before .before .args .work .now) _ m _ _ _ e (p .pow) (p .work) (s .sum m z) (c .before .before .before .before .before .before .before .before .before .before .before .before .before .before .contradicts .ensures) _ (c .before .before .before .before .before .before .before .before .before .before .before .before .before .if1 .left) (rewritten {ws = c .before .before .before .before .before .before .before .before .before .before .before .before .before .before .before .before .before .before .before .before .before .before .before .before .before .args .work .now} {ws₁ = c .before .before .before .before .before .before .before .before .before .before .before .before .before .before .before .before .before .sum-rows .last .1 .1 .0} (omega (arith, c .before .before .before .before .before .before .before .before .before .before .before .before .before .before .before .before .before .sum-rows .kept)) (c .before .before .before .before .before .before .before .before .write-run .ensures (node (c .before .before .before .before .before .before .before .before .before .before .before .before .before .before .before .before .before .before .before .before .before .before .before .before .before .args .rows .now)) m e (levels-at e (s .levels m z)) (s .sum m z)))
+
+pub prove-spec : {M : Type 1} → statement M
+prove-spec =
+    tie.close
+    (tie.spec
+    sum-rows-requires
+    contradicts-requires
+    clear-requires
+    same-length
+    returns
+    write-run-requires
+    same-length-2
+    same-length-3
+    same-length-4
+    same-length-5
+    returns-2)

@@ -1,0 +1,72 @@
+use Rattle.prover.proofs.Opening.{log-sum}
+use Rattle.prover.proofs.Writing.{quarter, written}
+use native.Mathlib.Omega.{arith}
+use borrow.Author.Needs.{needs}
+use Rattle.prover.proofs.write_run.Statement.{statement}
+use Rattle.prover.proofs.write_run.Tie as tie
+use Rattle.prover.proofs.write_run.Reads as reads
+use Rattle.prover.proofs.write_run.Lts as lts
+use Rattle.run.proofs.begin.Reads as begin-reads
+use Rattle.run.proofs.run_rounds.Reads as run-rounds-reads
+use Rattle.stored.proofs.writer.put_proof.Reads as put-proof-reads
+use Rattle.tree.proofs.clear.Reads as clear-reads
+
+begin-requires : tie.Need-begin-requires
+begin-requires c κs = search needs
+
+run-rounds-requires : tie.Need-run-rounds-requires
+run-rounds-requires c κs =
+    let p = c .before .before .before .before .before .before .before .before .before .before .before .before .pre .0 in
+    let q = c .before .before .before .before .before .before .before .before .before .before .before .before .pre .1 in
+    let s = c .before .before .before .before .before .begin .ensures in
+    let k = c .before .before .before .before .before .begin .kept in (
+      (p .some, p .pow, omega (arith, p .work)),
+      ((omega (arith, p .point), omega (arith, p .log, s .put, k), omega (arith, p .used, s .used)), (q .0, q .1, q .2 .q)),
+    )
+
+put-proof-requires : tie.Need-put-proof-requires
+put-proof-requires c κs =
+    let p = c .before .before .before .before .before .before .before .before .before .before .before .before .before .before .before .before .before .before .before .before .before .before .pre .0 in
+    let s = c .before .before .before .before .before .before .before .before .before .before .before .before .before .before .before .begin .ensures in
+    let i = quarter (c .before .before .before .before .before .before .before .before .before .before .before .before .before .before .before .before .before .before .before .before .before .before .args .asserted) _ (s .put) in
+    (p .some, p .few, p .proof, omega (arith, p .log, s .put, i, log-sum (c .before .before .before .before .before .before .before .before .before .before .before .before .before .before .before .before .before .before .before .before .before .before .args .n), c .before .before .before .before .before .before .before .before .before .before .before .before .before .before .before .begin .kept, c .before .before .before .before .before .before .before .before .before .run-rounds .kept))
+
+clear-requires : tie.Need-clear-requires
+clear-requires c κs = search needs
+
+same-length : tie.Need-same-length
+same-length c = search needs
+
+same-length-2 : tie.Need-same-length-2
+same-length-2 c = search needs
+
+same-length-3 : tie.Need-same-length-3
+same-length-3 c = search needs
+
+same-length-4 : tie.Need-same-length-4
+same-length-4 c = search needs
+
+returns : tie.Need-returns
+returns c =
+    let p = c .before .before .before .before .before .before .before .before .before .before .before .before .before .before .before .before .before .before .before .before .before .before .before .before .before .before .before .before .before .pre .0 in
+    let s = c .before .before .before .before .before .before .before .before .before .before .before .before .before .before .before .before .before .before .before .before .before .before .begin .ensures in
+    let k = c .before .before .before .before .before .before .before .before .before .before .before .before .before .before .before .before .before .before .before .before .before .before .begin .kept in
+    let j = c .before .before .before .before .before .before .before .before .before .before .before .before .before .before .before .before .run-rounds .kept in
+    let r = c .before .before .before .before .before .before .before .before .before .before .before .before .before .before .before .before .run-rounds .ensures in
+    let o = c .before .before .before .before .before .before .put-proof .ensures in
+    λ f m e L R.
+    written f (c .before .before .before .before .before .before .before .before .before .before .before .before .before .before .before .before .before .before .before .before .before .before .before .before .before .before .before .before .before .args .asserted) m (c .before .before .before .before .before .before .before .before .before .before .before .before .before .before .before .before .before .before .before .before .before .before .before .before .before .before .before .before .before .args .n) _ (c .before .before .before .before .before .before .before .before .before .before .before .before .before .before .before .before .before .before .before .before .before .before .before .before .before .before .before .before .before .args .proof .now) (c .before .before .before .before .before .before .put-proof .last .0) (c .before .before .before .before .before .before .before .before .before .before .before .before .before .before .before .before .before .before .before .before .before .before .before .before .before .before .before .before .before .args .xi .now) _ _ (c .before .before .before .before .before .before .before .before .before .before .before .before .before .before .before .before .before .before .before .before .before .before .begin .last .0) (c .before .before .before .before .before .before .before .before .before .before .before .before .before .before .before .before .run-rounds .last .1 .1 .1 .1 .1 .0) (c .before .before .before .before .before .before .before .before .before .before .before .before .before .before .before .before .before .before .before .before .before .before .before .before .before .before .before .before .before .args .work .now) (c .before .before .before .before .before .before .before .before .before .before .before .before .before .before .before .before .run-rounds .last .1 .1 .1 .0) _ _ _ (c .before .before .before .before .before .before .before .before .before .before .before .before .before .before .before .before .before .before .before .before .before .before .before .before .before .before .before .before .before .args .root) e R s (omega (arith, p .log, s .put, k)) (r .0 f m e L (R .q .value)) (omega (arith, r .1 .0)) (omega (arith, p .log, s .put, r .1 .0, k, j)) (r .1 .1) (p .point) (omega (arith, p .point, j)) (p .proof) (omega (arith, c .before .before .before .before .before .before .put-proof .kept)) (o .1) (c .before .before .clear .ensures) (omega (arith, j))
+
+pub write-run-spec : {M : Type 1} → statement M
+write-run-spec =
+    tie.close
+    (tie.spec
+    begin-requires
+    run-rounds-requires
+    put-proof-requires
+    clear-requires
+    same-length
+    same-length-2
+    same-length-3
+    same-length-4
+    returns)
