@@ -3,6 +3,9 @@
 use mathlib.Core.List.{List}
 use Prim.Native.Nat.{ℕ}
 use Rattle.stored.specs.SheetReads.{sheetRead}
+use Rattle.gate.specs.Refusals.{Call}
+use Rattle.prover.specs.Proved.{Buffers, proved}
+use Rattle.prover.specs.Report.{answerReport}
 use Rattle.accudrina.specs.Answer.{Told, tells}
 use Rattle.accudrina.specs.Reports.{sheetReport}
 
@@ -13,3 +16,7 @@ pub record Returned (B : Type 0) : Type 0 where
 -- of the sheet's bytes, and the buffer for rows
 abbrev pub reading : List ℕ → List ℕ → Returned (List ℕ)
 reading sheet rows = record { told = tells (sheetReport (sheetRead sheet rows .answer)); buffers = sheetRead sheet rows .buffer }
+
+-- of rows, modes and challenges, and the buffers for proof, point, log and work
+abbrev pub proving : Call → Buffers → Returned Buffers
+proving call lent = record { told = tells (answerReport (proved call lent .answer)); buffers = proved call lent .buffers }

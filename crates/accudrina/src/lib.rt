@@ -1,6 +1,6 @@
 // The functions that C and Rust call: a number is returned, and sixteen words of answer are written.
 ghost use mathlib.Core.Path.{_≡_};
-ghost use Rattle.accudrina.specs.Calls.{reading};
+ghost use Rattle.accudrina.specs.Calls.{reading, proving};
 
 mod answer; // the sixteen words
 mod report; // what they say of each call's answer
@@ -16,4 +16,31 @@ pub extern "C" fn accudrina_read_sheet(
 {
     let read = stored::sheet::read_sheet(sheet, rows);
     answer::tell(report::of_sheet(read), answer)
+}
+
+#[no_mangle]
+pub extern "C" fn accudrina_prove(
+    rows: &[u32],
+    live: bool,
+    assert_zero: bool,
+    challenges: &[u32],
+    proof: &mut [u8],
+    point: &mut [u32],
+    log: &mut [u32],
+    work: &mut [u32],
+    answer: &mut [u32; 16],
+) -> u32
+    ensures { λ r. ⌜ record { told = record { number = r; words = now (answer .exit) }; buffers = record { proof = now (proof .exit); point = now (point .exit); log = now (log .exit); work = now (work .exit) } } ≡ proving (record { rows = now (rows .entry); live = live; asserted = «assert_zero»; challenges = now (challenges .entry) }) (record { proof = now (proof .entry); point = now (point .entry); log = now (log .entry); work = now (work .entry) }) ⌝ }
+{
+    let proved = prover::fractional_sumcheck(
+        rows,
+        live,
+        assert_zero,
+        challenges,
+        proof,
+        point,
+        log,
+        work,
+    );
+    answer::tell(prover::number_and_values(proved), answer)
 }
