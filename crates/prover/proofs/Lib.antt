@@ -4,3 +4,5 @@ pub mod Writing
 pub mod Answering
 pub mod Parts
 pub mod Opening
+pub mod Theorems
+pub mod Modes

@@ -1,0 +1,5 @@
+pub mod Messages
+pub mod SubLaws
+pub mod StopLaws
+pub mod RoundLaws
+pub mod GoingLaws

@@ -1,0 +1,2 @@
+-- The rounds of the verifier over the bytes of a proof.
+pub mod Runs

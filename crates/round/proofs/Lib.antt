@@ -1,0 +1,4 @@
+pub mod Arithmetic
+pub mod Observed
+pub mod Points
+pub mod Ends

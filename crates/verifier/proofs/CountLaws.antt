@@ -1,0 +1,183 @@
+-- The two counts, and what the run asks once they are right.
+-- Assumes nothing.
+use mathlib.Core.Path.{_≡_, refl, sym, _∙_, ap, ap₂, subst}
+use mathlib.Core.Bool.{true, false, cond}
+use mathlib.Core.List.{List, [], _∷_, _++_, map}
+use Prim.Native.Nat.{ℕ, zero, suc, _+_, _*_, _-_, _<_, _≤_}
+use native.Mathlib.Omega.{arith}
+use borrow.Author.Tests.{eq-eqb, ne-eqb}
+use lib.Dec.{eqb}
+use lib.ListN.{length, getD, take, drop}
+use Rattle.field.specs.Ext as E
+use Rattle.field.specs.Extension.{Extension}
+use Rattle.field.specs.Element.{dec, Canon}
+use Rattle.field.specs.Cells.{Clean}
+use Rattle.multilinear.specs.RoundSum.{Claims}
+use Rattle.gkr.specs.Run.{Cubic, Proof}
+use Rattle.gkr.specs.Transcripts.{Words}
+use Rattle.gkr.specs.Count.{layers-cost, run-cost, words, draws}
+use Rattle.gkr.specs.Sizes.{challenges, log-words}
+use Rattle.gkr.specs.Gkr as Gkr
+use Rattle.gkr.specs.Gkr.{layer-count, poly-count}
+use Rattle.transcript.specs.declared.Pos.{Pos}
+use Rattle.transcript.specs.Log.{Supplied}
+use Rattle.refusal.specs.declared.Refusal.{Refusal}
+use Rattle.refusal.specs.declared.Refusal.the-variants.{IncorrectLayerCount, IncorrectSumcheckPolyCount}
+use Rattle.wire.specs.Bytes.{elem}
+use Rattle.wire.specs.Words.{allCanonical, extWords}
+use Rattle.wire.specs.WordLaws.{canonical-left, canonical-right, canonical-elem}
+use Rattle.stored.specs.declared.Outline.{Outline}
+use Rattle.stored.specs.Layout.{claimsWords, polysWords, proofWords}
+use Rattle.stored.specs.Parse.{claimsOf, claimsFrom, entriesFrom, entriesFit, layerCount, entryCount, polysAt, proofOf}
+use Rattle.stored.specs.ParseLaws.{Shaped, claims-count, entries-count, claims-step}
+use Rattle.round.specs.declared.Advance.{Advance}
+use Rattle.round.specs.declared.Advance.the-variants.{Next, Stopped}
+use Rattle.round.specs.declared.Verdict.the-variants.{Refused}
+use Rattle.round.specs.Values.{decClaims, decCubic, CanonClaims}
+use Rattle.round.specs.Verdicts.{Model, answerOf, pointOf, loggedBy}
+use Rattle.round.specs.Rounds.{Stops}
+use Rattle.all_rounds.specs.Runs.{Readable, Space, Ends, RootEnd}
+use Rattle.all_rounds.proofs.Messages.{claim-first, claims-rest}
+use Rattle.all_rounds.proofs.RoundLaws.{map-length}
+use Rattle.verifier.specs.Verified.{decoded, verdict}
+use Rattle.verifier.specs.Gates.{Ready, Counted}
+
+abbrev start : Pos
+start = record { put = 0; used = 0 }
+
+abbrev empty : Words
+empty = record { log = []; used = 0 }
+
+-- ---- the model's counts
+verify-counted : (ch : List ℕ) (n m : ℕ) (π : Proof E.Ext) (t : Words) → n ≡ suc m → Gkr.verify-gkr Extension (Supplied ch) n π t ≡ Gkr.counted Extension (Supplied ch) m (π .q0) (π .claims) (π .polys) t
+unfolding Gkr.verify-gkr
+verify-counted ch n m π t e = ap (λ k. Gkr.verify-gkr Extension (Supplied ch) k π t) e
+
+layers-differ : (ch : List ℕ) (m k : ℕ) (q0 : E.Ext) (cs : List (Claims E.Ext)) (mss : List (List (Cubic E.Ext))) (t : Words) → length cs ≡ k → (k ≡ suc m → ⊥)
+    → Gkr.counted Extension (Supplied ch) m q0 cs mss t ≡ layer-count (suc m) k
+unfolding Gkr.counted
+layers-differ ch m k q0 [] mss t e h = ap (layer-count (suc m)) e
+layers-differ ch m k q0 (c ∷ cs) mss t e h =
+    let f : eqb (length cs) m ≡ false = ne-eqb (length cs) m (λ q. h (sym e ∙ ap suc q)) in
+    rw f (ap (layer-count (suc m)) e)
+
+polys-differ : (ch : List ℕ) (m k : ℕ) (q0 : E.Ext) (c : Claims E.Ext) (cs : List (Claims E.Ext)) (mss : List (List (Cubic E.Ext))) (t : Words) → length cs ≡ m → length mss ≡ k → (k ≡ m → ⊥)
+    → Gkr.counted Extension (Supplied ch) m q0 (c ∷ cs) mss t ≡ poly-count m k
+unfolding Gkr.counted
+polys-differ ch m k q0 c cs mss t a e h =
+    let f : eqb (length cs) m ≡ true = eq-eqb (length cs) m a in
+    let g : eqb (length mss) m ≡ false = ne-eqb (length mss) m (λ q. h (sym e ∙ q)) in
+    rw (f, g) (ap (poly-count m) e)
+
+both-right : (ch : List ℕ) (m : ℕ) (q0 : E.Ext) (c : Claims E.Ext) (cs : List (Claims E.Ext)) (mss : List (List (Cubic E.Ext))) (t : Words) → length cs ≡ m → length mss ≡ m
+    → Gkr.counted Extension (Supplied ch) m q0 (c ∷ cs) mss t ≡ Gkr.root Extension (Supplied ch) q0 c cs mss t
+unfolding Gkr.counted
+both-right ch m q0 c cs mss t a e = rw (eq-eqb (length cs) m a, eq-eqb (length mss) m e)
+
+-- a refusal that leaves all as it was
+stops-first : (lg ch : List ℕ) (v w : Model ch) (e : Refusal) → v ≡ w → answerOf ch w ≡ Refused e → pointOf ch w ≡ [] → loggedBy ch w ≡ [] → Stops lg lg ch start v e
+stops-first lg ch v w e q a b c =
+    record {
+      answer = ap (answerOf ch) q ∙ a;
+      point = ap (pointOf ch) q ∙ b;
+      end = 0;
+      more = omega arith;
+      room = omega arith;
+      log = sym c ∙ ap (loggedBy ch) (sym q);
+      rest = refl;
+    }
+
+module _ (bs lg ch : List ℕ) (n : ℕ) (o : Outline) (some : 1 ≤ n) (s : Shaped bs o) where
+  abbrev m : ℕ
+  m = n - 1
+
+  n-is : n ≡ suc m
+  n-is = omega arith
+
+  claims-long : length (map decClaims (claimsFrom (layerCount bs) (drop 22 bs))) ≡ o .layers
+  claims-long = map-length decClaims (claimsFrom (layerCount bs) (drop 22 bs)) ∙ claims-count (layerCount bs) (drop 22 bs) ∙ sym (s .layers)
+
+  polys-long : length (map (map decCubic) (entriesFrom (entryCount bs) (drop (polysAt bs) bs))) ≡ o .entries
+  polys-long = map-length (map decCubic) (entriesFrom (entryCount bs) (drop (polysAt bs) bs)) ∙ entries-count (entryCount bs) (drop (polysAt bs) bs) ∙ sym (s .entries)
+
+  pub layers-stop : (pt' : List ℕ) → (o .layers ≡ n → ⊥) → Counted bs pt' lg lg ch n (Stopped (IncorrectLayerCount n (o .layers)))
+  layers-stop pt' h =
+      stops-first lg ch _ (layer-count n (o .layers)) _
+      (verify-counted ch n m (decoded (proofOf bs)) empty n-is ∙ layers-differ ch m (o .layers) _ _ _ empty claims-long (λ q. h (q ∙ sym n-is)) ∙ ap (λ k. layer-count k (o .layers)) (sym n-is)) refl refl refl
+
+  module _ (a : o .layers ≡ n) where
+    first-claims : map decClaims (claimsFrom (layerCount bs) (drop 22 bs)) ≡ decClaims (claimsOf (drop 22 bs)) ∷ map decClaims (claimsFrom m (drop 86 bs))
+    first-claims = ap (λ k. map decClaims (claimsFrom k (drop 22 bs))) (sym (s .layers) ∙ a ∙ n-is) ∙ ap (map decClaims) (claims-step m 22 bs)
+
+    others-long : length (map decClaims (claimsFrom m (drop 86 bs))) ≡ m
+    others-long = map-length decClaims (claimsFrom m (drop 86 bs)) ∙ claims-count m (drop 86 bs)
+
+    counted-is : verdict (proofOf bs) n ch ≡ Gkr.counted Extension (Supplied ch) m (dec (elem (drop 5 bs))) (decClaims (claimsOf (drop 22 bs)) ∷ map decClaims (claimsFrom m (drop 86 bs)))
+        (map (map decCubic) (entriesFrom (entryCount bs) (drop (polysAt bs) bs))) empty
+    counted-is = verify-counted ch n m (decoded (proofOf bs)) empty n-is ∙ ap (λ cs. Gkr.counted Extension (Supplied ch) m (dec (elem (drop 5 bs))) cs (map (map decCubic) (entriesFrom (entryCount bs) (drop (polysAt bs) bs))) empty) first-claims
+
+    pub polys-stop : (pt' : List ℕ) (x : ℕ) → x ≡ m → (o .entries ≡ x → ⊥) → Counted bs pt' lg lg ch n (Stopped (IncorrectSumcheckPolyCount x (o .entries)))
+    polys-stop pt' x e h =
+        stops-first lg ch _ (poly-count x (o .entries)) _
+        (counted-is ∙ polys-differ ch m (o .entries) _ _ _ _ empty others-long polys-long (λ q. h (q ∙ sym e)) ∙ ap (λ k. poly-count k (o .entries)) (sym e)) refl refl refl
+
+    module _ (b : o .entries ≡ m) where
+      root-is : verdict (proofOf bs) n ch ≡ Gkr.root Extension (Supplied ch) (dec (elem (drop 5 bs))) (decClaims (claimsOf (drop 22 bs))) (map decClaims (claimsFrom m (drop 86 bs)))
+          (map (map decCubic) (entriesFrom m (drop (o .polys) bs))) empty
+      root-is =
+          counted-is ∙ both-right ch m _ _ _ _ empty others-long (polys-long ∙ b)
+          ∙ ap₂ (λ k p. Gkr.root Extension (Supplied ch) (dec (elem (drop 5 bs))) (decClaims (claimsOf (drop 22 bs))) (map decClaims (claimsFrom m (drop 86 bs))) (map (map decCubic) (entriesFrom k (drop p bs))) empty)
+          (sym (s .entries) ∙ b) (sym (s .polys))
+
+      pub root-counted : (pt' lg' : List ℕ) (r : Advance) → RootEnd bs pt' lg lg' ch (o .polys) n r → Counted bs pt' lg lg' ch n r
+      root-counted pt' lg' r h = subst (λ v. Ends lg lg' pt' ch start n v r) (sym root-is) h
+
+-- ---- what the run asks
+module _ (bs pt lg ch : List ℕ) (n : ℕ) (o : Outline) (r : Ready bs pt lg ch n o) where
+  abbrev k : ℕ
+  k = n - 1
+
+  k-is : n ≡ suc k
+  k-is = omega (arith, r .some)
+
+  pub ready-space : Space lg ch (record { put = 24; used = 1 }) k 1
+  unfolding run-cost
+  ready-space =
+      let w = words k in
+      let d = draws k in
+      let e : log-words true n ≡ log-words true (suc k) = ap (log-words true) k-is in
+      let f : challenges n ≡ challenges (suc k) = ap challenges k-is in
+      record { put = omega (arith, w, e, r .log-room); used = omega (arith, d, f, r .chals) }
+
+  q0-part : allCanonical (extWords (elem (drop 5 bs))) ≡ true
+  q0-part = canonical-left (extWords (elem (drop 5 bs))) (claimsWords (proofOf bs .claims) ++ polysWords (proofOf bs .polys)) (r .canon)
+
+  lists-part : allCanonical (claimsWords (proofOf bs .claims) ++ polysWords (proofOf bs .polys)) ≡ true
+  lists-part = canonical-right (extWords (elem (drop 5 bs))) (claimsWords (proofOf bs .claims) ++ polysWords (proofOf bs .polys)) (r .canon)
+
+  pub ready-q0 : Canon (elem (drop 5 bs))
+  ready-q0 = canonical-elem (elem (drop 5 bs)) q0-part
+
+  module _ (a : o .layers ≡ n) (b : o .entries ≡ k) where
+    claims-part : allCanonical (claimsWords (claimsFrom (suc k) (drop 22 bs))) ≡ true
+    claims-part =
+        ap (λ j. allCanonical (claimsWords (claimsFrom j (drop 22 bs)))) (sym (sym (r .shaped .layers) ∙ a ∙ k-is))
+        ∙ canonical-left (claimsWords (proofOf bs .claims)) (polysWords (proofOf bs .polys)) lists-part
+
+    pub ready-claims : CanonClaims (claimsOf (drop 22 bs))
+    ready-claims = claim-first k 22 bs claims-part
+
+    pub ready-there : 22 + 64 * n ≤ length bs
+    ready-there = omega (arith, r .shaped .reads .room, r .shaped .layers, a)
+
+    pub ready-read : Readable bs 86 (o .polys) k
+    ready-read =
+        let p = r .shaped .polys in
+        let e : entryCount bs ≡ k = sym (r .shaped .entries) ∙ b in
+        record {
+          claims-there = omega (arith, r .shaped .reads .room, r .shaped .layers, a, r .some);
+          claims-canon = claims-rest k 22 bs claims-part;
+          polys-there = omega (arith, r .shaped .reads .room, p);
+          polys-fit = ap₂ (λ j q. entriesFit j (drop q bs)) (sym e) p ∙ r .shaped .reads .fit;
+          polys-canon = ap₂ (λ j q. allCanonical (polysWords (entriesFrom j (drop q bs)))) (sym e) p ∙ canonical-right (claimsWords (proofOf bs .claims)) (polysWords (proofOf bs .polys)) lists-part;
+        }

@@ -1,0 +1,4 @@
+pub mod SizeLaws
+pub mod GateLaws
+pub mod CountLaws
+pub mod EndLaws

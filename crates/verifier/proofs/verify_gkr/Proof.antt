@@ -1,0 +1,47 @@
+use Rattle.verifier.proofs.EndLaws.{opened-of, shut-of, shut-is, open-is}
+use lib.ListN.{length}
+use native.Mathlib.Omega.{arith}
+use borrow.Author.Needs.{needs}
+use Rattle.verifier.proofs.verify_gkr.Statement.{statement}
+use Rattle.verifier.proofs.verify_gkr.Tie as tie
+use Rattle.verifier.proofs.verify_gkr.Reads as reads
+use Rattle.verifier.proofs.verify_gkr.Lts as lts
+use Rattle.verifier.proofs.check.Reads as check-reads
+use Rattle.verifier.proofs.run.Reads as run-reads
+
+check-requires : tie.Need-check-requires
+check-requires c κs = search needs
+
+enum-known-refusal : tie.Need-enum-known-refusal
+enum-known-refusal c = search needs
+
+enum-known-outline : tie.Need-enum-known-outline
+enum-known-outline c = search needs
+
+run-requires : tie.Need-run-requires
+run-requires c κs = opened-of (c .before .before .before .before .before .before .before .before .before .before .args .proof .now) (c .before .before .before .before .before .before .before .before .before .before .args .rounds) (c .before .before .before .before .before .before .before .before .before .before .args .challenges .now) (length (c .before .before .before .before .before .before .before .before .before .before .args .point .now)) (length (c .before .before .before .before .before .before .before .before .before .before .args .log .now)) (c .before .before .before .before .before .check .result) _ (c .before .before .before .outline .given .1) (c .before .before .before .before .before .check .ensures)
+
+returns : tie.Need-returns
+returns c = shut-is (c .before .before .before .before .before .before .before .before .args .proof .now) (c .before .before .before .before .before .before .before .before .args .rounds) (c .before .before .before .before .before .before .before .before .args .challenges .now) (c .before .before .before .before .before .before .before .before .args .point .now) (c .before .before .before .before .before .before .before .before .args .log .now) _ (shut-of (c .before .before .before .before .before .before .before .before .args .proof .now) (c .before .before .before .before .before .before .before .before .args .rounds) (c .before .before .before .before .before .before .before .before .args .challenges .now) (length (c .before .before .before .before .before .before .before .before .args .point .now)) (length (c .before .before .before .before .before .before .before .before .args .log .now)) (c .before .before .before .check .result) _ (c .before .refusal .given .1) (c .before .before .before .check .ensures))
+
+same-length : tie.Need-same-length
+same-length c = search needs
+
+same-length-2 : tie.Need-same-length-2
+same-length-2 c = search needs
+
+returns-2 : tie.Need-returns-2
+returns-2 c = open-is (c .before .before .before .before .before .before .before .before .before .before .before .before .before .before .before .args .proof .now) (c .before .before .before .before .before .before .before .before .before .before .before .before .before .before .before .args .rounds) (c .before .before .before .before .before .before .before .before .before .before .before .before .before .before .before .args .challenges .now) (c .before .before .before .before .before .before .before .before .before .before .before .before .before .before .before .args .point .now) (c .before .before .before .before .before .before .before .before .before .before .before .before .before .before .before .args .log .now) _ _ (opened-of (c .before .before .before .before .before .before .before .before .before .before .before .before .before .before .before .args .proof .now) (c .before .before .before .before .before .before .before .before .before .before .before .before .before .before .before .args .rounds) (c .before .before .before .before .before .before .before .before .before .before .before .before .before .before .before .args .challenges .now) (length (c .before .before .before .before .before .before .before .before .before .before .before .before .before .before .before .args .point .now)) (length (c .before .before .before .before .before .before .before .before .before .before .before .before .before .before .before .args .log .now)) (c .before .before .before .before .before .before .before .before .before .before .check .result) _ (c .before .before .before .before .before .before .before .before .outline .given .1) (c .before .before .before .before .before .before .before .before .before .before .check .ensures)) (c .before .before .before .before .run .ensures)
+
+pub verify-gkr-spec : {M : Type 1} → statement M
+verify-gkr-spec =
+    tie.close
+    (tie.spec
+    check-requires
+    enum-known-refusal
+    enum-known-outline
+    run-requires
+    returns
+    same-length
+    same-length-2
+    returns-2)

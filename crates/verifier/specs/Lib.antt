@@ -1,0 +1,3 @@
+-- The verifier: what it answers and leaves, and what its parts tell each other.
+pub mod Verified
+pub mod Gates

@@ -1,0 +1,160 @@
+// The verifier over the stored bytes of a proof: refusals in document 01's order, then the run.
+ghost use mathlib.Core.Path.{_≡_};
+ghost use mathlib.Core.Bool.{Bool, true, cond};
+ghost use mathlib.Core.List.{_++_};
+ghost use Prim.Native.Nat.{ℕ, _+_, _*_, _≤_};
+ghost use lib.ListN.{length, take, drop};
+ghost use Rattle.wire.specs.Words.{allCanonical};
+ghost use Rattle.stored.specs.Parse.{proofOf};
+ghost use Rattle.stored.specs.ParseLaws.{Shaped};
+ghost use Rattle.gkr.specs.Sizes.{challenges, log-words};
+ghost use Rattle.refusal.specs.Limits.{maxRounds};
+ghost use Rattle.verifier.specs.Verified.{outcome, needed, verdict, ended, verified};
+ghost use Rattle.verifier.specs.Gates.{wordsGate, Gated, Opened, Ready, Counted};
+use refusal::Refusal;
+use round::Advance;
+use round::Verdict;
+use stored::Outline;
+use stored::Shape;
+
+// What the checks before the run answer.
+pub enum Gate {
+    Open(Outline),
+    Shut(Refusal),
+}
+
+// The words of challenges that so many rounds take.
+pub fn challenge_words(rounds: usize) -> usize
+    requires { ⌜ (1 ≤ rounds) × (rounds ≤ maxRounds) ⌝ }
+    ensures { λ r. ⌜ r ≡ 4 * challenges rounds ⌝ }
+{
+    4 * (2 * rounds - 1 + rounds * (rounds - 1) / 2)
+}
+
+// The words of the log.
+pub fn log_words(rounds: usize) -> usize
+    requires { ⌜ rounds ≤ maxRounds ⌝ }
+    ensures { λ r. ⌜ r ≡ log-words true rounds ⌝ }
+{
+    8 * (rounds * rounds) + 16 * rounds
+}
+
+// The words of the proof, then the challenges.
+fn check_words(proof: &[u8], outline: Outline, needs: &[u32]) -> Gate
+    requires { ⌜ Shaped (now proof) outline ⌝ }
+    ensures { λ r. ⌜ r ≡ wordsGate (now (proof .entry)) outline (now (needs .entry)) ⌝ }
+{
+    if !stored::canonical_proof(proof, outline) {
+        return Gate::Shut(Refusal::BadWord);
+    }
+    if !wire::canonical_words(needs) {
+        return Gate::Shut(Refusal::BadWord);
+    }
+    Gate::Open(outline)
+}
+
+// The first refusal, in document 01's order.
+fn check(proof: &[u8], rounds: usize, challenges: &[u32], points: usize, logs: usize) -> Gate
+    ensures { λ r. ⌜ Gated (now (proof .entry)) rounds (now (challenges .entry)) points logs r ⌝ }
+{
+    if rounds == 0 {
+        return Gate::Shut(Refusal::ZeroRounds);
+    }
+    if refusal::MAX_ROUNDS < rounds {
+        return Gate::Shut(Refusal::TooManyRounds);
+    }
+    let needs = challenge_words(rounds);
+    if challenges.len() < needs {
+        return Gate::Shut(Refusal::ShortChallenges);
+    }
+    if points < 4 * rounds {
+        return Gate::Shut(Refusal::ShortRoom);
+    }
+    if logs < log_words(rounds) {
+        return Gate::Shut(Refusal::ShortRoom);
+    }
+    match stored::read_shape(proof) {
+        Shape::Refused(refusal) => Gate::Shut(refusal),
+        Shape::Good(outline) => check_words(proof, outline, &challenges[..needs]),
+    }
+}
+
+// The counts of layers and of polynomial entries, then all rounds.
+fn verify_counted(
+    proof: &[u8],
+    rounds: usize,
+    outline: Outline,
+    xi: &mut [u32],
+    log: &mut [u32],
+    challenges: &[u32],
+) -> Advance
+    requires { ⌜ Ready (now proof) (now xi) (now log) (now challenges) rounds outline ⌝ }
+    ensures { λ r. ⌜ Counted (now (proof .entry)) (now (xi .exit)) (now (log .entry)) (now (log .exit)) (now (challenges .entry)) rounds r ⌝ }
+{
+    let layers = outline.layers;
+    let entries = outline.entries;
+    if layers != rounds {
+        return Advance::Stopped(Refusal::IncorrectLayerCount {
+            expected: rounds,
+            actual: layers,
+        });
+    }
+    let expected = rounds - 1;
+    if entries != expected {
+        return Advance::Stopped(Refusal::IncorrectSumcheckPolyCount {
+            expected,
+            actual: entries,
+        });
+    }
+    all_rounds::verify_all(proof, outline.polys, rounds, xi, log, challenges)
+}
+
+// The first n words of the point found go to the front of the room for it.
+fn copy_point(xi: &[u32], point: &mut [u32], n: usize)
+    requires { ⌜ (n ≤ length (now xi)) × (n ≤ length (now point)) ⌝ }
+    ensures { λ _. ⌜ now (point .exit) ≡ take n (now (xi .entry)) ++ drop n (now (point .entry)) ⌝ }
+{
+    for i in 0..n {
+        point[i] = xi[i];
+    }
+}
+
+// The run, once nothing is refused before it. The point is written when it accepts, and not before.
+fn run(
+    proof: &[u8],
+    rounds: usize,
+    outline: Outline,
+    challenges: &[u32],
+    point: &mut [u32],
+    log: &mut [u32],
+) -> Verdict
+    requires { ⌜ Opened (now proof) rounds (now challenges) (length (now point)) (length (now log)) outline ⌝ }
+    ensures { λ r. ⌜ outcome r (now (point .exit)) (now (log .exit)) ≡ ended (needed rounds (now (challenges .entry))) (verdict (proofOf (now (proof .entry))) rounds (needed rounds (now (challenges .entry)))) (now (point .entry)) (now (log .entry)) ⌝ }
+{
+    let needs = challenge_words(rounds);
+    let mut xi = [0u32; 4 * refusal::MAX_ROUNDS];
+    match verify_counted(proof, rounds, outline, &mut xi, log, &challenges[..needs]) {
+        Advance::Next(s) => {
+            copy_point(&xi, point, 4 * rounds);
+            let numer = s.numer;
+            let denom = s.denom;
+            Verdict::Accepted { numer, denom }
+        }
+        Advance::Stopped(refusal) => Verdict::Refused(refusal),
+    }
+}
+
+pub fn verify_gkr(
+    proof: &[u8],
+    rounds: usize,
+    challenges: &[u32],
+    point: &mut [u32],
+    log: &mut [u32],
+) -> Verdict
+    ensures { λ r. ⌜ outcome r (now (point .exit)) (now (log .exit)) ≡ verified (now (proof .entry)) rounds (now (challenges .entry)) (now (point .entry)) (now (log .entry)) ⌝ }
+{
+    match check(proof, rounds, challenges, point.len(), log.len()) {
+        Gate::Shut(refusal) => Verdict::Refused(refusal),
+        Gate::Open(outline) => run(proof, rounds, outline, challenges, point, log),
+    }
+}
