@@ -3,3 +3,4 @@ pub mod Answer
 pub mod Reports
 pub mod Calls
 pub mod Rooms
+pub mod Enough

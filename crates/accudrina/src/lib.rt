@@ -1,6 +1,6 @@
 // The functions that C and Rust call: a number is returned, and sixteen words of answer are written.
 ghost use mathlib.Core.Path.{_≡_};
-ghost use Rattle.accudrina.specs.Calls.{reading, proving};
+ghost use Rattle.accudrina.specs.Calls.{reading, proving, verifying};
 
 mod answer; // the sixteen words
 mod report; // what they say of each call's answer
@@ -43,4 +43,19 @@ pub extern "C" fn accudrina_prove(
         work,
     );
     answer::tell(prover::number_and_values(proved), answer)
+}
+
+#[no_mangle]
+pub extern "C" fn accudrina_verify(
+    proof: &[u8],
+    rounds: usize,
+    challenges: &[u32],
+    point: &mut [u32],
+    log: &mut [u32],
+    answer: &mut [u32; 16],
+) -> u32
+    ensures { λ r. ⌜ record { told = record { number = r; words = now (answer .exit) }; buffers = record { point = now (point .exit); log = now (log .exit) } } ≡ verifying (now (proof .entry)) rounds (now (challenges .entry)) (record { point = now (point .entry); log = now (log .entry) }) ⌝ }
+{
+    let verdict = verifier::verify_gkr(proof, rounds, challenges, point, log);
+    answer::tell(report::of_verdict(verdict), answer)
 }
