@@ -39,7 +39,7 @@ pub fn least_size(count: usize) -> Size
 }
 
 // Whether there are no rows, or a power of two of them.
-fn is_size(count: usize) -> bool
+pub fn is_size(count: usize) -> bool
     ensures { λ r. ⌜ r ≡ isSize count ⌝ }
 {
     if count == 0 {
@@ -59,7 +59,7 @@ pub fn challenge_words(n: usize) -> usize
     4 * (2 * n - 1 + n * (n - 1) / 2)
 }
 
-fn proof_bytes(n: usize) -> usize
+pub fn proof_bytes(n: usize) -> usize
     requires { ⌜ n ≤ maxRounds ⌝ }
     ensures { λ r. ⌜ r ≡ Sizes.proof-bytes n ⌝ }
 {
@@ -69,7 +69,7 @@ fn proof_bytes(n: usize) -> usize
     22 + 65 * n + 24 * (n * (n - 1))
 }
 
-fn log_words(asserted: bool, n: usize) -> usize
+pub fn log_words(asserted: bool, n: usize) -> usize
     requires { ⌜ n ≤ maxRounds ⌝ }
     ensures { λ r. ⌜ r ≡ logRoom asserted n ⌝ }
 {
@@ -83,7 +83,7 @@ fn log_words(asserted: bool, n: usize) -> usize
     base + 4
 }
 
-fn work_words(n: usize, rows: usize) -> usize
+pub fn work_words(n: usize, rows: usize) -> usize
     requires { ⌜ (n ≤ maxRounds) × (rows ≡ 2 ^ n) ⌝ }
     ensures { λ r. ⌜ r ≡ workRoom n ⌝ }
 {

@@ -1,0 +1,110 @@
+//! The calls over lent buffers, as C has them. They ask nothing of a slice: any content and any length gets an answer.
+use crate::{ffi, Element, Fraction, Refusal};
+
+/// Which rows are taken.
+#[derive(Clone, Copy, Debug, PartialEq, Eq)]
+pub enum Mode {
+    /// All.
+    Sandbox,
+    /// None with p not zero over q zero.
+    Live,
+}
+
+/// What is said of the sum.
+#[derive(Clone, Copy, Debug, PartialEq, Eq)]
+pub enum Sum {
+    /// Its p is zero, or the run is refused.
+    AssertZero,
+    /// Its p is put into the log.
+    Observe,
+}
+
+/// The buffers of a proving run.
+pub struct Rooms<'a> {
+    pub proof: &'a mut [u8],
+    pub point: &'a mut [u32],
+    pub log: &'a mut [u32],
+    pub work: &'a mut [u32],
+}
+
+/// A proving run that is done.
+#[derive(Clone, Copy, Debug, PartialEq, Eq)]
+pub struct Done {
+    pub rounds: usize,
+    pub sum: Fraction,
+}
+
+/// What an accepted proof claims of the sheet: the values of both columns at the point.
+#[derive(Clone, Copy, Debug, PartialEq, Eq)]
+pub struct Claims {
+    pub numer: Element,
+    pub denom: Element,
+}
+
+fn element(answer: &ffi::Answer, at: usize) -> Element {
+    Element([answer[at], answer[at + 1], answer[at + 2], answer[at + 3]])
+}
+
+/// Reads a sheet's bytes into words, eight a row; answers the number of rows.
+pub fn read_sheet_into(sheet: &[u8], rows: &mut [u32]) -> Result<usize, Refusal> {
+    let mut answer = [0; 16];
+    // Safe: each pointer comes with its own slice's length, and no two overlap.
+    let number = unsafe { ffi::accudrina_read_sheet(sheet.as_ptr(), sheet.len(), rows.as_mut_ptr(), rows.len(), &mut answer) };
+    match number {
+        0 => Ok(answer[1] as usize),
+        _ => Err(Refusal::told(&answer)),
+    }
+}
+
+/// Proves the rows, eight words each, with the given challenges, four words each.
+pub fn prove_into(rows: &[u32], mode: Mode, sum: Sum, challenges: &[u32], rooms: Rooms<'_>) -> Result<Done, Refusal> {
+    let mut answer = [0; 16];
+    // Safe: as in `read_sheet_into`.
+    let number = unsafe {
+        ffi::accudrina_prove(
+            rows.as_ptr(),
+            rows.len(),
+            mode == Mode::Live,
+            sum == Sum::AssertZero,
+            challenges.as_ptr(),
+            challenges.len(),
+            rooms.proof.as_mut_ptr(),
+            rooms.proof.len(),
+            rooms.point.as_mut_ptr(),
+            rooms.point.len(),
+            rooms.log.as_mut_ptr(),
+            rooms.log.len(),
+            rooms.work.as_mut_ptr(),
+            rooms.work.len(),
+            &mut answer,
+        )
+    };
+    match number {
+        0 => Ok(Done { rounds: answer[1] as usize, sum: Fraction::new(element(&answer, 4), element(&answer, 8)) }),
+        _ => Err(Refusal::told(&answer)),
+    }
+}
+
+/// Verifies a proof of so many rounds.
+pub fn verify_into(proof: &[u8], rounds: usize, challenges: &[u32], point: &mut [u32], log: &mut [u32]) -> Result<Claims, Refusal> {
+    let mut answer = [0; 16];
+    // Safe: as in `read_sheet_into`.
+    let number = unsafe {
+        ffi::accudrina_verify(
+            proof.as_ptr(),
+            proof.len(),
+            rounds,
+            challenges.as_ptr(),
+            challenges.len(),
+            point.as_mut_ptr(),
+            point.len(),
+            log.as_mut_ptr(),
+            log.len(),
+            &mut answer,
+        )
+    };
+    match number {
+        0 => Ok(Claims { numer: element(&answer, 4), denom: element(&answer, 8) }),
+        _ => Err(Refusal::told(&answer)),
+    }
+}

@@ -1,0 +1,54 @@
+//! The calls with buffers made to measure.
+use crate::{
+    element::{elements_of, row_words, words_of},
+    lent::{prove_into, read_sheet_into, verify_into, Claims, Mode, Rooms, Sum},
+    rooms, Element, Fraction, Refusal,
+};
+
+/// A proof, with what its run left.
+#[derive(Clone, Debug, PartialEq, Eq)]
+pub struct Proved {
+    pub rounds: usize,
+    pub sum: Fraction,
+    pub proof: Vec<u8>,
+    pub point: Vec<Element>,
+    pub log: Vec<u32>,
+}
+
+/// What an accepted proof claims, where, and the log of the run.
+#[derive(Clone, Debug, PartialEq, Eq)]
+pub struct Accepted {
+    pub claims: Claims,
+    pub point: Vec<Element>,
+    pub log: Vec<u32>,
+}
+
+/// The rows of a stored sheet.
+pub fn read_sheet(sheet: &[u8]) -> Result<Vec<Fraction>, Refusal> {
+    // The count stands in the bytes. Where it is wrong or above 1,024, the sheet is refused whatever the room.
+    let count = sheet.get(1..3).map_or(0, |b| usize::from(b[0]) << 8 | usize::from(b[1]));
+    let mut words = vec![0; 8 * count.min(1024)];
+    let count = read_sheet_into(sheet, &mut words)?;
+    let elements = elements_of(&words[..8 * count]);
+    Ok(elements.chunks_exact(2).map(|e| Fraction::new(e[0], e[1])).collect())
+}
+
+/// A proof of the rows.
+pub fn prove(rows: &[Fraction], mode: Mode, sum: Sum, challenges: &[Element]) -> Result<Proved, Refusal> {
+    let n = rooms::rounds(rows.len());
+    let mut proof = vec![0; rooms::proof_bytes(n)];
+    let mut point = vec![0; rooms::point_words(n)];
+    let mut log = vec![0; rooms::log_words(n, sum == Sum::AssertZero)];
+    let mut work = vec![0; rooms::workspace_words(n)];
+    let lent = Rooms { proof: &mut proof, point: &mut point, log: &mut log, work: &mut work };
+    let done = prove_into(&row_words(rows), mode, sum, &words_of(challenges), lent)?;
+    Ok(Proved { rounds: done.rounds, sum: done.sum, proof, point: elements_of(&point), log })
+}
+
+/// The claims of a proof of so many rounds, if it is accepted.
+pub fn verify(proof: &[u8], rounds: usize, challenges: &[Element]) -> Result<Accepted, Refusal> {
+    let mut point = vec![0; rooms::point_words(rounds)];
+    let mut log = vec![0; rooms::log_words(rounds, true)];
+    let claims = verify_into(proof, rounds, &words_of(challenges), &mut point, &mut log)?;
+    Ok(Accepted { claims, point: elements_of(&point), log })
+}

@@ -1,0 +1,62 @@
+//! Lent buffers with a mark in every word and room to spare, so that what was written and what was not are both seen.
+use accudrina::{prove_into, rooms, row_words, verify_into, words_of, Claims, Done, Element, Fraction, Mode, Refusal, Rooms, Sum};
+
+pub const BYTE: u8 = 0xa5;
+pub const WORD: u32 = 0xdead_beef;
+const SPARE: usize = 3;
+
+#[derive(Clone, Debug, PartialEq)]
+pub struct Lent {
+    pub proof: Vec<u8>,
+    pub point: Vec<u32>,
+    pub log: Vec<u32>,
+    pub work: Vec<u32>,
+}
+
+impl Lent {
+    /// Buffers of exactly the room that is asked for.
+    pub fn exact(rounds: usize, assert_zero: bool) -> Self {
+        Self {
+            proof: vec![BYTE; rooms::proof_bytes(rounds)],
+            point: vec![WORD; rooms::point_words(rounds)],
+            log: vec![WORD; rooms::log_words(rounds, assert_zero)],
+            work: vec![WORD; rooms::workspace_words(rounds)],
+        }
+    }
+
+    pub fn spare(rounds: usize, assert_zero: bool) -> Self {
+        let mut lent = Self::exact(rounds, assert_zero);
+        lent.proof.extend([BYTE; SPARE]);
+        for words in [&mut lent.point, &mut lent.log, &mut lent.work] {
+            words.extend([WORD; SPARE]);
+        }
+        lent
+    }
+
+    pub fn prove(&mut self, rows: &[Fraction], mode: Mode, sum: Sum, challenges: &[Element]) -> Result<Done, Refusal> {
+        self.prove_words(&row_words(rows), mode, sum, &words_of(challenges))
+    }
+
+    pub fn prove_words(&mut self, rows: &[u32], mode: Mode, sum: Sum, challenges: &[u32]) -> Result<Done, Refusal> {
+        let rooms = Rooms { proof: &mut self.proof, point: &mut self.point, log: &mut self.log, work: &mut self.work };
+        prove_into(rows, mode, sum, challenges, rooms)
+    }
+
+    pub fn verify(&mut self, proof: &[u8], rounds: usize, challenges: &[Element]) -> Result<Claims, Refusal> {
+        verify_into(proof, rounds, &words_of(challenges), &mut self.point, &mut self.log)
+    }
+}
+
+/// The words in front, and marks behind.
+pub fn marked(front: &[u32], length: usize) -> Vec<u32> {
+    let mut words = front.to_vec();
+    words.resize(length, WORD);
+    words
+}
+
+/// The bytes in front, and marks behind.
+pub fn marked_bytes(front: &[u8], length: usize) -> Vec<u8> {
+    let mut bytes = front.to_vec();
+    bytes.resize(length, BYTE);
+    bytes
+}

@@ -1,0 +1,114 @@
+//! The Rust's recorded answers (oracle/README.md), through the exported functions: every number, field and word of every buffer.
+use accudrina::{prove_into, read_sheet_into, verify_into, Claims, Done, Element, Mode, Refusal, Rooms, Sum};
+use std::{fs, path::PathBuf};
+
+/// The numbers of a line, taken from the front.
+struct Line<'a>(std::str::SplitWhitespace<'a>);
+
+impl Line<'_> {
+    fn number(&mut self) -> u64 {
+        self.0.next().unwrap().parse().unwrap()
+    }
+
+    fn words(&mut self) -> Vec<u32> {
+        (0..self.number()).map(|_| self.number() as u32).collect()
+    }
+
+    fn bytes(&mut self) -> Vec<u8> {
+        self.words().iter().map(|&b| b as u8).collect()
+    }
+
+    /// As many buffers, each of the next length, and then with the fill that stands at the end.
+    fn buffers<const N: usize>(&mut self) -> [Vec<u32>; N] {
+        let lengths: [u64; N] = std::array::from_fn(|_| self.number());
+        let fill = self.number() as u32;
+        lengths.map(|n| vec![fill; n as usize])
+    }
+}
+
+/// The number and the eleven fields of an answer.
+type Told = [u32; 12];
+
+fn told(number: u32, plain: [u32; 3], left: Element, right: Element) -> Told {
+    [&[number], &plain[..], &left.0, &right.0].concat().try_into().unwrap()
+}
+
+fn refused(refusal: Refusal) -> Told {
+    let (none, zero) = ([0; 3], Element::ZERO);
+    let (plain, left, right) = match refusal {
+        Refusal::ZeroDenominator { row } => ([row, 0, 0], zero, zero),
+        Refusal::IncorrectLayerCount { expected, actual } => ([expected, actual, 0], zero, zero),
+        Refusal::IncorrectSumcheckPolyCount { expected, actual } => ([expected, actual, 0], zero, zero),
+        Refusal::ZeroCheckFailed { actual } => (none, actual, zero),
+        Refusal::RootConsistencyCheckFailed { expected, actual } => (none, expected, actual),
+        Refusal::IncorrectSubroundCount { round, expected, actual } => ([round, expected, actual], zero, zero),
+        Refusal::LayerConsistencyCheckFailed { round, expected, actual } => ([round, 0, 0], expected, actual),
+        _ => (none, zero, zero),
+    };
+    told(refusal.number(), plain, left, right)
+}
+
+/// A list with its length before it.
+fn listed(words: &[u32]) -> Vec<u32> {
+    [&[words.len() as u32], words].concat()
+}
+
+fn prover(case: &mut Line<'_>) -> Vec<u32> {
+    let mode = if case.number() == 1 { Mode::Live } else { Mode::Sandbox };
+    let sum = if case.number() == 1 { Sum::AssertZero } else { Sum::Observe };
+    let (rows, challenges) = (case.words(), case.words());
+    let [proof, mut point, mut log, mut work] = case.buffers();
+    let mut proof: Vec<u8> = proof.iter().map(|&b| b as u8).collect();
+    let rooms = Rooms { proof: &mut proof, point: &mut point, log: &mut log, work: &mut work };
+    let done = |d: Done| told(0, [d.rounds as u32, 0, 0], d.sum.p, d.sum.q);
+    let answer = prove_into(&rows, mode, sum, &challenges, rooms).map_or_else(refused, done);
+    let proof: Vec<u32> = proof.into_iter().map(u32::from).collect();
+    [answer.to_vec(), listed(&proof), listed(&point), listed(&log), listed(&work)].concat()
+}
+
+fn verifier(case: &mut Line<'_>) -> Vec<u32> {
+    let rounds = case.number() as usize;
+    let (proof, challenges) = (case.bytes(), case.words());
+    let [mut point, mut log] = case.buffers();
+    let accepted = |c: Claims| told(0, [0; 3], c.numer, c.denom);
+    let answer = verify_into(&proof, rounds, &challenges, &mut point, &mut log).map_or_else(refused, accepted);
+    [answer.to_vec(), listed(&point), listed(&log)].concat()
+}
+
+fn sheet(case: &mut Line<'_>) -> Vec<u32> {
+    let bytes = case.bytes();
+    let [mut rows] = case.buffers();
+    let read = |count| told(0, [count as u32, 0, 0], Element::ZERO, Element::ZERO);
+    let answer = read_sheet_into(&bytes, &mut rows).map_or_else(refused, read);
+    [answer.to_vec(), listed(&rows)].concat()
+}
+
+/// Every case of a kind gives its recorded answer.
+fn replay(kind: &str, call: fn(&mut Line<'_>) -> Vec<u32>) {
+    let folder = PathBuf::from(env!("CARGO_MANIFEST_DIR")).join("../../oracle/recorded");
+    let read = |end: &str| fs::read_to_string(folder.join(format!("{kind}.{end}"))).unwrap();
+    let (cases, answers) = (read("in"), read("out"));
+    assert_eq!(cases.lines().count(), answers.lines().count());
+    for (at, (case, answer)) in cases.lines().zip(answers.lines()).enumerate() {
+        let mut line = Line(case.split_whitespace());
+        line.number();
+        let words: Vec<String> = call(&mut line).iter().map(u32::to_string).collect();
+        assert_eq!(words.join(" "), answer, "{kind}, line {}", at + 1);
+        assert!(line.0.next().is_none());
+    }
+}
+
+#[test]
+fn recorded_prover() {
+    replay("prover", prover);
+}
+
+#[test]
+fn recorded_verifier() {
+    replay("verifier", verifier);
+}
+
+#[test]
+fn recorded_sheets() {
+    replay("sheet", sheet);
+}

@@ -1,0 +1,21 @@
+use Rattle.accudrina.specs.Answer.{answerWords}
+use borrow.Author.Needs.{needs}
+use Rattle.accudrina.proofs.answer.tell.Statement.{statement}
+use Rattle.accudrina.proofs.answer.tell.Tie as tie
+
+field-word-requires : tie.Need-field-word-requires
+field-word-requires c κs = search needs
+
+field-word-requires-2 : tie.Need-field-word-requires-2
+field-word-requires-2 c κs = search needs
+
+field-word-requires-3 : tie.Need-field-word-requires-3
+field-word-requires-3 c κs = search needs
+
+returns : tie.Need-returns
+unfolding answerWords
+returns c = cc
+
+pub tell-spec : {M : Type 1} → statement M
+tell-spec =
+    tie.close (tie.spec field-word-requires field-word-requires-2 field-word-requires-3 returns)

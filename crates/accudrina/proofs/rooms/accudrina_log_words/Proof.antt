@@ -1,0 +1,17 @@
+use Rattle.accudrina.proofs.RoomLaws.{over, within}
+use mathlib.Core.Path.{sym, _∙_}
+use borrow.Author.Needs.{needs}
+use Rattle.accudrina.proofs.rooms.accudrina_log_words.Statement.{statement}
+use Rattle.accudrina.proofs.rooms.accudrina_log_words.Tie as tie
+
+returns : tie.Need-returns
+returns c = sym (over _ _ (c .if1 .taken))
+
+log-words-requires : tie.Need-log-words-requires
+log-words-requires c κs = search needs
+
+returns-2 : tie.Need-returns-2
+returns-2 c = c .log-words .ensures ∙ sym (within _ _ (c .before .if1 .left))
+
+pub accudrina-log-words-spec : {M : Type 1} → statement M
+accudrina-log-words-spec = tie.close (tie.spec returns log-words-requires returns-2)

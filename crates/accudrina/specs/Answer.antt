@@ -1,0 +1,25 @@
+-- The sixteen words of an answer: the number, three plain fields, two elements, four words of zero.
+-- Assumes nothing.
+use mathlib.Core.List.{List, [], _∷_, _++_}
+use Prim.Native.Nat.{ℕ, _%_}
+use Rattle.field.specs.declared.Ext.{Ext}
+use Rattle.refusal.specs.declared.Report.{Report}
+
+-- a plain field in a word: every count, row and round is far below 2 ^ 32
+abbrev pub fieldWord : ℕ → ℕ
+fieldWord x = x % 4294967296
+
+abbrev pub extWords : Ext → List ℕ
+extWords e = e .c0 ∷ e .c1 ∷ e .c2 ∷ e .c3 ∷ []
+
+unfoldable pub answerWords : Report → List ℕ
+answerWords r =
+    r .number ∷ fieldWord (r .first) ∷ fieldWord (r .second) ∷ fieldWord (r .third) ∷ (extWords (r .left) ++ (extWords (r .right) ++ (0 ∷ 0 ∷ 0 ∷ 0 ∷ [])))
+
+-- what a call returns, and the words that it writes
+pub record Told : Type 0 where
+  pub number : ℕ
+  pub words : List ℕ
+
+abbrev pub tells : Report → Told
+tells r = record { number = r .number; words = answerWords r }

@@ -1,0 +1,33 @@
+-- What each exported call returns, writes as its answer and leaves in the buffers: the inner call's outcome, told in words.
+-- Assumes nothing.
+use mathlib.Core.List.{List}
+use Prim.Native.Nat.{ℕ}
+use Rattle.stored.specs.SheetReads.{sheetRead}
+use Rattle.gate.specs.Refusals.{Call}
+use Rattle.prover.specs.Proved.{Buffers, proved}
+use Rattle.prover.specs.Report.{answerReport}
+use Rattle.verifier.specs.Verified.{verified}
+use Rattle.accudrina.specs.Answer.{Told, tells}
+use Rattle.accudrina.specs.Reports.{sheetReport, verdictReport}
+
+pub record Returned (B : Type 0) : Type 0 where
+  pub told : Told
+  pub buffers : B
+
+-- of the sheet's bytes, and the buffer for rows
+abbrev pub reading : List ℕ → List ℕ → Returned (List ℕ)
+reading sheet rows = record { told = tells (sheetReport (sheetRead sheet rows .answer)); buffers = sheetRead sheet rows .buffer }
+
+-- of rows, modes and challenges, and the buffers for proof, point, log and work
+abbrev pub proving : Call → Buffers → Returned Buffers
+proving call lent = record { told = tells (answerReport (proved call lent .answer)); buffers = proved call lent .buffers }
+
+pub record Spaces : Type 0 where
+  pub point : List ℕ
+  pub log : List ℕ
+
+-- of a proof's bytes, rounds and challenges, and the buffers for point and log
+abbrev pub verifying : (proof : List ℕ) (rounds : ℕ) (challenges : List ℕ) → Spaces → Returned Spaces
+verifying proof rounds challenges lent =
+    let end = verified proof rounds challenges (lent .point) (lent .log) in
+    record { told = tells (verdictReport (end .answer)); buffers = record { point = end .point; log = end .log } }

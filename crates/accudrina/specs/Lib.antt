@@ -1,0 +1,6 @@
+-- What the exported functions return and write.
+pub mod Answer
+pub mod Reports
+pub mod Calls
+pub mod Rooms
+pub mod Enough

@@ -1,0 +1,61 @@
+// The functions that C and Rust call: a number is returned, and sixteen words of answer are written.
+ghost use mathlib.Core.Path.{_≡_};
+ghost use Rattle.accudrina.specs.Calls.{reading, proving, verifying};
+
+mod answer; // the sixteen words
+mod report; // what they say of each call's answer
+mod rooms; // how much room a run asks for
+
+#[no_mangle]
+pub extern "C" fn accudrina_read_sheet(
+    sheet: &[u8],
+    rows: &mut [u32],
+    answer: &mut [u32; 16],
+) -> u32
+    ensures { λ r. ⌜ record { told = record { number = r; words = now (answer .exit) }; buffers = now (rows .exit) } ≡ reading (now (sheet .entry)) (now (rows .entry)) ⌝ }
+{
+    let read = stored::sheet::read_sheet(sheet, rows);
+    answer::tell(report::of_sheet(read), answer)
+}
+
+#[no_mangle]
+pub extern "C" fn accudrina_prove(
+    rows: &[u32],
+    live: bool,
+    assert_zero: bool,
+    challenges: &[u32],
+    proof: &mut [u8],
+    point: &mut [u32],
+    log: &mut [u32],
+    work: &mut [u32],
+    answer: &mut [u32; 16],
+) -> u32
+    ensures { λ r. ⌜ record { told = record { number = r; words = now (answer .exit) }; buffers = record { proof = now (proof .exit); point = now (point .exit); log = now (log .exit); work = now (work .exit) } } ≡ proving (record { rows = now (rows .entry); live = live; asserted = «assert_zero»; challenges = now (challenges .entry) }) (record { proof = now (proof .entry); point = now (point .entry); log = now (log .entry); work = now (work .entry) }) ⌝ }
+{
+    let proved = prover::fractional_sumcheck(
+        rows,
+        live,
+        assert_zero,
+        challenges,
+        proof,
+        point,
+        log,
+        work,
+    );
+    answer::tell(prover::number_and_values(proved), answer)
+}
+
+#[no_mangle]
+pub extern "C" fn accudrina_verify(
+    proof: &[u8],
+    rounds: usize,
+    challenges: &[u32],
+    point: &mut [u32],
+    log: &mut [u32],
+    answer: &mut [u32; 16],
+) -> u32
+    ensures { λ r. ⌜ record { told = record { number = r; words = now (answer .exit) }; buffers = record { point = now (point .exit); log = now (log .exit) } } ≡ verifying (now (proof .entry)) rounds (now (challenges .entry)) (record { point = now (point .entry); log = now (log .entry) }) ⌝ }
+{
+    let verdict = verifier::verify_gkr(proof, rounds, challenges, point, log);
+    answer::tell(report::of_verdict(verdict), answer)
+}

@@ -1,0 +1,65 @@
+// How much room a run asks for, so that a caller can size buffers: 0 for more rounds than are taken.
+ghost use mathlib.Core.Path.{_≡_};
+ghost use Rattle.accudrina.specs.Rooms as Rooms;
+use refusal::MAX_ROUNDS;
+
+#[no_mangle]
+pub extern "C" fn accudrina_proof_bytes(rounds: usize) -> usize
+    ensures { λ r. ⌜ r ≡ Rooms.proofBytes rounds ⌝ }
+{
+    if rounds > MAX_ROUNDS {
+        return 0;
+    }
+    gate::proof_bytes(rounds)
+}
+
+#[no_mangle]
+pub extern "C" fn accudrina_point_words(rounds: usize) -> usize
+    ensures { λ r. ⌜ r ≡ Rooms.pointWords rounds ⌝ }
+{
+    if rounds > MAX_ROUNDS {
+        return 0;
+    }
+    4 * rounds
+}
+
+#[no_mangle]
+pub extern "C" fn accudrina_log_words(rounds: usize, assert_zero: bool) -> usize
+    ensures { λ r. ⌜ r ≡ Rooms.logWords rounds «assert_zero» ⌝ }
+{
+    if rounds > MAX_ROUNDS {
+        return 0;
+    }
+    gate::log_words(assert_zero, rounds)
+}
+
+#[no_mangle]
+pub extern "C" fn accudrina_workspace_words(rounds: usize) -> usize
+    ensures { λ r. ⌜ r ≡ Rooms.workspaceWords rounds ⌝ }
+{
+    if rounds > MAX_ROUNDS {
+        return 0;
+    }
+    gate::work_words(rounds, 1 << rounds)
+}
+
+#[no_mangle]
+pub extern "C" fn accudrina_challenge_words(rounds: usize) -> usize
+    ensures { λ r. ⌜ r ≡ Rooms.challengeWords rounds ⌝ }
+{
+    if rounds > MAX_ROUNDS {
+        return 0;
+    }
+    gate::challenge_words(rounds)
+}
+
+// The rounds of so many rows: 0 for no rows and for one, one more than are taken for a number of rows that is refused.
+#[no_mangle]
+pub extern "C" fn accudrina_rounds(rows: usize) -> usize
+    ensures { λ r. ⌜ r ≡ Rooms.rounds rows ⌝ }
+{
+    if gate::is_size(rows) {
+        return gate::least_size(rows).n;
+    }
+    MAX_ROUNDS + 1
+}

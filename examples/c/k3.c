@@ -1,0 +1,29 @@
+/* Proves and verifies 1/1 + 2/1 - 1/1 - 2/1 = 0, and prints the claims on the sheet and the point. */
+#include "accudrina.h"
+#include <stdio.h>
+
+static void print(const char *name, const uint32_t *e) {
+    printf("%s %u,%u,%u,%u\n", name, (unsigned)e[0], (unsigned)e[1], (unsigned)e[2], (unsigned)e[3]);
+}
+
+int main(void) {
+    uint32_t rows[4 * 8] = {0}, challenges[16] = {0}, answer[ACCUDRINA_ANSWER_WORDS];
+    const uint32_t p[4] = {1, 2, ACCUDRINA_PRIME - 1, ACCUDRINA_PRIME - 2}, drawn[4] = {2, 1, 3, 4};
+    uint8_t proof[200];
+    uint32_t point[8], log[64], work[128]; /* accudrina_proof_bytes(2), .. */
+    for (int i = 0; i < 4; i++) {
+        rows[8 * i] = p[i];
+        rows[8 * i + 4] = 1;
+        challenges[4 * i] = drawn[i];
+    }
+    if (accudrina_prove(rows, 32, true, true, challenges, 16, proof, 200, point, 8, log, 64, work, 128, answer) ||
+        accudrina_verify(proof, 200, 2, challenges, 16, point, 8, log, 64, answer)) {
+        printf("refused %u\n", (unsigned)answer[0]);
+        return 1;
+    }
+    print("numer", answer + 4);
+    print("denom", answer + 8);
+    print("point", point);
+    print("     ", point + 4);
+    return 0;
+}

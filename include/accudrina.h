@@ -1,0 +1,108 @@
+/* Accudrina: a proved prover and verifier for sums of fractions (the fractional sumcheck of LogUp-GKR).
+ *
+ * Build:  rt staticlib accudrina              writes target/staticlib/libaccudrina.a, for x86-64 Linux
+ *         cc -Iinclude main.c target/staticlib/libaccudrina.a
+ *
+ * Words.  A word is a uint32_t below the prime 2013265921; a word that is not is refused as 6. An element is four words c0..c3,
+ *         meaning c0 + c1*x + c2*x^2 + c3*x^3 with x^4 = 11. A row is eight words, p and then q, meaning p/q. Every length below is
+ *         counted in the array's own units: bytes of a proof or a sheet, words of all else.
+ * Answer. Every call ends with an answer for all bytes, words and lengths. The result is 0 for done or the number of the refusal, and
+ *         all sixteen words of `answer` are written: [0] the number, [1] to [3] plain fields, [4] to [7] and [8] to [11] elements,
+ *         [12] to [15] zero. A field that an answer does not have is zero.
+ * Memory. Nothing is allocated or kept between calls: there is no state, and any number of threads may call at once, each with its
+ *         own buffers. Each pointer is aligned and not NULL, also with length 0, and what a call writes overlaps nothing else that
+ *         it is given. A buffer may be longer than is asked for; of what it held nothing is read, and what is not said to be written
+ *         stays as it was. */
+#ifndef ACCUDRINA_H
+#define ACCUDRINA_H
+
+#include <stdbool.h>
+#include <stddef.h>
+#include <stdint.h>
+
+#ifdef __cplusplus
+extern "C" {
+#endif
+
+#define ACCUDRINA_PRIME UINT32_C(2013265921)
+#define ACCUDRINA_ANSWER_WORDS 16
+
+/* The results, with the fields of each: plain ones in [1] to [3], elements in [4] to [7] and [8] to [11]. */
+enum accudrina_result {
+    ACCUDRINA_DONE = 0,                              /* see each call */
+    ACCUDRINA_RAGGED_ROWS = 1,                       /* the row words are not a multiple of 8 */
+    ACCUDRINA_TOO_MANY_ROWS = 2,                     /* more than 1024 */
+    ACCUDRINA_NOT_POWER_OF_TWO = 3,                  /* the rows are neither none nor a power of two */
+    ACCUDRINA_SHORT_CHALLENGES = 4,                  /* fewer words than accudrina_challenge_words says */
+    ACCUDRINA_SHORT_ROOM = 5,                        /* an output or the workspace is too short */
+    ACCUDRINA_BAD_WORD = 6,                          /* a word is not below the prime */
+    ACCUDRINA_ZERO_DENOMINATOR = 7,                  /* live mode, p not 0 over q = 0: the lowest such row, from 0 */
+    ACCUDRINA_NON_ZERO_ROOT_SUM = 8,                 /* a zero sum is asserted, and the sum's p is not 0 */
+    ACCUDRINA_SINGLE_ROW = 9,                        /* one row, not refused as 8 */
+    ACCUDRINA_ZERO_ROUNDS = 10,                      /* the verifier was given 0 rounds */
+    ACCUDRINA_TOO_MANY_ROUNDS = 11,                  /* more than 10 */
+    ACCUDRINA_BAD_VERSION = 12,                      /* no first byte, or not 1 */
+    ACCUDRINA_BAD_LENGTH = 13,                       /* a stored length or count disagrees with the bytes */
+    ACCUDRINA_INCORRECT_LAYER_COUNT = 14,            /* plain: expected, actual */
+    ACCUDRINA_INCORRECT_SUMCHECK_POLY_COUNT = 15,    /* plain: expected, actual */
+    ACCUDRINA_ZERO_CHECK_FAILED = 16,                /* elements: the numerator that should be 0 */
+    ACCUDRINA_ROOT_CONSISTENCY_CHECK_FAILED = 17,    /* elements: expected, actual */
+    ACCUDRINA_INCORRECT_SUBROUND_COUNT = 18,         /* plain: round, expected, actual */
+    ACCUDRINA_LAYER_CONSISTENCY_CHECK_FAILED = 19    /* plain: round; elements: expected, actual */
+};
+
+/* How long the buffers must be, for 0 to 10 rounds; for more rounds the answer is 0, and the calls refuse them. */
+
+/* The rounds n of 2^n rows; 0 for no rows; 11 for a number of rows that is refused. */
+size_t accudrina_rounds(size_t rows);
+/* The bytes of a proof. */
+size_t accudrina_proof_bytes(size_t rounds);
+/* The words of the point, four for each round. */
+size_t accudrina_point_words(size_t rounds);
+/* The words of the log; the verifier's is that with assert_zero. */
+size_t accudrina_log_words(size_t rounds, bool assert_zero);
+/* The words of the prover's workspace. */
+size_t accudrina_workspace_words(size_t rounds);
+/* The words of the challenges. */
+size_t accudrina_challenge_words(size_t rounds);
+
+/* Reads a stored sheet: version byte 1, the row count in two bytes, 32 bytes a row, all big-endian.
+ * Done: the row count in [1]; the rows' words, eight a row, stand at the front of rows.
+ * Refused as the first that fits of 12, 13, 2, 3, 5 (fewer than eight words a row), 6: rows is as it was. */
+uint32_t accudrina_read_sheet(const uint8_t *sheet, size_t sheet_len,
+                              uint32_t *rows, size_t rows_len,
+                              uint32_t answer[ACCUDRINA_ANSWER_WORDS]);
+
+/* Proves the sum of the rows, with the challenges given; those past the needed ones are not read.
+ * live: rows with p not 0 and q = 0 are refused as 7; otherwise all rows are taken. A row 0/0 is taken in both modes, and makes the
+ * whole sum 0/0. assert_zero: a sum whose p is not 0 is refused as 8; otherwise p is put into the log.
+ * Done: the rounds in [1], the sum's p in [4] to [7] and q in [8] to [11]. The proof, the point and the log (the top bit is set in a
+ * word that was sampled) stand at the front of their buffers; the needed words of work are 0.
+ * Refused as the first that fits of 1 to 9: proof, point and log are as they were; work too, but for 8, which leaves its needed
+ * words 0. For no rows or one row only a proof's 23 bytes are needed. */
+uint32_t accudrina_prove(const uint32_t *rows, size_t rows_len,
+                         bool live, bool assert_zero,
+                         const uint32_t *challenges, size_t challenges_len,
+                         uint8_t *proof, size_t proof_len,
+                         uint32_t *point, size_t point_len,
+                         uint32_t *log, size_t log_len,
+                         uint32_t *work, size_t work_len,
+                         uint32_t answer[ACCUDRINA_ANSWER_WORDS]);
+
+/* Verifies a proof that the sum of 2^rounds rows is zero.
+ * Done, accepted: the claims in [4] to [7] and [8] to [11], the values at the point of the columns p and q of the sheet; the caller
+ * compares them with the sheet. The point and the log stand at the front of their buffers, and equal the prover's.
+ * Refused as the first that fits of 10, 11, 4, 5, 12, 13, 6, 14, 15, then 16 to 19 as the run meets them: the point is as it was; so
+ * is the log, but for 16 to 19, which leave what the run observed and sampled until then. */
+uint32_t accudrina_verify(const uint8_t *proof, size_t proof_len,
+                          size_t rounds,
+                          const uint32_t *challenges, size_t challenges_len,
+                          uint32_t *point, size_t point_len,
+                          uint32_t *log, size_t log_len,
+                          uint32_t answer[ACCUDRINA_ANSWER_WORDS]);
+
+#ifdef __cplusplus
+}
+#endif
+
+#endif
