@@ -18,6 +18,12 @@ def program(build="release"):
     return path
 
 
+def recorded(kind):
+    """The files of a kind's recorded cases, of their answers, and of what each is for."""
+    crate = os.path.normpath(f"{HERE}/../crates/replay_{kind}")
+    return [f"{crate}/stdin", f"{crate}/stdout", f"{HERE}/recorded/{kind}.about"]
+
+
 def replies(commands, build="release"):
     """One reply for each command, from one process."""
     done = subprocess.run([program(build)], input="\n".join(commands) + "\n", capture_output=True, text=True, check=True)

@@ -36,10 +36,18 @@ impl Ext {
         }
     }
 
-    // Each coordinate is four products reduced once; x⁴ = 11 is taken into the second factor first.
     pub fn times(self, other: Ext) -> Ext
         requires { ⌜ Canon self × Canon other ⌝ }
         ensures { λ r. ⌜ Is r (E.mul (dec self) (dec other)) ⌝ }
+    {
+        self.times_plus(other, Ext::ZERO)
+    }
+
+    // self·other + c. Each coordinate is four products and c's word, reduced once; x⁴ = 11 is taken into the second factor first,
+    // so that a second factor that a loop keeps is multiplied by 11 before the loop.
+    pub fn times_plus(self, other: Ext, c: Ext) -> Ext
+        requires { ⌜ Canon self × Canon other ⌝ }
+        ensures { λ r. ⌜ Is r (E.add (E.mul (dec self) (dec other)) (dec c)) ⌝ }
     {
         let b0 = other.c0;
         let b1 = other.c1;
@@ -49,10 +57,10 @@ impl Ext {
         let e2 = eleven(b2);
         let e3 = eleven(b3);
         Ext {
-            c0: dot(self, b0, e3, e2, e1),
-            c1: dot(self, b1, b0, e3, e2),
-            c2: dot(self, b2, b1, b0, e3),
-            c3: dot(self, b3, b2, b1, b0),
+            c0: dot(self, b0, e3, e2, e1, c.c0),
+            c1: dot(self, b1, b0, e3, e2, c.c1),
+            c2: dot(self, b2, b1, b0, e3, c.c2),
+            c3: dot(self, b3, b2, b1, b0, c.c3),
         }
     }
 

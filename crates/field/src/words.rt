@@ -48,18 +48,19 @@ pub fn eleven(a: u32) -> u32
 }
 
 // A product of two canonical words: four of them fit a u64.
-fn prod(a: u32, b: u32) -> u64
+pub fn prod(a: u32, b: u32) -> u64
     requires { ⌜ (a < P) × (b < P) ⌝ }
     ensures { λ r. ⌜ (r ≡ a * b) × (r ≤ 4053239664633446400) ⌝ }
 {
     (a as u64) * (b as u64)
 }
 
-// Four products, reduced once.
-pub fn dot(a: Ext, b0: u32, b1: u32, b2: u32, b3: u32) -> u32
+// Four products and a word more, reduced once.
+pub fn dot(a: Ext, b0: u32, b1: u32, b2: u32, b3: u32, c: u32) -> u32
     requires a { ⌜ Canon a ⌝ }
     requires b { ⌜ (b0 < P) × (b1 < P) × (b2 < P) × (b3 < P) ⌝ }
-    ensures { λ r. ⌜ (r < P) × (of r ≡ B.add (B.add (B.add (B.mul (of (a .c0)) (of b0)) (B.mul (of (a .c1)) (of b1))) (B.mul (of (a .c2)) (of b2))) (B.mul (of (a .c3)) (of b3))) ⌝ }
+    ensures { λ r. ⌜ (r < P) × (of r ≡ B.add (B.add (B.add (B.add (B.mul (of (a .c0)) (of b0)) (B.mul (of (a .c1)) (of b1))) (B.mul (of (a .c2)) (of b2))) (B.mul (of (a .c3)) (of b3))) (of c)) ⌝ }
 {
-    ((prod(a.c0, b0) + prod(a.c1, b1) + prod(a.c2, b2) + prod(a.c3, b3)) % 2013265921) as u32
+    ((prod(a.c0, b0) + prod(a.c1, b1) + prod(a.c2, b2) + prod(a.c3, b3) + (c as u64))
+        % 2013265921) as u32
 }

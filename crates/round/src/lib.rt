@@ -110,7 +110,8 @@ pub fn next_claim(claim: Ext, m: SubroundEvals, rho: Ext) -> Ext
     requires { ⌜ Canon claim × CanonCubic (cubicIn m) × Canon rho ⌝ }
     ensures { λ r. ⌜ Is r (Interpolate.cubic Extension (minus (dec claim) (dec (m .s_1))) (dec (m .s_1)) (dec (m .s_2)) (dec (m .s_3)) (dec rho)) ⌝ }
 {
-    step::interpolate::cubic_at(claim.minus(m.s_1), m.s_1, m.s_2, m.s_3, rho)
+    let at0 = claim.minus(m.s_1);
+    step::interpolate::cubic_at(at0, m.s_1, m.s_2, m.s_3, rho)
 }
 
 // eq goes on by xi·rho + (1 - xi)·(1 - rho): two products.
@@ -242,10 +243,10 @@ pub fn verify_root(
     let p = observe_layer_claims(log, a, c);
     let f = compute_recursive_relations(c);
     let numer = f.p;
+    let denom = f.q;
     if !numer.same_words(Ext::ZERO) {
         return Advance::Stopped(Refusal::ZeroCheckFailed { actual: numer });
     }
-    let denom = f.q;
     if !denom.same_words(q0) {
         return Advance::Stopped(Refusal::RootConsistencyCheckFailed {
             expected: q0,

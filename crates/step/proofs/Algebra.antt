@@ -26,9 +26,13 @@ at-three a b = ring ExtRing (a ∷ b ∷ []) (search quote depth 20 fits 9999) t
 pub line-turned : (a b r : Ext) → add a (mul (minus b a) r) ≡ line r a b
 line-turned a b r = ring ExtRing (a ∷ b ∷ r ∷ []) (search quote depth 20 fits 9999) tt
 
--- two products fewer than as it is written
-pub cross-fast : (p0 q0 p1 q1 l : Ext) → add (mul p0 q1) (mul q0 (add p1 (mul q1 l))) ≡ RoundSum.cross ExtRing l (record { p0 = p0; q0 = q0; p1 = p1; q1 = q1 })
-cross-fast p0 q0 p1 q1 l = ring ExtRing (p0 ∷ q0 ∷ p1 ∷ q1 ∷ l ∷ []) (search quote depth 20 fits 9999) tt
+-- lambda is taken into p1 first: two products fewer than as it is written
+pub cross-weighed : (p0 q0 p1 q1 l : Ext) → add (mul p0 q1) (mul q0 (add (mul q1 l) p1)) ≡ RoundSum.cross ExtRing l (record { p0 = p0; q0 = q0; p1 = p1; q1 = q1 })
+cross-weighed p0 q0 p1 q1 l = ring ExtRing (p0 ∷ q0 ∷ p1 ∷ q1 ∷ l ∷ []) (search quote depth 20 fits 9999) tt
+
+-- the line through weighed ends
+pub line-weighed : (x l p q p' q' : Ext) → line x (add (mul q l) p) (add (mul q' l) p') ≡ add (mul (line x q q') l) (line x p p')
+line-weighed x l p q p' q' = ring ExtRing (x ∷ l ∷ p ∷ q ∷ p' ∷ q' ∷ []) (search quote depth 20 fits 9999) tt
 
 pub low-part : (t x : Ext) → minus t (mul t x) ≡ mul t (minus one x)
 low-part t x = ring ExtRing (t ∷ x ∷ []) (search quote depth 20 fits 9999) tt

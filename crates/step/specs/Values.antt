@@ -76,6 +76,18 @@ pub record IsThree (t : ThreeW) (a b c : E.Ext) : Type 0 where
 abbrev pub summandAt : E.Ext → E.Ext → E.Ext → E.Ext → Claims E.Ext → Claims E.Ext → E.Ext
 summandAt x lambda e0 e1 c0 c1 = E.mul (line x e0 e1) (RoundSum.cross ExtRing lambda (zip (line x) c0 c1))
 
+-- the claims with p1 + lambda·q1 in the place of p1
+abbrev pub weigh : E.Ext → Claims E.Ext → Claims E.Ext
+weigh lambda c = record { p0 = c .p0; q0 = c .q0; p1 = E.add (E.mul (c .q1) lambda) (c .p1); q1 = c .q1 }
+
+-- the numerator of the sum of both fractions
+abbrev pub numerator : Claims E.Ext → E.Ext
+numerator c = E.add (E.mul (c .p0) (c .q1)) (E.mul (c .q0) (c .p1))
+
+-- the summand of s at x, from weighed entries
+abbrev pub weighedAt : E.Ext → E.Ext → E.Ext → Claims E.Ext → Claims E.Ext → E.Ext
+weighedAt x e0 e1 c0 c1 = E.mul (line x e0 e1) (numerator (zip (line x) c0 c1))
+
 -- INTERPOLATION
 
 -- the cubic at x, from its value e0 at 0, the differences s1 and s2 from there, and d3 = s3 - (s2 - s1)·3

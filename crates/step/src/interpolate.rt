@@ -12,7 +12,7 @@ pub fn horner_step(a: Ext, x: Ext, b: Ext) -> Ext
     requires { ⌜ Canon a × Canon x × Canon b ⌝ }
     ensures { λ r. ⌜ Is r (E.add (E.mul (dec a) (dec x)) (dec b)) ⌝ }
 {
-    a.times(x).plus(b)
+    a.times_plus(x, b)
 }
 
 // interpolate_quadratic_at_012: two products, and one by the inverse of 2.

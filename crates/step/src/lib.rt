@@ -6,8 +6,9 @@ ghost use Rattle.field.specs.ExtRing.{ExtRing};
 ghost use Rattle.field.specs.Element.{dec, Canon, Is};
 ghost use Rattle.gkr.specs.Tree as Tree;
 ghost use Rattle.multilinear.specs.RoundSum as RoundSum;
-ghost use Rattle.step.specs.Values.{CanonFrac, IsFrac, decFrac, CanonEntry, IsEntry, decClaims, CanonThree, IsThree, zip, zipFrac, minus, line, two, three, summandAt};
+ghost use Rattle.step.specs.Values.{CanonFrac, IsFrac, decFrac, CanonEntry, IsEntry, decClaims, CanonThree, IsThree, zip, zipFrac, minus, line, two, three, summandAt, weigh, numerator, weighedAt};
 use field::Ext;
+use field::sums::sum_of_products;
 
 pub mod eq; // eq, one coordinate more
 pub mod interpolate; // values at x of the polynomials through given values
@@ -44,7 +45,7 @@ pub fn add_fractions(a: Frac, b: Frac) -> Frac
     ensures { λ r. ⌜ IsFrac r (Tree.compute-recursive-relations ExtRing (record { p0 = dec (a .p); q0 = dec (a .q); p1 = dec (b .p); q1 = dec (b .q) })) ⌝ }
 {
     Frac {
-        p: a.p.times(b.q).plus(b.p.times(a.q)),
+        p: sum_of_products(a.p, b.q, b.p, a.q),
         q: a.q.times(b.q),
     }
 }
@@ -54,7 +55,7 @@ pub fn line_at(a: Ext, b: Ext, r: Ext) -> Ext
     requires { ⌜ Canon a × Canon b × Canon r ⌝ }
     ensures { λ x. ⌜ Is x (line (dec r) (dec a) (dec b)) ⌝ }
 {
-    a.plus(b.minus(a).times(r))
+    b.minus(a).times_plus(r, a)
 }
 
 pub fn pair_plus(a: Frac, b: Frac) -> Frac
@@ -121,29 +122,61 @@ pub fn entry_line(a: Entry, b: Entry, r: Ext) -> Entry
     }
 }
 
+// p1 + lambda·q1 in the place of p1: one product, and then numerator and denominator of the parent are one sum of two products.
+pub fn weigh_entry(t: Entry, lambda: Ext) -> Entry
+    requires { ⌜ CanonEntry t × Canon lambda ⌝ }
+    ensures { λ r. ⌜ IsEntry r (dec (t .e)) (weigh (dec lambda) (decClaims t)) ⌝ }
+{
+    let e = t.e;
+    let l = t.l;
+    let q = t.r.q;
+    let w = q.times_plus(lambda, t.r.p);
+    Entry {
+        e,
+        l,
+        r: Frac { p: w, q },
+    }
+}
+
+// eq times p0·q1 + q0·p1: three products.
+pub fn weighed_summand(t: Entry) -> Ext
+    requires { ⌜ CanonEntry t ⌝ }
+    ensures { λ x. ⌜ Is x (E.mul (dec (t .e)) (numerator (decClaims t))) ⌝ }
+{
+    let a = t.l;
+    let b = t.r;
+    t.e.times(sum_of_products(a.p, b.q, a.q, b.p))
+}
+
 // eq times numerator and denominator of the parent, batched by lambda: four products.
 pub fn summand(t: Entry, lambda: Ext) -> Ext
     requires { ⌜ CanonEntry t × Canon lambda ⌝ }
     ensures { λ x. ⌜ Is x (E.mul (dec (t .e)) (RoundSum.cross ExtRing (dec lambda) (decClaims t))) ⌝ }
 {
-    let a = t.l;
-    let b = t.r;
-    t.e.times(a.p.times(b.q).plus(a.q.times(b.p.plus(b.q.times(lambda)))))
+    weighed_summand(weigh_entry(t, lambda))
 }
 
-// The summands at 1, 2 and 3 of the lines through two entries. At 2 and 3 an entry is found by adding the difference.
-pub fn summands(t0: Entry, t1: Entry, lambda: Ext) -> Three
-    requires { ⌜ CanonEntry t0 × CanonEntry t1 × Canon lambda ⌝ }
-    ensures { λ r. ⌜ IsThree r (summandAt E.one (dec lambda) (dec (t0 .e)) (dec (t1 .e)) (decClaims t0) (decClaims t1)) (summandAt two (dec lambda) (dec (t0 .e)) (dec (t1 .e)) (decClaims t0) (decClaims t1)) (summandAt three (dec lambda) (dec (t0 .e)) (dec (t1 .e)) (decClaims t0) (decClaims t1)) ⌝ }
+// The summands at 1, 2 and 3 of the lines through two weighed entries. At 2 and 3 an entry is found by adding the difference.
+pub fn weighed_summands(t0: Entry, t1: Entry) -> Three
+    requires { ⌜ CanonEntry t0 × CanonEntry t1 ⌝ }
+    ensures { λ r. ⌜ IsThree r (weighedAt E.one (dec (t0 .e)) (dec (t1 .e)) (decClaims t0) (decClaims t1)) (weighedAt two (dec (t0 .e)) (dec (t1 .e)) (decClaims t0) (decClaims t1)) (weighedAt three (dec (t0 .e)) (dec (t1 .e)) (decClaims t0) (decClaims t1)) ⌝ }
 {
     let d = entry_minus(t1, t0);
     let t2 = entry_plus(t1, d);
     let t3 = entry_plus(t2, d);
     Three {
-        s1: summand(t1, lambda),
-        s2: summand(t2, lambda),
-        s3: summand(t3, lambda),
+        s1: weighed_summand(t1),
+        s2: weighed_summand(t2),
+        s3: weighed_summand(t3),
     }
+}
+
+// The summands at 1, 2 and 3 of the lines through two entries: lambda is multiplied in twice, and its products go on by additions.
+pub fn summands(t0: Entry, t1: Entry, lambda: Ext) -> Three
+    requires { ⌜ CanonEntry t0 × CanonEntry t1 × Canon lambda ⌝ }
+    ensures { λ r. ⌜ IsThree r (summandAt E.one (dec lambda) (dec (t0 .e)) (dec (t1 .e)) (decClaims t0) (decClaims t1)) (summandAt two (dec lambda) (dec (t0 .e)) (dec (t1 .e)) (decClaims t0) (decClaims t1)) (summandAt three (dec lambda) (dec (t0 .e)) (dec (t1 .e)) (decClaims t0) (decClaims t1)) ⌝ }
+{
+    weighed_summands(weigh_entry(t0, lambda), weigh_entry(t1, lambda))
 }
 
 pub fn three_plus(a: Three, b: Three) -> Three

@@ -1,55 +1,18 @@
-use Rattle.field.specs.Base.{of}
-use Rattle.field.specs.Ext as E
-use Rattle.field.proofs.Residues.{coord0, coord1, coord2}
+use mathlib.Core.Path.{_∙_}
+use Rattle.field.proofs.LateSums.{nothing-more}
+use native.Mathlib.Omega.{arith}
 use borrow.Author.Needs.{needs}
 use Rattle.field.proofs.Ext.times.Statement.{statement}
 use Rattle.field.proofs.Ext.times.Tie as tie
+use Rattle.field.proofs.Ext.times.Reads as reads
+use Rattle.field.proofs.Ext.times.Lts as lts
+use Rattle.field.proofs.Ext.times_plus.Reads as times-plus-reads
 
-eleven-requires : tie.Need-eleven-requires
-eleven-requires c κs = search needs
-
-eleven-requires-2 : tie.Need-eleven-requires-2
-eleven-requires-2 c κs = search needs
-
-eleven-requires-3 : tie.Need-eleven-requires-3
-eleven-requires-3 c κs = search needs
-
-dot-requires : tie.Need-dot-requires
-dot-requires c κs = search needs
-
-dot-requires-2 : tie.Need-dot-requires-2
-dot-requires-2 c κs = search needs
-
-dot-requires-3 : tie.Need-dot-requires-3
-dot-requires-3 c κs = search needs
-
-dot-requires-4 : tie.Need-dot-requires-4
-dot-requires-4 c κs = search needs
+times-plus-requires : tie.Need-times-plus-requires
+times-plus-requires c κs = search needs
 
 returns : tie.Need-returns
-unfolding E.ext E.mul
-returns c =
-    let a = c .before .before .before .before .before .before .before .args .self in
-    let b = c .before .before .before .before .before .before .before .args .other in
-    record {
-      canon = search needs;
-      value =
-          cc (
-            coord0 E.eleven (of (a .c0)) (of (a .c1)) (of (a .c2)) (of (a .c3)) (of (b .c0)) (of (b .c1)) (of (b .c2)) (of (b .c3)),
-            coord1 E.eleven (of (a .c0)) (of (a .c1)) (of (a .c2)) (of (a .c3)) (of (b .c0)) (of (b .c1)) (of (b .c2)) (of (b .c3)),
-            coord2 E.eleven (of (a .c0)) (of (a .c1)) (of (a .c2)) (of (a .c3)) (of (b .c0)) (of (b .c1)) (of (b .c2)) (of (b .c3)),
-          );
-    }
+returns c = record { canon = c .times-plus .ensures .canon; value = c .times-plus .ensures .value ∙ nothing-more _ }
 
 pub times-spec : {M : Type 1} → statement M
-times-spec =
-    tie.close
-    (tie.spec
-    eleven-requires
-    eleven-requires-2
-    eleven-requires-3
-    dot-requires
-    dot-requires-2
-    dot-requires-3
-    dot-requires-4
-    returns)
+times-spec = tie.close (tie.spec times-plus-requires returns)

@@ -1,7 +1,11 @@
 use Rattle.field.specs.BaseRing.{of-rules}
+use native.Mathlib.Omega.{arith}
 use borrow.Author.Needs.{needs}
 use Rattle.field.proofs.words.dot.Statement.{statement}
 use Rattle.field.proofs.words.dot.Tie as tie
+use Rattle.field.proofs.words.dot.Reads as reads
+use Rattle.field.proofs.words.dot.Lts as lts
+use Rattle.field.proofs.words.prod.Reads as prod-reads
 
 prod-requires : tie.Need-prod-requires
 prod-requires c κs = search needs
@@ -23,6 +27,9 @@ prod-requires-4 c κs = search needs
 
 add-result-3 : tie.Need-add-result-3
 add-result-3 c = search needs
+
+add-result-4 : tie.Need-add-result-4
+add-result-4 c = search needs
 
 cast-result : tie.Need-cast-result
 cast-result c = search needs
@@ -46,5 +53,6 @@ dot-spec =
     add-result-2
     prod-requires-4
     add-result-3
+    add-result-4
     cast-result
     returns)

@@ -29,7 +29,9 @@ times-requires-2 : tie.Need-times-requires-2
 times-requires-2 c κs = search needs
 
 returns : tie.Need-returns
-returns c = let a = c .before .before .before .before .before .before .args in record { canon = search needs; value = cc (agree-fast (dec (a .x)) (dec (a .y)), one-is) }
+returns c =
+    let a = c .before .before .before .before .before .before .args in
+    record { canon = search needs; value = cc (agree-fast (dec (a .x)) (dec (a .y)), one-is) }
 
 pub eq-step-spec : {M : Type 1} → statement M
 eq-step-spec =

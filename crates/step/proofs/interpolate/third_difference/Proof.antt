@@ -22,7 +22,9 @@ minus-requires-2 : tie.Need-minus-requires-2
 minus-requires-2 c κs = search needs
 
 returns : tie.Need-returns
-returns c = let d = c .before .before .before .minus .result in record { canon = search needs; value = cc (thrice (dec d)) }
+returns c =
+    let d = c .before .before .before .minus .result in
+    record { canon = search needs; value = cc (thrice (dec d)) }
 
 pub third-difference-spec : {M : Type 1} → statement M
 third-difference-spec =

@@ -1,0 +1,92 @@
+//! The unchanged Rust's calls. Inputs are made, and buffers allocated where the call takes them, before the clock starts.
+use crate::{ours::Layer, stored, timed, transcript::{Scripted, SC}};
+use p3_field::{BabyBear, Ext};
+use stark_backend::{
+    proof::GkrProof,
+    prover::{
+        logup_zerocheck::fractional_sumcheck_gkr::{fractional_sumcheck, Frac},
+        sumcheck::{fold_mle_evals, sumcheck_round_poly_evals},
+        ColMajorMatrix,
+    },
+    verifier::fractional_sumcheck_gkr::verify_gkr,
+};
+
+pub fn ext(w: &[u32]) -> Ext {
+    Ext([w[0], w[1], w[2], w[3]].map(BabyBear::new))
+}
+
+fn flat(elements: &[Ext]) -> Vec<u32> {
+    elements.iter().flat_map(|e| e.words()).collect()
+}
+
+pub fn fractions(rows: &[u32]) -> Vec<Frac<Ext>> {
+    rows.chunks(8).map(|r| Frac::new(ext(&r[..4]), ext(&r[4..]))).collect()
+}
+
+fn scripted(challenges: &[u32]) -> Scripted {
+    let mut ts = Scripted::new(challenges.iter().map(|&w| BabyBear::new(w)).collect());
+    ts.log.reserve(1000);
+    ts
+}
+
+/// Proof as stored, point and log.
+pub fn prove(rows: &[Frac<Ext>], challenges: &[u32]) -> (f64, (Vec<u8>, Vec<u32>, Vec<u32>)) {
+    let mut ts = scripted(challenges);
+    let (t, answer) = timed(|| fractional_sumcheck::<SC, _>(&mut ts, rows, true));
+    let (proof, point) = answer.ok().expect("proved");
+    (t, (stored::store(proof.fractional_sum.1, &proof.claims_per_layer, &proof.sumcheck_polys), flat(&point), ts.log))
+}
+
+/// Point and log. The proof is parsed already.
+pub fn verify(proof: &GkrProof<SC>, n: usize, challenges: &[u32]) -> (f64, (Vec<u32>, Vec<u32>)) {
+    let mut ts = scripted(challenges);
+    let (t, answer) = timed(|| verify_gkr::<SC, _>(proof, &mut ts, n));
+    let (_, _, point) = answer.ok().expect("accepted");
+    (t, (flat(&point), ts.log))
+}
+
+/// The first `n` entries of eq, p0, q0, p1, q1, one column after another.
+pub fn columns(l: &Layer, n: usize) -> Vec<u32> {
+    let cell = |i: usize| l.work[4 * i..4 * i + 4].to_vec();
+    let eq = (0..n).map(|y| cell(l.eq + y));
+    let pq = (0..4).flat_map(|j| (0..n).map(move |y| 2 * l.pq + 4 * y + j)).map(cell);
+    eq.chain(pq).flatten().collect()
+}
+
+fn matrices(l: &Layer) -> (ColMajorMatrix<Ext>, ColMajorMatrix<Ext>) {
+    let mut all: Vec<Ext> = columns(l, 2 * l.half).chunks(4).map(ext).collect();
+    let pq = all.split_off(2 * l.half);
+    (ColMajorMatrix::new(all, 1), ColMajorMatrix::new(pq, 4))
+}
+
+pub fn round_sums(l: &Layer, lambda: &[u32]) -> (f64, [u32; 12]) {
+    let (lambda, (eq, pq)) = (ext(lambda), matrices(l));
+    let variables = (2 * l.half).trailing_zeros() as usize;
+    let (t, [s]) = timed(|| {
+        sumcheck_round_poly_evals(variables, 3, &[eq.as_view(), pq.as_view()], |_, _, row| {
+            let (eq, &[p0, q0, p1, q1]) = (row[0][0], row[1].as_slice()) else { unreachable!() };
+            [eq * (p0 * q1 + p1 * q0 + lambda * (q0 * q1))]
+        })
+    });
+    (t, flat(&s).try_into().expect("three elements"))
+}
+
+pub fn fold(l: &Layer, rho: &[u32]) -> (f64, Vec<u32>) {
+    let (rho, (eq, pq)) = (ext(rho), matrices(l));
+    let (t, (eq, pq)) = timed(|| (fold_mle_evals(eq, rho), fold_mle_evals(pq, rho)));
+    (t, (0..4).fold(flat(eq.column(0)), |all, j| [all, flat(pq.column(j))].concat()))
+}
+
+pub fn chain(mut x: Ext, y: Ext, n: usize) -> u32 {
+    for _ in 0..n {
+        x *= y;
+    }
+    x.words()[0]
+}
+
+pub fn chains(mut x: [Ext; 4], y: Ext, n: usize) -> u32 {
+    for _ in 0..n {
+        x = x.map(|x| x * y);
+    }
+    (x[0] + x[1] + (x[2] + x[3])).words()[0]
+}

@@ -1,0 +1,2 @@
+-- Numbers in decimal text.
+pub mod Text

@@ -1,0 +1,71 @@
+// Answers on standard output: numbers with single spaces between them, a line each.
+use field::Ext;
+use refusal::Refusal;
+use refusal::Report;
+
+// The first number of a line, each further one, and the line's end.
+pub fn first(n: u64) {
+    io::print_decimal(1, n);
+}
+
+pub fn next(n: u64) {
+    io::write_all(1, b" ");
+    io::print_decimal(1, n);
+}
+
+pub fn end() {
+    io::write_all(1, b"\n");
+}
+
+pub fn ext(e: Ext) {
+    next(e.c0 as u64);
+    next(e.c1 as u64);
+    next(e.c2 as u64);
+    next(e.c3 as u64);
+}
+
+// The number of an answer and its eleven fields.
+pub fn report(r: Report) {
+    first(r.number as u64);
+    next(r.first as u64);
+    next(r.second as u64);
+    next(r.third as u64);
+    ext(r.left);
+    ext(r.right);
+}
+
+pub fn done(first: usize, left: Ext, right: Ext) {
+    report(Report {
+        number: 0,
+        first,
+        second: 0,
+        third: 0,
+        left,
+        right,
+    });
+}
+
+pub fn refused(refusal: Refusal) {
+    report(refusal::number_and_fields(refusal));
+}
+
+// The number of a refusal alone.
+pub fn refused_by(refusal: Refusal) {
+    let r = refusal::number_and_fields(refusal);
+    first(r.number as u64);
+}
+
+// A list: its length, then its numbers.
+pub fn words(s: &[u32]) {
+    next(s.len() as u64);
+    for i in 0..s.len() {
+        next(s[i] as u64);
+    }
+}
+
+pub fn bytes(s: &[u8]) {
+    next(s.len() as u64);
+    for i in 0..s.len() {
+        next(s[i] as u64);
+    }
+}

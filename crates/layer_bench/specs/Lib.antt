@@ -1,0 +1,2 @@
+-- What the timed functions leave.
+pub mod Sums

@@ -1,0 +1,13 @@
+-- Three elements in the first three cells.
+-- Assumes nothing.
+use mathlib.Core.Path.{_≡_}
+use mathlib.Core.List.{List}
+use Prim.Native.Nat.{ℕ}
+use Rattle.field.specs.Ext as E
+use Rattle.field.specs.Cells.{cell, Clean}
+
+pub record InFront (ws : List ℕ) (a b c : E.Ext) : Type 0 where
+  pub clean : Clean ws
+  pub first : cell ws 0 ≡ a
+  pub second : cell ws 1 ≡ b
+  pub third : cell ws 2 ≡ c

@@ -1,0 +1,7 @@
+-- What the helpers answer. Definitions: Checks, Evaluations, Folds. Laws: CheckLaws, Exact, Unique.
+pub mod Checks
+pub mod CheckLaws
+pub mod Evaluations
+pub mod Folds
+pub mod Exact
+pub mod Unique

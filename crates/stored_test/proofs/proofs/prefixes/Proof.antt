@@ -1,0 +1,45 @@
+use mathlib.Core.Path.{_≡_, refl, sym, _∙_, ap}
+use Prim.Native.Nat.{ℕ, _+_, _*_, _-_, _≤_, _<_}
+use lib.ListN.{length, getD, drop, length-set}
+use borrow.Author.Needs.{needs}
+use native.Mathlib.Omega.{arith}
+use Rattle.stored_test.proofs.proofs.prefixes.Statement.{statement}
+use Rattle.stored_test.proofs.proofs.prefixes.Tie as tie
+use Rattle.stored_test.proofs.proofs.prefixes.Reads as reads
+use Rattle.stored_test.proofs.proofs.prefixes.Lts as lts
+use Rattle.stored_test.proofs.proofs.prefix.Reads as prefix-reads
+
+abbrev Inv-loop : tie.InvT-loop
+Inv-loop proof k₀ k = k ≤ 4096
+
+abbrev μ-loop : tie.MeasureT-loop
+μ-loop proof k₀ k = 4096 - k
+
+-- src/proofs.rt:76:5
+loop-holds : tie.Need-loop-holds Inv-loop μ-loop
+loop-holds c = search needs
+
+-- src/proofs.rt:77:9
+prefix-requires : tie.Need-prefix-requires Inv-loop μ-loop
+prefix-requires c κs = search needs
+
+-- src/proofs.rt:76:9
+add-k : tie.Need-add-k Inv-loop μ-loop
+add-k c = search needs
+
+-- src/proofs.rt:76:5
+loop-less : tie.Need-loop-less Inv-loop μ-loop
+loop-less c = search needs
+
+-- src/proofs.rt:76:5
+loop-again : tie.Need-loop-again Inv-loop μ-loop
+loop-again c = search needs
+
+-- src/proofs.rt:75:1
+returns : tie.Need-returns Inv-loop μ-loop
+returns c = search needs
+
+pub prefixes-spec : {M : Type 1} → statement M
+prefixes-spec =
+    tie.close
+    (tie.spec Inv-loop μ-loop loop-holds prefix-requires add-k loop-less loop-again returns)
