@@ -53,7 +53,7 @@ fn prover(n: usize) {
         assert!(number == 0 && rooms.work.iter().all(|&w| w == 0));
         (t, (rooms.proof, rooms.point, rooms.log))
     };
-    compare(&format!("prover, n = {n}"), 16384 >> n.max(5), proved, || theirs::prove(&fractions, &challenges));
+    compare(&format!("prover, n = {n}"), 1000, proved, || theirs::prove(&fractions, &challenges));
 }
 
 fn verifier(n: usize) {
@@ -94,7 +94,7 @@ fn products() {
 fn main() {
     let kind = if cfg!(feature = "parallel") { "two cores" } else { "serial" };
     println!("{:32} {:>10} {:>10} {:>8}", format!("µs, the Rust {kind}"), "ours", "the Rust", "ratio");
-    for n in [6, 8, 10] {
+    for n in 1..=10 {
         prover(n);
     }
     for n in [4, 10] {

@@ -85,9 +85,9 @@ fn sheet(case: &mut Line<'_>) -> Vec<u32> {
 
 /// Every case of a kind gives its recorded answer.
 fn replay(kind: &str, call: fn(&mut Line<'_>) -> Vec<u32>) {
-    let folder = PathBuf::from(env!("CARGO_MANIFEST_DIR")).join("../../oracle/recorded");
-    let read = |end: &str| fs::read_to_string(folder.join(format!("{kind}.{end}"))).unwrap();
-    let (cases, answers) = (read("in"), read("out"));
+    let folder = PathBuf::from(env!("CARGO_MANIFEST_DIR")).join(format!("../../crates/replay_{kind}"));
+    let read = |file: &str| fs::read_to_string(folder.join(file)).unwrap();
+    let (cases, answers) = (read("stdin"), read("stdout"));
     assert_eq!(cases.lines().count(), answers.lines().count());
     for (at, (case, answer)) in cases.lines().zip(answers.lines()).enumerate() {
         let mut line = Line(case.split_whitespace());
