@@ -1,5 +1,5 @@
-use Rattle.accudrina.specs.Answer.{answerWords}
 use borrow.Author.Needs.{needs}
+use Rattle.accudrina.proofs.Telling.{told}
 use Rattle.accudrina.proofs.answer.tell.Statement.{statement}
 use Rattle.accudrina.proofs.answer.tell.Tie as tie
 
@@ -13,8 +13,7 @@ field-word-requires-3 : tie.Need-field-word-requires-3
 field-word-requires-3 c κs = search needs
 
 returns : tie.Need-returns
-unfolding answerWords
-returns c = cc
+returns c = told _ (c .before .before .before .before .before .field-word .ensures) (c .before .before .before .before .field-word2 .ensures) (c .before .before .before .field-word3 .ensures)
 
 pub tell-spec : {M : Type 1} → statement M
 tell-spec =
