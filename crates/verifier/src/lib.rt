@@ -9,10 +9,12 @@ ghost use Rattle.stored.specs.Parse.{proofOf};
 ghost use Rattle.stored.specs.ParseLaws.{Shaped};
 ghost use Rattle.gkr.specs.Sizes.{challenges, log-words};
 ghost use Rattle.refusal.specs.Limits.{maxRounds};
+ghost use Rattle.round.specs.declared.Verdict.the-variants.{Accepted};
 ghost use Rattle.verifier.specs.Verified.{outcome, needed, verdict, ended, verified};
 ghost use Rattle.verifier.specs.Gates.{wordsGate, Gated, Opened, Ready, Counted, pointLeft, answered};
 use refusal::Refusal;
 use round::Advance;
+use round::Layer;
 use round::Verdict;
 use stored::Outline;
 use stored::Shape;
@@ -130,16 +132,21 @@ fn leave_point(end: Advance, xi: &[u32], point: &mut [u32], n: usize)
     }
 }
 
+// A run that went through answers the claims that it came to.
+fn accept(s: Layer) -> Verdict
+    ensures { λ r. ⌜ r ≡ Accepted (s .numer) (s .denom) ⌝ }
+{
+    let numer = s.numer;
+    let denom = s.denom;
+    Verdict::Accepted { numer, denom }
+}
+
 // What is answered at the end of a run.
 fn answer(end: Advance) -> Verdict
     ensures { λ r. ⌜ r ≡ answered end ⌝ }
 {
     match end {
-        Advance::Next(s) => {
-            let numer = s.numer;
-            let denom = s.denom;
-            Verdict::Accepted { numer, denom }
-        }
+        Advance::Next(s) => accept(s),
         Advance::Stopped(refusal) => Verdict::Refused(refusal),
     }
 }
