@@ -239,11 +239,11 @@ pub fn verify_root(
     requires clean { ⌜ Clean (now point) × Clean (now challenges) × CanonClaims (claimsIn c) × Canon q0 ⌝ }
     ensures { λ r. ⌜ Rooted (now (point .exit)) (now (log .entry)) (now (log .exit)) (now (challenges .entry)) (dec q0) (decClaims (claimsIn c)) pos r ⌝ }
 {
-    let a = transcript::observe_ext(log, pos, q0);
-    let p = observe_layer_claims(log, a, c);
     let f = compute_recursive_relations(c);
     let numer = f.p;
     let denom = f.q;
+    let a = transcript::observe_ext(log, pos, q0);
+    let p = observe_layer_claims(log, a, c);
     if !numer.same_words(Ext::ZERO) {
         return Advance::Stopped(Refusal::ZeroCheckFailed { actual: numer });
     }

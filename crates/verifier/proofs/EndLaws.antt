@@ -34,7 +34,7 @@ use Rattle.all_rounds.specs.Runs.{Accepts, Ends}
 use Rattle.verifier.specs.Verified.{Outcome, outcome, written, needed, verdict, ended, Way, refuse, proceed, firstRefusal, follow, verified}
 use Rattle.verifier.specs.declared.Gate.{Gate}
 use Rattle.verifier.specs.declared.Gate.the-variants.{Open, Shut}
-use Rattle.verifier.specs.Gates.{Opened, Gated, Ready}
+use Rattle.verifier.specs.Gates.{Opened, Gated, Ready, pointLeft, answered}
 
 -- a clean point's words are those of its coordinates
 pub point-is : (ws : List ℕ) (i k : ℕ) → Clean ws → 4 * i + 4 * k ≤ length ws → pointWords (segment ws i k) ≡ take (4 * k) (drop (4 * i) ws)
@@ -52,30 +52,22 @@ front l l' n ws h e d =
     sym (take-append-drop n l') ∙ ap₂ _++_ e (d ∙ ap (λ k. drop k l) len)
 
 module _ (p lg lg' ch : List ℕ) (v : Model ch) (l : length lg' ≡ length lg) where
-  pub stopped-is : (e : Refusal) → Stops lg lg' ch (record { put = 0; used = 0 }) v e → outcome (Refused e) p lg' ≡ ended ch v p lg
-  stopped-is e s =
-      let a : Refused e ≡ answerOf ch v = sym (s .answer) in
-      let b : p ≡ written (pointOf ch v) p = ap (λ w. written w p) (sym (s .point)) in
+  -- what a run's end leaves and answers is the definition's
+  pub ended-is : (n : ℕ) (pt' p' : List ℕ) (r : Advance) (x : Verdict) → Ends lg lg' pt' ch (record { put = 0; used = 0 }) n v r → 4 * n ≤ length pt' → p' ≡ pointLeft r (4 * n) pt' p → x ≡ answered r
+      → outcome x p' lg' ≡ ended ch v p lg
+  ended-is n pt' p' (Stopped e) x s h q y =
+      let a : x ≡ answerOf ch v = y ∙ sym (s .answer) in
+      let b : p' ≡ written (pointOf ch v) p = q ∙ ap (λ w. written w p) (sym (s .point)) in
       let c : lg' ≡ written (loggedBy ch v) lg = front lg lg' (s .end) (loggedBy ch v) (omega (arith, s .room, l)) (s .log) (s .rest) in
       λ i. outcome (a i) (b i) (c i)
-
-  pub accepted-is : (n : ℕ) (pt' p' : List ℕ) (s : Layer) → Accepts lg lg' pt' ch (record { put = 0; used = 0 }) n v s → 4 * n ≤ length pt' → p' ≡ take (4 * n) pt' ++ drop (4 * n) p
-      → outcome (Accepted (s .numer) (s .denom)) p' lg' ≡ ended ch v p lg
-  accepted-is n pt' p' s a h q =
+  ended-is n pt' p' (Next s) x a h q y =
       let w : take (4 * n) pt' ≡ pointWords (segment pt' 0 n) = sym (point-is pt' 0 n (a .clean) (omega arith)) in
       let len : 4 * n ≡ length (pointWords (segment pt' 0 n)) = sym (length-take-le (4 * n) pt' h) ∙ ap length w in
-      let x : p' ≡ written (pointWords (segment pt' 0 n)) p = q ∙ ap₂ _++_ w (ap (λ k. drop k p) len) in
-      let y : lg' ≡ written (take (s .pos .put) lg') lg = front lg lg' (s .pos .put) _ (omega (arith, a .room, l)) refl (a .rest) in
-      let z : outcome (Accepted (s .numer) (s .denom)) p' lg' ≡ ended ch (accepted (columns s) (segment pt' 0 n) (logOf lg' (s .pos))) p lg =
-      (λ i. outcome (Accepted (sym (enc-dec (a .numer)) i) (sym (enc-dec (a .denom)) i)) (x i) (y i)) in
+      let e : p' ≡ written (pointWords (segment pt' 0 n)) p = q ∙ ap₂ _++_ w (ap (λ k. drop k p) len) in
+      let f : lg' ≡ written (take (s .pos .put) lg') lg = front lg lg' (s .pos .put) _ (omega (arith, a .room, l)) refl (a .rest) in
+      let g : x ≡ Accepted (enc (dec (s .numer))) (enc (dec (s .denom))) = y ∙ (λ i. Accepted (sym (enc-dec (a .numer)) i) (sym (enc-dec (a .denom)) i)) in
+      let z : outcome x p' lg' ≡ ended ch (accepted (columns s) (segment pt' 0 n) (logOf lg' (s .pos))) p lg = (λ i. outcome (g i) (e i) (f i)) in
       z ∙ ap (λ u. ended ch u p lg) (sym (a .verdict))
-
--- what the run's end is, case by case
-pub next-of : (lg lg' pt' ch : List ℕ) (pos : Pos) (n : ℕ) (v : Model ch) (r : Advance) (s : Layer) → r ≡ Next s → Ends lg lg' pt' ch pos n v r → Accepts lg lg' pt' ch pos n v s
-next-of lg lg' pt' ch pos n v r s q h = subst (Ends lg lg' pt' ch pos n v) q h
-
-pub stop-of : (lg lg' pt' ch : List ℕ) (pos : Pos) (n : ℕ) (v : Model ch) (r : Advance) (e : Refusal) → r ≡ Stopped e → Ends lg lg' pt' ch pos n v r → Stops lg lg' ch pos v e
-stop-of lg lg' pt' ch pos n v r e q h = subst (Ends lg lg' pt' ch pos n v) q h
 
 -- what the checks told, case by case
 pub opened-of : (bs : List ℕ) (n : ℕ) (ch : List ℕ) (points logs : ℕ) (g : Gate) (o : Outline) → g ≡ Open o → Gated bs n ch points logs g → Opened bs n ch points logs o

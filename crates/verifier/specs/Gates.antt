@@ -2,9 +2,9 @@
 -- Assumes nothing.
 use mathlib.Core.Path.{_≡_}
 use mathlib.Core.Bool.{true, cond}
-use mathlib.Core.List.{List}
+use mathlib.Core.List.{List, _++_}
 use Prim.Native.Nat.{ℕ, _*_, _≤_}
-use lib.ListN.{length}
+use lib.ListN.{length, take, drop}
 use Rattle.field.specs.Cells.{Clean}
 use Rattle.gkr.specs.Sizes.{challenges, log-words}
 use Rattle.refusal.specs.Limits.{maxRounds}
@@ -15,6 +15,9 @@ use Rattle.stored.specs.Layout.{proofWords}
 use Rattle.stored.specs.Parse.{proofOf}
 use Rattle.stored.specs.ParseLaws.{Shaped}
 use Rattle.round.specs.declared.Advance.{Advance}
+use Rattle.round.specs.declared.Advance.the-variants.{Next, Stopped}
+use Rattle.round.specs.declared.Verdict.{Verdict}
+use Rattle.round.specs.declared.Verdict.the-variants.{Accepted, Refused}
 use Rattle.all_rounds.specs.Runs.{Ends}
 use Rattle.verifier.specs.declared.Gate.{Gate}
 use Rattle.verifier.specs.declared.Gate.the-variants.{Open, Shut}
@@ -53,3 +56,13 @@ pub record Ready (bs pt lg ch : List ℕ) (n : ℕ) (o : Outline) : Type 0 where
 -- the run ends as the model's does
 abbrev pub Counted : (bs pt' lg lg' ch : List ℕ) (n : ℕ) → Advance → Type 0
 Counted bs pt' lg lg' ch n r = Ends lg lg' pt' ch (record { put = 0; used = 0 }) n (verdict (proofOf bs) n ch) r
+
+-- what a run's end leaves of the point found, n words of it or none
+abbrev pub pointLeft : Advance → (n : ℕ) (found point : List ℕ) → List ℕ
+pointLeft (Next s) n found point = take n found ++ drop n point
+pointLeft (Stopped e) n found point = point
+
+-- and what it answers
+abbrev pub answered : Advance → Verdict
+answered (Next s) = Accepted (s .numer) (s .denom)
+answered (Stopped e) = Refused e

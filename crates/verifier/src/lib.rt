@@ -9,10 +9,12 @@ ghost use Rattle.stored.specs.Parse.{proofOf};
 ghost use Rattle.stored.specs.ParseLaws.{Shaped};
 ghost use Rattle.gkr.specs.Sizes.{challenges, log-words};
 ghost use Rattle.refusal.specs.Limits.{maxRounds};
+ghost use Rattle.round.specs.declared.Verdict.the-variants.{Accepted};
 ghost use Rattle.verifier.specs.Verified.{outcome, needed, verdict, ended, verified};
-ghost use Rattle.verifier.specs.Gates.{wordsGate, Gated, Opened, Ready, Counted};
+ghost use Rattle.verifier.specs.Gates.{wordsGate, Gated, Opened, Ready, Counted, pointLeft, answered};
 use refusal::Refusal;
 use round::Advance;
+use round::Layer;
 use round::Verdict;
 use stored::Outline;
 use stored::Shape;
@@ -119,7 +121,37 @@ fn copy_point(xi: &[u32], point: &mut [u32], n: usize)
     }
 }
 
-// The run, once nothing is refused before it. The point is written when it accepts, and not before.
+// The point is written when the run went through, and not when it stopped.
+fn leave_point(end: Advance, xi: &[u32], point: &mut [u32], n: usize)
+    requires { ⌜ (n ≤ length (now xi)) × (n ≤ length (now point)) ⌝ }
+    ensures { λ _. ⌜ now (point .exit) ≡ pointLeft end n (now (xi .entry)) (now (point .entry)) ⌝ }
+{
+    match end {
+        Advance::Next(s) => copy_point(xi, point, n),
+        Advance::Stopped(refusal) => (),
+    }
+}
+
+// A run that went through answers the claims that it came to.
+fn accept(s: Layer) -> Verdict
+    ensures { λ r. ⌜ r ≡ Accepted (s .numer) (s .denom) ⌝ }
+{
+    let numer = s.numer;
+    let denom = s.denom;
+    Verdict::Accepted { numer, denom }
+}
+
+// What is answered at the end of a run.
+fn answer(end: Advance) -> Verdict
+    ensures { λ r. ⌜ r ≡ answered end ⌝ }
+{
+    match end {
+        Advance::Next(s) => accept(s),
+        Advance::Stopped(refusal) => Verdict::Refused(refusal),
+    }
+}
+
+// The run, once nothing is refused before it.
 fn run(
     proof: &[u8],
     rounds: usize,
@@ -133,15 +165,9 @@ fn run(
 {
     let needs = challenge_words(rounds);
     let mut xi = [0u32; 4 * refusal::MAX_ROUNDS];
-    match verify_counted(proof, rounds, outline, &mut xi, log, &challenges[..needs]) {
-        Advance::Next(s) => {
-            copy_point(&xi, point, 4 * rounds);
-            let numer = s.numer;
-            let denom = s.denom;
-            Verdict::Accepted { numer, denom }
-        }
-        Advance::Stopped(refusal) => Verdict::Refused(refusal),
-    }
+    let end = verify_counted(proof, rounds, outline, &mut xi, log, &challenges[..needs]);
+    leave_point(end, &xi, point, 4 * rounds);
+    answer(end)
 }
 
 pub fn verify_gkr(
