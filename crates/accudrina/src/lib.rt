@@ -6,6 +6,7 @@ mod answer; // the sixteen words
 mod report; // what they say of each call's answer
 mod rooms; // how much room a run asks for
 
+// Stored bytes to row words: the number 0 and the row count, or the refusal; refused, the rows are as before.
 #[no_mangle]
 pub extern "C" fn accudrina_read_sheet(
     sheet: &[u8],
@@ -18,6 +19,7 @@ pub extern "C" fn accudrina_read_sheet(
     answer::tell(report::of_sheet(read), answer)
 }
 
+// A sheet's proof, point and log: the number 0, the rounds and the sum, or the refusal with its fields.
 #[no_mangle]
 pub extern "C" fn accudrina_prove(
     rows: &[u32],
@@ -45,6 +47,7 @@ pub extern "C" fn accudrina_prove(
     answer::tell(prover::number_and_values(proved), answer)
 }
 
+// What the verifier says of a proof: the number 0 and both claims at the point written, or the refusal with its fields.
 #[no_mangle]
 pub extern "C" fn accudrina_verify(
     proof: &[u8],

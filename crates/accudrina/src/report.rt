@@ -20,6 +20,7 @@ fn done(first: usize, left: Ext, right: Ext) -> Report
     }
 }
 
+// A read sheet: 0 with the row count, or the refusal.
 pub fn of_sheet(answer: SheetAnswer) -> Report
     ensures { λ r. ⌜ r ≡ sheetReport answer ⌝ }
 {
@@ -29,6 +30,7 @@ pub fn of_sheet(answer: SheetAnswer) -> Report
     }
 }
 
+// A verdict: 0 with both claims, or the refusal.
 pub fn of_verdict(verdict: Verdict) -> Report
     ensures { λ r. ⌜ r ≡ verdictReport verdict ⌝ }
 {

@@ -3,6 +3,7 @@ ghost use mathlib.Core.Path.{_≡_};
 ghost use Rattle.accudrina.specs.Rooms as Rooms;
 use refusal::MAX_ROUNDS;
 
+// The bytes of a stored proof of so many rounds.
 #[no_mangle]
 pub extern "C" fn accudrina_proof_bytes(rounds: usize) -> usize
     ensures { λ r. ⌜ r ≡ Rooms.proofBytes rounds ⌝ }
@@ -13,6 +14,7 @@ pub extern "C" fn accudrina_proof_bytes(rounds: usize) -> usize
     gate::proof_bytes(rounds)
 }
 
+// The words of the point: four a round.
 #[no_mangle]
 pub extern "C" fn accudrina_point_words(rounds: usize) -> usize
     ensures { λ r. ⌜ r ≡ Rooms.pointWords rounds ⌝ }
@@ -23,6 +25,7 @@ pub extern "C" fn accudrina_point_words(rounds: usize) -> usize
     4 * rounds
 }
 
+// The words of the log: four more where the sum is observed, since zero is not asserted.
 #[no_mangle]
 pub extern "C" fn accudrina_log_words(rounds: usize, assert_zero: bool) -> usize
     ensures { λ r. ⌜ r ≡ Rooms.logWords rounds «assert_zero» ⌝ }
@@ -33,6 +36,7 @@ pub extern "C" fn accudrina_log_words(rounds: usize, assert_zero: bool) -> usize
     gate::log_words(assert_zero, rounds)
 }
 
+// The words of the prover's workspace.
 #[no_mangle]
 pub extern "C" fn accudrina_workspace_words(rounds: usize) -> usize
     ensures { λ r. ⌜ r ≡ Rooms.workspaceWords rounds ⌝ }
@@ -43,6 +47,7 @@ pub extern "C" fn accudrina_workspace_words(rounds: usize) -> usize
     gate::work_words(rounds, 1 << rounds)
 }
 
+// The words of the challenges that a run takes.
 #[no_mangle]
 pub extern "C" fn accudrina_challenge_words(rounds: usize) -> usize
     ensures { λ r. ⌜ r ≡ Rooms.challengeWords rounds ⌝ }

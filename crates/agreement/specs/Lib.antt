@@ -2,4 +2,5 @@
 pub mod Demand3
 pub mod Companions
 pub mod Together
+pub mod TogetherLaws
 pub mod KTable

@@ -1,9 +1,7 @@
 // Prover and verifier one after the other: demand 3 about the two functions that run.
 ghost use mathlib.Core.Path.{_≡_};
 ghost use mathlib.Core.Bool.{true};
-ghost use Prim.Native.Nat.{ℕ, _≤_};
-ghost use Rattle.gkr.specs.Sizes as Sizes;
-ghost use Rattle.refusal.specs.Limits.{maxRounds};
+ghost use Prim.Native.Nat.{ℕ};
 ghost use Rattle.field.specs.Ext as E;
 ghost use Rattle.agreement.specs.Demand3.{Taken, root, Room};
 ghost use Rattle.agreement.specs.Together.{joined, together, Agrees};
@@ -20,16 +18,6 @@ pub enum Joint {
         verdict: Verdict,
     },
     Refused(Refusal),
-}
-
-fn proof_bytes(n: usize) -> usize
-    requires { ⌜ n ≤ maxRounds ⌝ }
-    ensures { λ r. ⌜ r ≡ Sizes.proof-bytes n ⌝ }
-{
-    if n == 0 {
-        return 23;
-    }
-    22 + 65 * n + 24 * (n * (n - 1))
 }
 
 // Proves a sheet, and hands the proof's bytes, n and the same challenges to the verifier, which has a point and a log of its own.
@@ -59,7 +47,7 @@ pub fn prove_and_verify(
         work,
     ) {
         Answer::Done { rounds, sum } => {
-            let size = proof_bytes(rounds);
+            let size = gate::proof_bytes(rounds);
             let verdict = verifier::verify_gkr(
                 &proof[..size],
                 rounds,

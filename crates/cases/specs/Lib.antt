@@ -1,2 +1,3 @@
 -- Numbers in decimal text.
 pub mod Text
+pub mod TextLaws

@@ -3,20 +3,23 @@ use field::Ext;
 use refusal::Refusal;
 use refusal::Report;
 
-// The first number of a line, each further one, and the line's end.
+// The first number of a line.
 pub fn first(n: u64) {
     io::print_decimal(1, n);
 }
 
+// A further number of the line.
 pub fn next(n: u64) {
     io::write_all(1, b" ");
     io::print_decimal(1, n);
 }
 
+// The line's end.
 pub fn end() {
     io::write_all(1, b"\n");
 }
 
+// The four words of an element.
 pub fn ext(e: Ext) {
     next(e.c0 as u64);
     next(e.c1 as u64);
@@ -34,6 +37,7 @@ pub fn report(r: Report) {
     ext(r.right);
 }
 
+// An answer that is done: the number 0 and its fields.
 pub fn done(first: usize, left: Ext, right: Ext) {
     report(Report {
         number: 0,
@@ -45,6 +49,7 @@ pub fn done(first: usize, left: Ext, right: Ext) {
     });
 }
 
+// A refusal: its number and its fields.
 pub fn refused(refusal: Refusal) {
     report(refusal::number_and_fields(refusal));
 }
@@ -63,6 +68,7 @@ pub fn words(s: &[u32]) {
     }
 }
 
+// The same of bytes.
 pub fn bytes(s: &[u8]) {
     next(s.len() as u64);
     for i in 0..s.len() {

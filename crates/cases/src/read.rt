@@ -25,6 +25,7 @@ fn grow(v: u64, d: u64) -> u64
     }
 }
 
+// The number whose digits stand from a place on, at most 2^64 - 1, and the place after the byte that ends it.
 pub fn next_number(text: &[u8], at: usize) -> Number
     ensures { λ r. ⌜ r ≡ numberAt (now (text .entry)) at ⌝ }
 {
@@ -60,6 +61,7 @@ fn byte(v: u64) -> u8
     (v % 256) as u8
 }
 
+// The same, its remainder modulo 2^32.
 pub fn next_word(text: &[u8], at: usize) -> Word
     ensures { λ r. ⌜ r ≡ wordAt (now (text .entry)) at ⌝ }
 {
@@ -70,6 +72,7 @@ pub fn next_word(text: &[u8], at: usize) -> Word
     }
 }
 
+// Four words one after the other: an element.
 pub fn next_ext(text: &[u8], at: usize) -> Element
     ensures { λ r. ⌜ r ≡ elementAt (now (text .entry)) at ⌝ }
 {

@@ -2,16 +2,17 @@
 -- Assumes nothing.
 use mathlib.Core.Path.{_≡_, refl, sym, _∙_, ap}
 use mathlib.Core.List.{List, [], _∷_, _++_}
-use Prim.Native.Nat.{ℕ, zero, suc, _+_, _*_, _<_, _≤_}
+use Prim.Native.Nat.{ℕ, zero, suc, _+_, _*_, _/_, _%_, _<_, _≤_}
+use native.Mathlib.Nat.{div-add-mod}
 use native.Mathlib.Omega.{arith}
 use lib.ListN.{length, getD, set, take, drop, replicate, length-drop, List·getD-append}
-use lib.Seq.{sets, length-sets, getD-take, getD-drop, getD-append-add}
+use lib.Seq.{sets, length-sets, getD-take, getD-drop, getD-append-add, ext-getD}
 use Rattle.field.specs.Base as B
 use Rattle.field.specs.Base.{P, of}
 use Rattle.field.specs.BaseRing.{val-lt}
 use Rattle.field.specs.Ext as E
 use Rattle.field.specs.Element.{words}
-use Rattle.field.specs.ElementLaws.{word-of, dec-enc}
+use Rattle.field.specs.ElementLaws.{word-of, word-unique, dec-enc}
 use Rattle.field.specs.Cells.{cell, Clean, Stored}
 
 -- ---- clean lists
@@ -124,3 +125,20 @@ length-stored {l} {m} {i} {x} h = ap length (h .exact) ∙ length-sets l (4 * i)
 -- no second list fits
 pub stored-unique : {l m n : List ℕ} {i : ℕ} {x : E.Ext} → Stored l m i x → Stored l n i x → m ≡ n
 stored-unique h k = h .exact ∙ sym (k .exact)
+
+-- canonical words are fixed by the cells, and their number
+pub cells-unique : (m n : List ℕ) → Clean m → Clean n → length m ≡ length n → ((j : ℕ) → cell m j ≡ cell n j) → m ≡ n
+unfolding cell E.ext
+cells-unique m n c d e h = ext-getD 0 m n e (λ k _. sym (ap (λ (i : ℕ). getD m i 0) (div-add-mod k 4)) ∙ at (k / 4) (k % 4) (omega arith) ∙ ap (λ (i : ℕ). getD n i 0) (div-add-mod k 4))
+  where
+    word : (i : ℕ) → of (getD m i 0) ≡ of (getD n i 0) → getD m i 0 ≡ getD n i 0
+    word i q = word-unique (c .below i, q) (d .below i, refl)
+
+    at : (j r : ℕ) → r < 4 → getD m (4 * j + r) 0 ≡ getD n (4 * j + r) 0
+    at j zero q =
+        let z : 4 * j + 0 ≡ 4 * j = omega arith in
+        ap (λ (i : ℕ). getD m i 0) z ∙ word (4 * j) (ap (λ (x : E.Ext). x .c0) (h j)) ∙ ap (λ (i : ℕ). getD n i 0) (sym z)
+    at j (suc zero) q = word (4 * j + 1) (ap (λ (x : E.Ext). x .c1) (h j))
+    at j (suc (suc zero)) q = word (4 * j + 2) (ap (λ (x : E.Ext). x .c2) (h j))
+    at j (suc (suc (suc zero))) q = word (4 * j + 3) (ap (λ (x : E.Ext). x .c3) (h j))
+    at j (suc (suc (suc (suc r)))) q = absurd (omega arith)

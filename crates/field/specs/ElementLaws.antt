@@ -23,6 +23,10 @@ word-of n h = val-of n ∙ mod-eq-of-lt h
 pub word-answer : (n : ℕ) {x : F} → n < P → of n ≡ x → n ≡ x .val
 word-answer n h e = sym (word-of n h) ∙ ap (λ a. a .val) e
 
+-- no second word fits
+pub word-unique : {m n : ℕ} {x : F} → (m < P) × (of m ≡ x) → (n < P) × (of n ≡ x) → m ≡ n
+word-unique {m} {n} h k = word-answer m (h .0) (h .1) ∙ sym (word-answer n (k .0) (k .1))
+
 -- a canonical word that stands for x is the answer x; what is known of x goes into it
 pub base-answer : {n : ℕ} {x y : F} → (n < P) × (of n ≡ x) → x ≡ y → _≡_ {A = Base} (record { value = n }) (W.enc y)
 base-answer {n} h e = λ i. record { value = word-answer n (h .0) (h .1 ∙ e) i }

@@ -24,6 +24,7 @@ impl Base {
     // The inverse of 6.
     pub const SIXTH: Base = Base { value: 1677721601 };
 
+    // The element that a word stands for, by its canonical word.
     pub fn new(word: u32) -> Base
         ensures { λ r. ⌜ r ≡ enc (of word) ⌝ }
     {
@@ -32,12 +33,14 @@ impl Base {
         }
     }
 
+    // The same element by its canonical word.
     pub fn canonical(self) -> Base
         ensures { λ r. ⌜ r ≡ enc (dec self) ⌝ }
     {
         Base::new(self.value)
     }
 
+    // The sum.
     pub fn add(self, other: Base) -> Base
         ensures { λ r. ⌜ r ≡ enc (B.add (dec self) (dec other)) ⌝ }
     {
@@ -46,6 +49,7 @@ impl Base {
         }
     }
 
+    // The difference.
     pub fn sub(self, other: Base) -> Base
         ensures { λ r. ⌜ r ≡ enc (B.add (dec self) (B.neg (dec other))) ⌝ }
     {
@@ -54,6 +58,7 @@ impl Base {
         }
     }
 
+    // The opposite: with self it sums to zero.
     pub fn neg(self) -> Base
         ensures { λ r. ⌜ r ≡ enc (B.neg (dec self)) ⌝ }
     {
@@ -62,6 +67,7 @@ impl Base {
         }
     }
 
+    // Twice the element.
     pub fn double(self) -> Base
         ensures { λ r. ⌜ r ≡ enc (B.add (dec self) (dec self)) ⌝ }
     {
@@ -71,6 +77,7 @@ impl Base {
         }
     }
 
+    // The product.
     pub fn mul(self, other: Base) -> Base
         ensures { λ r. ⌜ r ≡ enc (B.mul (dec self) (dec other)) ⌝ }
     {
@@ -79,6 +86,7 @@ impl Base {
         }
     }
 
+    // Half of the element: the product with the inverse of 2.
     pub fn halve(self) -> Base
         ensures { λ r. ⌜ r ≡ enc (B.mul (dec self) B.half) ⌝ }
     {
@@ -87,6 +95,7 @@ impl Base {
         }
     }
 
+    // The product with itself.
     pub fn square(self) -> Base
         ensures { λ r. ⌜ r ≡ enc (B.mul (dec self) (dec self)) ⌝ }
     {
@@ -95,18 +104,21 @@ impl Base {
         }
     }
 
+    // Whether both words stand for the same element.
     pub fn equals(self, other: Base) -> bool
         ensures { λ r. ⌜ r ≡ B.same (dec self) (dec other) ⌝ }
     {
         rest_word(self.value) == rest_word(other.value)
     }
 
+    // Whether the word stands for zero.
     pub fn is_zero(self) -> bool
         ensures { λ r. ⌜ r ≡ B.same (dec self) B.nil ⌝ }
     {
         rest_word(self.value) == 0
     }
 
+    // Whether the word is below the prime.
     pub fn is_canonical(self) -> bool
         ensures { λ r. ⌜ r ≡ ltb (self .value) P ⌝ }
     {

@@ -12,6 +12,7 @@ use crate::words::rest_word;
 use crate::words::sub_word;
 
 impl Ext {
+    // The sum.
     pub fn plus(self, other: Ext) -> Ext
         requires { ⌜ Canon self × Canon other ⌝ }
         ensures { λ r. ⌜ Is r (E.add (dec self) (dec other)) ⌝ }
@@ -24,6 +25,7 @@ impl Ext {
         }
     }
 
+    // The difference.
     pub fn minus(self, other: Ext) -> Ext
         requires { ⌜ Canon self × Canon other ⌝ }
         ensures { λ r. ⌜ Is r (E.add (dec self) (E.neg (dec other))) ⌝ }
@@ -36,6 +38,7 @@ impl Ext {
         }
     }
 
+    // The product, where x⁴ = 11.
     pub fn times(self, other: Ext) -> Ext
         requires { ⌜ Canon self × Canon other ⌝ }
         ensures { λ r. ⌜ Is r (E.mul (dec self) (dec other)) ⌝ }

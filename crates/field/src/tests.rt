@@ -12,12 +12,14 @@ impl Ext {
         self.canonical().same_words(other.canonical())
     }
 
+    // Whether the words stand for zero.
     pub fn is_zero(self) -> bool
         ensures { λ r. ⌜ r ≡ E.same (dec self) E.nil ⌝ }
     {
         self.equals(Ext::ZERO)
     }
 
+    // Whether each of the four words is below the prime.
     pub fn is_canonical(self) -> bool
         ensures { λ r. ⌜ r ≡ canonWords self ⌝ }
     {

@@ -7,12 +7,14 @@ ghost use Rattle.field.specs.Ext as E;
 ghost use Rattle.field.specs.Element.{Canon};
 use crate::Ext;
 
+// The remainder: the canonical word of the same element.
 pub fn rest_word(a: u32) -> u32
     ensures { λ r. ⌜ (r < P) × (of r ≡ of a) ⌝ }
 {
     a % 2013265921
 }
 
+// The sum of two canonical words, less the prime where it reaches it.
 pub fn add_word(a: u32, b: u32) -> u32
     requires { ⌜ (a < P) × (b < P) ⌝ }
     ensures { λ r. ⌜ (r < P) × (of r ≡ B.add (of a) (of b)) ⌝ }
@@ -24,6 +26,7 @@ pub fn add_word(a: u32, b: u32) -> u32
     s - 2013265921
 }
 
+// The difference of two canonical words, with the prime added where it would be below zero.
 pub fn sub_word(a: u32, b: u32) -> u32
     requires { ⌜ (a < P) × (b < P) ⌝ }
     ensures { λ r. ⌜ (r < P) × (of r ≡ B.add (of a) (B.neg (of b))) ⌝ }
@@ -41,6 +44,7 @@ pub fn mul_word(a: u32, b: u32) -> u32
     ((a as u64) * (b as u64) % 2013265921) as u32
 }
 
+// Eleven times a word, reduced: what x⁴ brings in.
 pub fn eleven(a: u32) -> u32
     ensures { λ r. ⌜ (r < P) × (of r ≡ B.mul E.eleven (of a)) ⌝ }
 {

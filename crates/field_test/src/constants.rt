@@ -16,6 +16,7 @@ fn of_extension() {
     check::expect(Ext::TWO.same_words(Ext::ONE.double()));
 }
 
+// All checks of the constants.
 pub fn hold() {
     of_base();
     of_extension();

@@ -1,2 +1,3 @@
 -- The prover's refusals before a run.
 pub mod Refusals
+pub mod SizeLaws

@@ -59,6 +59,7 @@ pub fn challenge_words(n: usize) -> usize
     4 * (2 * n - 1 + n * (n - 1) / 2)
 }
 
+// The bytes of the stored proof of n rounds.
 pub fn proof_bytes(n: usize) -> usize
     requires { ⌜ n ≤ maxRounds ⌝ }
     ensures { λ r. ⌜ r ≡ Sizes.proof-bytes n ⌝ }
@@ -69,6 +70,7 @@ pub fn proof_bytes(n: usize) -> usize
     22 + 65 * n + 24 * (n * (n - 1))
 }
 
+// The words that a run of n rounds logs: root p only where zero is not asserted.
 pub fn log_words(asserted: bool, n: usize) -> usize
     requires { ⌜ n ≤ maxRounds ⌝ }
     ensures { λ r. ⌜ r ≡ logRoom asserted n ⌝ }
@@ -83,6 +85,7 @@ pub fn log_words(asserted: bool, n: usize) -> usize
     base + 4
 }
 
+// The words of the workspace; no rows and one row need none.
 pub fn work_words(n: usize, rows: usize) -> usize
     requires { ⌜ (n ≤ maxRounds) × (rows ≡ 2 ^ n) ⌝ }
     ensures { λ r. ⌜ r ≡ workRoom n ⌝ }

@@ -1,2 +1,3 @@
 -- A layer's columns in the workspace.
 pub mod Columns
+pub mod ColumnLaws

@@ -1,2 +1,3 @@
 -- What the timed functions leave.
 pub mod Sums
+pub mod SumLaws

@@ -15,7 +15,7 @@ use step::Three;
 fn put_three(out: &mut [u32], s: Three)
     requires room { ⌜ 12 ≤ length (now out) ⌝ }
     requires clean { ⌜ Clean (now out) × CanonThree s ⌝ }
-    ensures { λ _. ⌜ InFront (now (out .exit)) (dec (s .s1)) (dec (s .s2)) (dec (s .s3)) ⌝ }
+    ensures { λ _. ⌜ InFront (now (out .entry)) (now (out .exit)) (dec (s .s1)) (dec (s .s2)) (dec (s .s3)) ⌝ }
 {
     field::store(out, 0, s.s1);
     field::store(out, 1, s.s2);
@@ -34,7 +34,7 @@ pub extern "C" fn layer_bench_round_sums(
 )
     requires room { ⌜ (8 * (pq + 4 * half) ≤ length (now work)) × (4 * (eq + 2 * half) ≤ length (now work)) × (4 ≤ length (now lambda)) × (12 ≤ length (now out)) ⌝ }
     requires clean { ⌜ Clean (now work) × Clean (now lambda) × Clean (now out) ⌝ }
-    ensures { λ _. ⌜ InFront (now (out .exit)) (Table.sum ExtRing half (summand (now (work .entry)) eq pq (cell (now (lambda .entry)) 0) E.one)) (Table.sum ExtRing half (summand (now (work .entry)) eq pq (cell (now (lambda .entry)) 0) two)) (Table.sum ExtRing half (summand (now (work .entry)) eq pq (cell (now (lambda .entry)) 0) three)) ⌝ }
+    ensures { λ _. ⌜ InFront (now (out .entry)) (now (out .exit)) (Table.sum ExtRing half (summand (now (work .entry)) eq pq (cell (now (lambda .entry)) 0) E.one)) (Table.sum ExtRing half (summand (now (work .entry)) eq pq (cell (now (lambda .entry)) 0) two)) (Table.sum ExtRing half (summand (now (work .entry)) eq pq (cell (now (lambda .entry)) 0) three)) ⌝ }
 {
     let s = layer::sumcheck_round_poly_evals(work, eq, pq, half, field::load(lambda, 0));
     put_three(out, s);

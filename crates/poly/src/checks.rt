@@ -1,7 +1,7 @@
 // The checks of the helpers over lists, in document 01's order: the first that fails answers.
 ghost use mathlib.Core.Path.{_≡_};
 ghost use mathlib.Core.Bool.{true, _&&_};
-ghost use Prim.Native.Nat.{_%_, _^_, _≤_};
+ghost use Prim.Native.Nat.{_%_, _^_, _<_, _≤_};
 ghost use lib.Dec.{eqb};
 ghost use Rattle.field.specs.Element.{canonWords};
 ghost use Rattle.refusal.specs.Limits.{maxRounds, maxRows};
@@ -28,6 +28,7 @@ pub struct Sizes {
     pub room: bool,
 }
 
+// The first question of the sizes that is answered by no, as its refusal.
 pub fn check_sizes(s: Sizes) -> Outcome
     ensures { λ r. ⌜ r ≡ refusal s true ⌝ }
 {
@@ -81,9 +82,9 @@ pub fn check_element(checked: Outcome, e: Ext) -> Outcome
     }
 }
 
-// 2^variables, where these are not over the limit.
+// 2^variables, and 0 where these are over the limit.
 pub fn cube(variables: usize) -> usize
-    ensures { λ r. ⌜ (r ≤ maxRows) × (variables ≤ maxRounds → r ≡ 2 ^ variables) ⌝ }
+    ensures { λ r. ⌜ (r ≤ maxRows) × (variables ≤ maxRounds → r ≡ 2 ^ variables) × (maxRounds < variables → r ≡ 0) ⌝ }
 {
     if MAX_ROUNDS < variables {
         return 0;

@@ -23,6 +23,7 @@ fn eq_refusal(x: &[u32], y: &[u32]) -> Outcome
     check_words(check_words(sizes, x), y)
 }
 
+// eq of two points: the product, over their coordinates, of x·y + (1 - x)·(1 - y).
 pub fn eval_eq_mle(x: &[u32], y: &[u32]) -> Evaluated
     ensures { λ r. ⌜ r ≡ evalEqMle (now (x .entry)) (now (y .entry)) ⌝ }
 {
@@ -47,6 +48,7 @@ fn cube_refusal(x: &[u32], out: &[u32]) -> Outcome
     check_words(sizes, x)
 }
 
+// The table of eq at x: entry i is the weight of index i.
 pub fn evals_eq_hypercube_serial(x: &[u32], out: &mut [u32]) -> Outcome
     ensures { λ r. ⌜ _≡_ {A = Filled} (record { outcome = r; target = now (out .exit) }) (evalsEqHypercube (now (x .entry)) (now (out .entry))) ⌝ }
 {

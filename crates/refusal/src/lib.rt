@@ -88,6 +88,7 @@ fn element_report(number: u32, first: usize, left: Ext, right: Ext) -> Report
     }
 }
 
+// A refusal as document 01's table has it: its number, and its fields, zero where there are none.
 pub fn number_and_fields(refusal: Refusal) -> Report
     ensures { λ r. ⌜ r ≡ reportOf refusal ⌝ }
 {
@@ -132,6 +133,7 @@ pub fn number_and_fields(refusal: Refusal) -> Report
     }
 }
 
+// Whether n is 1, 2, 4, 8, ..
 pub fn power_of_two(n: usize) -> bool
     ensures { λ r. ⌜ r ≡ powerOfTwo n ⌝ }
 {

@@ -32,6 +32,7 @@ fn call_in_place(table: &mut [u32], x: &[u32]) {
     print::end();
 }
 
+// A case of a table and a point: eq of two points, and the table's value in place or by halves.
 pub fn two_lists(text: &[u8], at: usize, code: u32) -> usize {
     let mut table = [0u32; 8200];
     let mut point = [0u32; 8200];
@@ -58,6 +59,7 @@ fn call_cube_serial(x: &[u32], target: &mut [u32]) {
     print::end();
 }
 
+// A case of a point and the size and filling of a target: the table of eq, by each of the two functions.
 pub fn list_and_target(text: &[u8], at: usize, code: u32) -> usize {
     let mut point = [0u32; 8200];
     let mut target = [0u32; 8200];
@@ -73,6 +75,7 @@ pub fn list_and_target(text: &[u8], at: usize, code: u32) -> usize {
     fill.at
 }
 
+// A case of coefficients and an element: Horner's rule, over the extension or the base.
 pub fn list_and_element(text: &[u8], at: usize, code: u32) -> usize {
     let mut coeffs = [0u32; 8200];
     let c = next_words(text, at, &mut coeffs);
@@ -99,6 +102,7 @@ fn call_fold(source: &mut [u32], target: &mut [u32], r: Ext) {
     print::end();
 }
 
+// A case of a fold: a column, an element, and the size and filling of a target.
 pub fn folded(text: &[u8], at: usize) -> usize {
     let mut source = [0u32; 8200];
     let mut target = [0u32; 8200];

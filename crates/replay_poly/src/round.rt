@@ -24,6 +24,7 @@ fn print_round(evals: RoundEvals) {
     print::end();
 }
 
+// A case of a sub-round's polynomial: lambda and five columns.
 pub fn round_evals(text: &[u8], at: usize) -> usize {
     let mut eq = [0u32; 8200];
     let mut p0 = [0u32; 8200];

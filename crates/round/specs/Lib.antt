@@ -3,3 +3,5 @@ pub mod Values
 pub mod Points
 pub mod Verdicts
 pub mod Rounds
+pub mod RoundLaws
+pub mod AdvanceLaws

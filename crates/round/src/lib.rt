@@ -60,6 +60,7 @@ pub enum Verdict {
     Refused(Refusal),
 }
 
+// p0, q0, p1, q1 go into the log.
 pub fn observe_layer_claims(log: &mut [u32], pos: Pos, c: LayerClaims) -> Pos
     requires room { ⌜ pos .put + 16 ≤ length (now log) ⌝ }
     requires canon { ⌜ CanonClaims (claimsIn c) ⌝ }

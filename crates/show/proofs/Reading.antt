@@ -4,7 +4,7 @@ use mathlib.Core.Path.{_≡_, refl, sym, _∙_, ap}
 use mathlib.Core.List.{List}
 use Prim.Native.Nat.{ℕ, _*_, _≤_}
 use native.Mathlib.Omega.{arith}
-use lib.ListN.{length, take, drop, length-append, length-take}
+use lib.ListN.{length, drop, length-append}
 use Rattle.wire.specs.ByteLaws.{words-length}
 use Rattle.stored.specs.declared.SheetAnswer.{SheetAnswer}
 use Rattle.stored.specs.declared.SheetAnswer.the-variants.{Done, Refused}
@@ -31,6 +31,3 @@ module _ (bs old new : List ℕ) (n : ℕ) {r : SheetAnswer} (e : _≡_ {A = She
       let a = ap (λ x. ended x (rowWords bs) old .buffer) done in
       let b = ap length (ap (λ o. o .buffer) e ∙ a) ∙ length-append (rowWords bs) (drop (length (rowWords bs)) old) in
       omega (arith, h .count, b, words-length (8 * rowCount bs) (drop 3 bs))
-
-pub all-taken : (k : ℕ) (l : List ℕ) → k ≤ length l → k ≡ length (take k l)
-all-taken k l h = simp length-take (omega arith)

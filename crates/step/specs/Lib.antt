@@ -1,2 +1,3 @@
 -- The values at one index.
 pub mod Values
+pub mod ValueLaws

@@ -58,6 +58,7 @@ pub fn line_at(a: Ext, b: Ext, r: Ext) -> Ext
     b.minus(a).times_plus(r, a)
 }
 
+// Sums of numerators and of denominators: two entries of two columns, not a sum of fractions.
 pub fn pair_plus(a: Frac, b: Frac) -> Frac
     requires { ⌜ CanonFrac a × CanonFrac b ⌝ }
     ensures { λ r. ⌜ IsFrac r (zipFrac E.add (decFrac a) (decFrac b)) ⌝ }
@@ -68,6 +69,7 @@ pub fn pair_plus(a: Frac, b: Frac) -> Frac
     }
 }
 
+// Differences of numerators and of denominators.
 pub fn pair_minus(a: Frac, b: Frac) -> Frac
     requires { ⌜ CanonFrac a × CanonFrac b ⌝ }
     ensures { λ r. ⌜ IsFrac r (zipFrac minus (decFrac a) (decFrac b)) ⌝ }
@@ -78,6 +80,7 @@ pub fn pair_minus(a: Frac, b: Frac) -> Frac
     }
 }
 
+// The lines through numerators and through denominators, taken at r.
 pub fn pair_line(a: Frac, b: Frac, r: Ext) -> Frac
     requires { ⌜ CanonFrac a × CanonFrac b × Canon r ⌝ }
     ensures { λ x. ⌜ IsFrac x (zipFrac (line (dec r)) (decFrac a) (decFrac b)) ⌝ }
@@ -88,6 +91,7 @@ pub fn pair_line(a: Frac, b: Frac, r: Ext) -> Frac
     }
 }
 
+// All five columns added.
 pub fn entry_plus(a: Entry, b: Entry) -> Entry
     requires { ⌜ CanonEntry a × CanonEntry b ⌝ }
     ensures { λ r. ⌜ IsEntry r (E.add (dec (a .e)) (dec (b .e))) (zip E.add (decClaims a) (decClaims b)) ⌝ }
@@ -99,6 +103,7 @@ pub fn entry_plus(a: Entry, b: Entry) -> Entry
     }
 }
 
+// All five columns subtracted.
 pub fn entry_minus(a: Entry, b: Entry) -> Entry
     requires { ⌜ CanonEntry a × CanonEntry b ⌝ }
     ensures { λ r. ⌜ IsEntry r (minus (dec (a .e)) (dec (b .e))) (zip minus (decClaims a) (decClaims b)) ⌝ }
@@ -179,6 +184,7 @@ pub fn summands(t0: Entry, t1: Entry, lambda: Ext) -> Three
     weighed_summands(weigh_entry(t0, lambda), weigh_entry(t1, lambda))
 }
 
+// The values at 1, 2 and 3 added.
 pub fn three_plus(a: Three, b: Three) -> Three
     requires { ⌜ CanonThree a × CanonThree b ⌝ }
     ensures { λ r. ⌜ IsThree r (E.add (dec (a .s1)) (dec (b .s1))) (E.add (dec (a .s2)) (dec (b .s2))) (E.add (dec (a .s3)) (dec (b .s3))) ⌝ }

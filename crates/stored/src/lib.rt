@@ -65,6 +65,7 @@ fn entries_fit(proof: &[u8], from: usize, count: usize) -> bool
     at == proof.len()
 }
 
+// The counts of a stored proof and where its polynomials start, if the bytes are some proof's; otherwise 12 or 13.
 pub fn read_shape(proof: &[u8]) -> Shape
     ensures { λ r. ⌜ r ≡ shapeOf (parse (now (proof .entry))) ⌝ }
 {
@@ -96,6 +97,7 @@ pub fn read_shape(proof: &[u8]) -> Shape
     })
 }
 
+// A layer's p0, q0, p1, q1 from a place on, their words not yet checked.
 pub fn read_claims(proof: &[u8], at: usize) -> LayerClaims
     requires { ⌜ at + 64 ≤ length (now proof) ⌝ }
     ensures { λ r. ⌜ claimsIn r ≡ claimsOf (drop at (now (proof .entry))) ⌝ }
@@ -108,6 +110,7 @@ pub fn read_claims(proof: &[u8], at: usize) -> LayerClaims
     }
 }
 
+// A sub-round's s(1), s(2), s(3) from a place on, their words not yet checked.
 pub fn read_subround(proof: &[u8], at: usize) -> SubroundEvals
     requires { ⌜ at + 48 ≤ length (now proof) ⌝ }
     ensures { λ r. ⌜ cubicIn r ≡ cubicOf (drop at (now (proof .entry))) ⌝ }

@@ -43,6 +43,7 @@ fn elements(proof: &[u8], polys: usize) {
     }
 }
 
+// All that is asked of one proof.
 pub fn ask(proof: &[u8]) {
     match stored::read_shape(proof) {
         Shape::Good(o) => {
@@ -72,6 +73,7 @@ fn prefix(proof: &[u8], k: usize) {
     }
 }
 
+// The shape reader's number for each prefix.
 pub fn prefixes(proof: &[u8]) {
     for k in 0..4096 {
         prefix(proof, k);
@@ -133,6 +135,7 @@ fn write_into(given: &[u32], out: &mut [u8], room: usize) {
     );
 }
 
+// A proof written into 400 bytes of sevens, and all of them printed.
 pub fn write(given: &[u32], room: usize) {
     let mut out = [7u8; 400];
     write_into(given, &mut out, room);

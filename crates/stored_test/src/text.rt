@@ -1,4 +1,5 @@
 // Decimal numbers, read from text and printed.
+ghost use mathlib.Core.Path.{_≡_};
 ghost use Prim.Native.Nat.{_<_, _≤_};
 ghost use lib.ListN.{length};
 
@@ -52,7 +53,9 @@ fn from_word(w: u32) -> u64 {
 }
 
 // A word as a place.
-pub fn place(w: u32) -> usize {
+pub fn place(w: u32) -> usize
+    ensures { λ r. ⌜ r ≡ w ⌝ }
+{
     w as usize
 }
 
@@ -75,17 +78,20 @@ pub fn narrow(words: &[u32], out: &mut [u8]) -> usize
     i
 }
 
+// A number and a blank.
 pub fn number(n: u64) {
     io::print_decimal(1, n);
     io::write_all(1, b" ");
 }
 
+// Each word.
 pub fn words(ws: &[u32]) {
     for i in 0..ws.len() {
         number(from_word(ws[i]));
     }
 }
 
+// Each byte.
 pub fn bytes(bs: &[u8]) {
     for i in 0..bs.len() {
         number(from_byte(bs[i]));

@@ -1,2 +1,3 @@
 -- The transcript over lent buffers.
 pub mod Log
+pub mod LogLaws

@@ -1,2 +1,3 @@
 -- Nodes of the fraction tree in a workspace of words.
 pub mod Nodes
+pub mod NodeLaws

@@ -170,6 +170,7 @@ fn run(
     answer(end)
 }
 
+// Checks a stored proof of so many rounds: accepted with both claims and the point written, or refused; the log holds what was observed and sampled until then.
 pub fn verify_gkr(
     proof: &[u8],
     rounds: usize,

@@ -1,6 +1,6 @@
 -- Laws of writing: two writings in a row, and the turns of a loop that writes.
 -- Assumes nothing.
-use mathlib.Core.Path.{_≡_, refl, sym, _∙_, ap}
+use mathlib.Core.Path.{_≡_, refl, sym, _∙_, ap, ap₂}
 use mathlib.Core.List.{List, [], _∷_, _++_, append-assoc, append-nil}
 use Prim.Native.Nat.{ℕ, _+_, _<_, _≤_}
 use native.Mathlib.Nat.{add-zero}
@@ -55,3 +55,10 @@ pub wrote-front : (pb pb′ : List ℕ) (n : ℕ) (bs : List ℕ) → Wrote pb p
 wrote-front pb pb′ n bs w =
     let e : n ≡ length bs = omega (arith, w .ends) in
     sym (take-append-drop n pb′) ∙ ap (λ l. l ++ drop n pb′) (w .front) ∙ ap (λ l. bs ++ l) (w .back ∙ ap (λ k. drop k pb) e)
+
+-- no second buffer fits
+pub wrote-unique : {pb m n : List ℕ} {at a b : ℕ} {bs : List ℕ} → Wrote pb m at a bs → Wrote pb n at b bs → (a ≡ b) × (m ≡ n)
+wrote-unique {pb} {m} {n} {at} {a} {b} {bs} h k = (h .ends ∙ sym (k .ends), whole m a h ∙ sym (whole n b k))
+  where
+    whole : (l : List ℕ) (c : ℕ) → Wrote pb l at c bs → l ≡ (take at pb ++ bs) ++ drop (at + length bs) pb
+    whole l c w = sym (take-append-drop c l) ∙ ap₂ _++_ (w .front) (w .back ∙ ap (λ (d : ℕ). drop d pb) (w .ends))

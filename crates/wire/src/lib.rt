@@ -15,6 +15,7 @@ pub fn wide(b: u8) -> u32
     b as u32
 }
 
+// The word whose four bytes stand from a place on.
 pub fn word_at(bytes: &[u8], at: usize) -> u32
     requires { ⌜ at + 4 ≤ length (now bytes) ⌝ }
     ensures { λ r. ⌜ r ≡ word (drop at (now (bytes .entry))) ⌝ }
@@ -38,6 +39,7 @@ pub fn element_at(bytes: &[u8], at: usize) -> Ext
     }
 }
 
+// The four bytes of a word go in at a place; the place after them.
 pub fn put_word(out: &mut [u8], at: usize, w: u32) -> usize
     requires { ⌜ at + 4 ≤ length (now out) ⌝ }
     ensures { λ r. ⌜ Wrote (now (out .entry)) (now (out .exit)) at r (be4 w) ⌝ }
@@ -49,6 +51,7 @@ pub fn put_word(out: &mut [u8], at: usize, w: u32) -> usize
     at + 4
 }
 
+// A byte goes in at a place; the place after it.
 pub fn put_byte(out: &mut [u8], at: usize, b: u8) -> usize
     requires { ⌜ at + 1 ≤ length (now out) ⌝ }
     ensures { λ r. ⌜ Wrote (now (out .entry)) (now (out .exit)) at r (b ∷ []) ⌝ }

@@ -37,6 +37,7 @@ returns c =
       first = p .first ∙ s .s1 .value ∙ ap (λ l. Table.sum ExtRing (a .half) (summand (a .work .now) (a .eq) (a .pq) l E.one)) v;
       second = p .second ∙ s .s2 .value ∙ ap (λ l. Table.sum ExtRing (a .half) (summand (a .work .now) (a .eq) (a .pq) l two)) v;
       third = p .third ∙ s .s3 .value ∙ ap (λ l. Table.sum ExtRing (a .half) (summand (a .work .now) (a .eq) (a .pq) l three)) v;
+      rest = p .rest;
     }
 
 pub layer-bench-round-sums-spec : {M : Type 1} → statement M

@@ -29,6 +29,7 @@ returns c =
       first = u .rest 0 (λ h. omega arith) ∙ t .rest 0 (λ h. omega arith) ∙ s .here;
       second = u .rest 1 (λ h. omega arith) ∙ t .here;
       third = u .here;
+      rest = λ j h. u .rest j (λ q. omega (arith, h, q)) ∙ t .rest j (λ q. omega (arith, h, q)) ∙ s .rest j (λ q. omega (arith, h, q));
     }
 
 pub put-three-spec : {M : Type 1} → statement M

@@ -3,7 +3,8 @@
 use native.Mathlib.Omega.{arith}
 use lib.ListN.{replicate}
 use borrow.Author.Needs.{needs}
-use Rattle.show.proofs.Reading.{all-taken, read-most, read-room}
+use Rattle.agreement.proofs.Joining.{all-taken}
+use Rattle.show.proofs.Reading.{read-most, read-room}
 use Rattle.show.proofs.show_sheet.Statement.{statement}
 use Rattle.show.proofs.show_sheet.Tie as tie
 

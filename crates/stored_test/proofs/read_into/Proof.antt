@@ -10,31 +10,24 @@ use Rattle.stored_test.proofs.read_into.Lts as lts
 use Rattle.stored.proofs.sheet.read_sheet.Reads as read-sheet-reads
 use Rattle.stored_test.proofs.show.Reads as show-reads
 
--- src/main.rt:35:47
 slice-relend-prefix-read-sheet : tie.Need-slice-relend-prefix-read-sheet
 slice-relend-prefix-read-sheet c = search needs
 
--- src/main.rt:35:47
 slice-aggregate-read-sheet : tie.Need-slice-aggregate-read-sheet
 slice-aggregate-read-sheet c = simp length-take (omega arith)
 
--- src/main.rt:35:14
 read-sheet-requires : tie.Need-read-sheet-requires
 read-sheet-requires c κs = search needs
 
--- src/main.rt:35:9
 show-requires : tie.Need-show-requires
 show-requires c κs = search needs
 
--- src/main.rt:33:1
 same-length : tie.Need-same-length
 same-length c = search needs
 
--- src/main.rt:33:1
 returns : tie.Need-returns
 returns c = search needs
 
--- src/main.rt:33:1
 returns-2 : tie.Need-returns-2
 returns-2 c = search needs
 

@@ -11,43 +11,33 @@ use Rattle.stored_test.proofs.on_bytes.Reads as on-bytes-reads
 use Rattle.stored_test.proofs.on_words.Reads as on-words-reads
 use Rattle.stored_test.proofs.text.narrow.Reads as narrow-reads
 
--- src/main.rt:84:9
 on-words-requires : tie.Need-on-words-requires
 on-words-requires c κs = search needs
 
--- src/main.rt:85:9
 returns : tie.Need-returns
 returns c = search needs
 
--- src/main.rt:88:9
 on-words-requires-2 : tie.Need-on-words-requires-2
 on-words-requires-2 c κs = search needs
 
--- src/main.rt:89:9
 returns-2 : tie.Need-returns-2
 returns-2 c = search needs
 
--- src/main.rt:91:33
 slice-aggregate-narrow : tie.Need-slice-aggregate-narrow
 slice-aggregate-narrow c = search needs
 
--- src/main.rt:91:9
 narrow-requires : tie.Need-narrow-requires
 narrow-requires c κs = search needs
 
--- src/main.rt:92:24
 array-share-prefix-bytes : tie.Need-array-share-prefix-bytes
 array-share-prefix-bytes c = search needs
 
--- src/main.rt:92:24
 slice-aggregate-on-bytes : tie.Need-slice-aggregate-on-bytes
 slice-aggregate-on-bytes c = simp length-take (omega arith)
 
--- src/main.rt:92:5
 on-bytes-requires : tie.Need-on-bytes-requires
 on-bytes-requires c κs = search needs
 
--- src/main.rt:81:1
 returns-3 : tie.Need-returns-3
 returns-3 c = search needs
 

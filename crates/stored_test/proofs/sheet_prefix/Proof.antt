@@ -11,51 +11,39 @@ use Rattle.stored.proofs.sheet.read_sheet.Reads as read-sheet-reads
 use Rattle.stored_test.proofs.number_of.Reads as number-of-reads
 use Rattle.stored_test.proofs.text.number.Reads as number-reads
 
--- src/main.rt:52:41
 slice-aggregate-read-sheet : tie.Need-slice-aggregate-read-sheet
 slice-aggregate-read-sheet c = simp length-take (omega arith)
 
--- src/main.rt:52:54
 slice-aggregate-read-sheet-2 : tie.Need-slice-aggregate-read-sheet-2
 slice-aggregate-read-sheet-2 c = search needs
 
--- src/main.rt:52:15
 read-sheet-requires : tie.Need-read-sheet-requires
 read-sheet-requires c κs = search needs
 
--- src/main.rt:53:37
 enum-told : tie.Need-enum-told
 enum-told c = search needs
 
--- src/main.rt:53:37
 number-requires : tie.Need-number-requires
 number-requires c κs = search needs
 
--- src/main.rt:54:34
 enum-known-r : tie.Need-enum-known-r
 enum-known-r c = search needs
 
--- src/main.rt:54:53
 number-of-requires : tie.Need-number-of-requires
 number-of-requires c κs = search needs
 
--- src/main.rt:54:53
 cast-number : tie.Need-cast-number
 cast-number c = search needs
 
--- src/main.rt:54:40
 number-requires-2 : tie.Need-number-requires-2
 number-requires-2 c κs = search needs
 
--- src/main.rt:49:1
 returns : tie.Need-returns
 returns c = search needs
 
--- src/main.rt:49:1
 returns-2 : tie.Need-returns-2
 returns-2 c = search needs
 
--- src/main.rt:49:1
 returns-3 : tie.Need-returns-3
 returns-3 c = search needs
 

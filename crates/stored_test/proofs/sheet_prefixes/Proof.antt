@@ -15,27 +15,21 @@ Inv-loop bytes k₀ k = k ≤ 4096
 abbrev μ-loop : tie.MeasureT-loop
 μ-loop bytes k₀ k = 4096 - k
 
--- src/main.rt:60:5
 loop-holds : tie.Need-loop-holds Inv-loop μ-loop
 loop-holds c = search needs
 
--- src/main.rt:61:9
 sheet-prefix-requires : tie.Need-sheet-prefix-requires Inv-loop μ-loop
 sheet-prefix-requires c κs = search needs
 
--- src/main.rt:60:9
 add-k : tie.Need-add-k Inv-loop μ-loop
 add-k c = search needs
 
--- src/main.rt:60:5
 loop-less : tie.Need-loop-less Inv-loop μ-loop
 loop-less c = search needs
 
--- src/main.rt:60:5
 loop-again : tie.Need-loop-again Inv-loop μ-loop
 loop-again c = search needs
 
--- src/main.rt:59:1
 returns : tie.Need-returns Inv-loop μ-loop
 returns c = search needs
 

@@ -10,31 +10,24 @@ use Rattle.stored_test.proofs.write_into.Lts as lts
 use Rattle.stored.proofs.sheet.write_sheet.Reads as write-sheet-reads
 use Rattle.stored_test.proofs.show.Reads as show-reads
 
--- src/main.rt:47:48
 slice-relend-prefix-write-sheet : tie.Need-slice-relend-prefix-write-sheet
 slice-relend-prefix-write-sheet c = search needs
 
--- src/main.rt:47:48
 slice-aggregate-write-sheet : tie.Need-slice-aggregate-write-sheet
 slice-aggregate-write-sheet c = simp length-take (omega arith)
 
--- src/main.rt:47:14
 write-sheet-requires : tie.Need-write-sheet-requires
 write-sheet-requires c κs = search needs
 
--- src/main.rt:47:9
 show-requires : tie.Need-show-requires
 show-requires c κs = search needs
 
--- src/main.rt:45:1
 same-length : tie.Need-same-length
 same-length c = search needs
 
--- src/main.rt:45:1
 returns : tie.Need-returns
 returns c = search needs
 
--- src/main.rt:45:1
 returns-2 : tie.Need-returns-2
 returns-2 c = search needs
 

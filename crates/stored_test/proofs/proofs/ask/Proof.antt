@@ -15,71 +15,54 @@ use Rattle.stored_test.proofs.number_of.Reads as number-of-reads
 use Rattle.stored_test.proofs.proofs.elements.Reads as elements-reads
 use Rattle.stored_test.proofs.text.number.Reads as number-reads
 
--- src/proofs.rt:47:11
 read-shape-requires : tie.Need-read-shape-requires
 read-shape-requires c κs = search needs
 
--- src/proofs.rt:48:21
 enum-known-o : tie.Need-enum-known-o
 enum-known-o c = search needs
 
--- src/proofs.rt:49:13
 number-requires : tie.Need-number-requires
 number-requires c κs = search needs
 
--- src/proofs.rt:50:13
 number-requires-2 : tie.Need-number-requires-2
 number-requires-2 c κs = search needs
 
--- src/proofs.rt:51:13
 number-requires-3 : tie.Need-number-requires-3
 number-requires-3 c κs = search needs
 
--- src/proofs.rt:52:13
 number-requires-4 : tie.Need-number-requires-4
 number-requires-4 c κs = search needs
 
--- src/proofs.rt:53:26
 first-bad-in-proof-requires : tie.Need-first-bad-in-proof-requires
 first-bad-in-proof-requires c κs = good-shape (c .before .before .before .before .before .before .before .before .before .args .proof .now) (c .before .before .before .before .before .o .given .0 .0) (sym (c .before .before .before .before .before .o .given .1) ∙ c .before .before .before .before .before .before .before .read-shape .ensures)
 
--- src/proofs.rt:53:13
 number-requires-5 : tie.Need-number-requires-5
 number-requires-5 c κs = search needs
 
--- src/proofs.rt:54:29
 canonical-proof-requires : tie.Need-canonical-proof-requires
 canonical-proof-requires c κs = good-shape (c .before .before .before .before .before .before .before .before .before .before .before .args .proof .now) (c .before .before .before .before .before .before .before .o .given .0 .0) (sym (c .before .before .before .before .before .before .before .o .given .1) ∙ c .before .before .before .before .before .before .before .before .before .read-shape .ensures)
 
--- src/proofs.rt:54:13
 number-requires-6 : tie.Need-number-requires-6
 number-requires-6 c κs = search needs
 
--- src/proofs.rt:59:13
 elements-requires : tie.Need-elements-requires
 elements-requires c κs = search needs
 
--- src/proofs.rt:61:24
 enum-known-r : tie.Need-enum-known-r
 enum-known-r c = search needs
 
--- src/proofs.rt:61:43
 number-of-requires : tie.Need-number-of-requires
 number-of-requires c κs = search needs
 
--- src/proofs.rt:61:43
 cast-number : tie.Need-cast-number
 cast-number c = search needs
 
--- src/proofs.rt:61:30
 number-requires-7 : tie.Need-number-requires-7
 number-requires-7 c κs = search needs
 
--- src/proofs.rt:46:1
 returns : tie.Need-returns
 returns c = search needs
 
--- src/proofs.rt:46:1
 returns-2 : tie.Need-returns-2
 returns-2 c = search needs
 

@@ -11,47 +11,36 @@ use Rattle.stored.proofs.read_shape.Reads as read-shape-reads
 use Rattle.stored_test.proofs.number_of.Reads as number-of-reads
 use Rattle.stored_test.proofs.text.number.Reads as number-reads
 
--- src/proofs.rt:68:34
 slice-aggregate-read-shape : tie.Need-slice-aggregate-read-shape
 slice-aggregate-read-shape c = simp length-take (omega arith)
 
--- src/proofs.rt:68:15
 read-shape-requires : tie.Need-read-shape-requires
 read-shape-requires c κs = search needs
 
--- src/proofs.rt:69:31
 enum-told : tie.Need-enum-told
 enum-told c = search needs
 
--- src/proofs.rt:69:31
 number-requires : tie.Need-number-requires
 number-requires c κs = search needs
 
--- src/proofs.rt:70:28
 enum-known-r : tie.Need-enum-known-r
 enum-known-r c = search needs
 
--- src/proofs.rt:70:47
 number-of-requires : tie.Need-number-of-requires
 number-of-requires c κs = search needs
 
--- src/proofs.rt:70:47
 cast-number : tie.Need-cast-number
 cast-number c = search needs
 
--- src/proofs.rt:70:34
 number-requires-2 : tie.Need-number-requires-2
 number-requires-2 c κs = search needs
 
--- src/proofs.rt:66:1
 returns : tie.Need-returns
 returns c = search needs
 
--- src/proofs.rt:66:1
 returns-2 : tie.Need-returns-2
 returns-2 c = search needs
 
--- src/proofs.rt:66:1
 returns-3 : tie.Need-returns-3
 returns-3 c = search needs
 

@@ -15,27 +15,21 @@ Inv-loop proof k₀ k = k ≤ 4096
 abbrev μ-loop : tie.MeasureT-loop
 μ-loop proof k₀ k = 4096 - k
 
--- src/proofs.rt:76:5
 loop-holds : tie.Need-loop-holds Inv-loop μ-loop
 loop-holds c = search needs
 
--- src/proofs.rt:77:9
 prefix-requires : tie.Need-prefix-requires Inv-loop μ-loop
 prefix-requires c κs = search needs
 
--- src/proofs.rt:76:9
 add-k : tie.Need-add-k Inv-loop μ-loop
 add-k c = search needs
 
--- src/proofs.rt:76:5
 loop-less : tie.Need-loop-less Inv-loop μ-loop
 loop-less c = search needs
 
--- src/proofs.rt:76:5
 loop-again : tie.Need-loop-again Inv-loop μ-loop
 loop-again c = search needs
 
--- src/proofs.rt:75:1
 returns : tie.Need-returns Inv-loop μ-loop
 returns c = search needs
 

@@ -10,55 +10,42 @@ use Rattle.stored_test.proofs.proofs.write_into.Lts as lts
 use Rattle.stored_test.proofs.proofs.write_rounds.Reads as write-rounds-reads
 use Rattle.stored_test.proofs.text.place.Reads as place-reads
 
--- src/proofs.rt:123:9
 returns : tie.Need-returns
 returns c = search needs
 
--- src/proofs.rt:126:9
 returns-2 : tie.Need-returns-2
 returns-2 c = search needs
 
--- src/proofs.rt:129:9
 shared-slice-read-write-rounds : tie.Need-shared-slice-read-write-rounds
 shared-slice-read-write-rounds c = search needs
 
--- src/proofs.rt:130:9
 slice-relend-prefix-write-rounds : tie.Need-slice-relend-prefix-write-rounds
 slice-relend-prefix-write-rounds c = search needs
 
--- src/proofs.rt:130:9
 slice-aggregate-write-rounds : tie.Need-slice-aggregate-write-rounds
 slice-aggregate-write-rounds c = simp length-take (omega arith)
 
--- src/proofs.rt:131:9
 sub-write-rounds : tie.Need-sub-write-rounds
 sub-write-rounds c = search needs
 
--- src/proofs.rt:131:9
 part-write-rounds-start : tie.Need-part-write-rounds-start
 part-write-rounds-start c = search needs
 
--- src/proofs.rt:131:9
 part-write-rounds-end : tie.Need-part-write-rounds-end
 part-write-rounds-end c = search needs
 
--- src/proofs.rt:132:21
 shared-slice-read-place : tie.Need-shared-slice-read-place
 shared-slice-read-place c = search needs
 
--- src/proofs.rt:132:9
 place-requires : tie.Need-place-requires
 place-requires c κs = search needs
 
--- src/proofs.rt:128:5
 write-rounds-requires : tie.Need-write-rounds-requires
 write-rounds-requires c κs = search needs
 
--- src/proofs.rt:121:1
 same-length : tie.Need-same-length
 same-length c = search needs
 
--- src/proofs.rt:121:1
 returns-3 : tie.Need-returns-3
 returns-3 c = search needs
 

@@ -16,35 +16,27 @@ Inv-loop bs i₀ i-end i = (i ≤ i-end) × (i-end ≡ length bs)
 abbrev μ-loop : tie.MeasureT-loop
 μ-loop bs i₀ i-end i = i-end - i
 
--- src/text.rt:90:5
 loop-holds : tie.Need-loop-holds Inv-loop μ-loop
 loop-holds c = search needs
 
--- src/text.rt:91:26
 shared-slice-read-from-byte : tie.Need-shared-slice-read-from-byte Inv-loop μ-loop
 shared-slice-read-from-byte c = search needs
 
--- src/text.rt:91:16
 from-byte-requires : tie.Need-from-byte-requires Inv-loop μ-loop
 from-byte-requires c κs = search needs
 
--- src/text.rt:91:9
 number-requires : tie.Need-number-requires Inv-loop μ-loop
 number-requires c κs = search needs
 
--- src/text.rt:90:9
 add-i : tie.Need-add-i Inv-loop μ-loop
 add-i c = search needs
 
--- src/text.rt:90:5
 loop-less : tie.Need-loop-less Inv-loop μ-loop
 loop-less c = search needs
 
--- src/text.rt:90:5
 loop-again : tie.Need-loop-again Inv-loop μ-loop
 loop-again c = search needs
 
--- src/text.rt:89:1
 returns : tie.Need-returns Inv-loop μ-loop
 returns c = search needs
 

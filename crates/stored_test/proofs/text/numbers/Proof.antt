@@ -15,35 +15,27 @@ Inv-loop text out₀ r₀ i₀ i-end out r i = (i ≤ i-end) × (i-end ≡ lengt
 abbrev μ-loop : tie.MeasureT-loop
 μ-loop text out₀ r₀ i₀ i-end out r i = i-end - i
 
--- src/text.rt:38:5
 loop-holds : tie.Need-loop-holds Inv-loop μ-loop
 loop-holds c = search needs
 
--- src/text.rt:39:23
 shared-slice-read-step : tie.Need-shared-slice-read-step Inv-loop μ-loop
 shared-slice-read-step c = search needs
 
--- src/text.rt:39:9
 step-requires : tie.Need-step-requires Inv-loop μ-loop
 step-requires c κs = search needs
 
--- src/text.rt:38:9
 add-i : tie.Need-add-i Inv-loop μ-loop
 add-i c = search needs
 
--- src/text.rt:38:5
 loop-less : tie.Need-loop-less Inv-loop μ-loop
 loop-less c = search needs
 
--- src/text.rt:38:5
 loop-again : tie.Need-loop-again Inv-loop μ-loop
 loop-again c = search needs
 
--- src/text.rt:34:1
 same-length : tie.Need-same-length Inv-loop μ-loop
 same-length c = search needs
 
--- src/text.rt:34:1
 returns : tie.Need-returns Inv-loop μ-loop
 returns c = search needs
 

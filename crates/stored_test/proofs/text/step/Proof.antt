@@ -9,47 +9,36 @@ use Rattle.stored_test.proofs.text.step.Reads as reads
 use Rattle.stored_test.proofs.text.step.Lts as lts
 use Rattle.stored_test.proofs.text.from_byte.Reads as from-byte-reads
 
--- src/text.rt:20:21
 mul-t6 : tie.Need-mul-t6
 mul-t6 c = search needs
 
--- src/text.rt:20:36
 from-byte-requires : tie.Need-from-byte-requires
 from-byte-requires c κs = search needs
 
--- src/text.rt:20:21
 add-t10 : tie.Need-add-t10
 add-t10 c = search needs
 
--- src/text.rt:18:9
 returns : tie.Need-returns
 returns c = search needs
 
--- src/text.rt:24:9
 returns-2 : tie.Need-returns-2
 returns-2 c = search needs
 
--- src/text.rt:26:14
 cast-out : tie.Need-cast-out
 cast-out c = search needs
 
--- src/text.rt:26:5
 mul-out : tie.Need-mul-out
 mul-out c = search needs
 
--- src/text.rt:26:5
 slice-write-out : tie.Need-slice-write-out
 slice-write-out c = search needs
 
--- src/text.rt:28:16
 add-t12 : tie.Need-add-t12
 add-t12 c = search needs
 
--- src/text.rt:12:1
 same-length : tie.Need-same-length
 same-length c = search needs
 
--- src/text.rt:12:1
 returns-3 : tie.Need-returns-3
 returns-3 c = (simp length-set (omega arith), omega arith)
 

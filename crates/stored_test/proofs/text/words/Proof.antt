@@ -16,39 +16,30 @@ Inv-loop ws i₀ i-end i = (i ≤ i-end) × (i-end ≡ length ws)
 abbrev μ-loop : tie.MeasureT-loop
 μ-loop ws i₀ i-end i = i-end - i
 
--- src/text.rt:84:5
 loop-holds : tie.Need-loop-holds Inv-loop μ-loop
 loop-holds c = search needs
 
--- src/text.rt:85:26
 mul-from-word : tie.Need-mul-from-word Inv-loop μ-loop
 mul-from-word c = search needs
 
--- src/text.rt:85:26
 shared-slice-read-from-word : tie.Need-shared-slice-read-from-word Inv-loop μ-loop
 shared-slice-read-from-word c = search needs
 
--- src/text.rt:85:16
 from-word-requires : tie.Need-from-word-requires Inv-loop μ-loop
 from-word-requires c κs = search needs
 
--- src/text.rt:85:9
 number-requires : tie.Need-number-requires Inv-loop μ-loop
 number-requires c κs = search needs
 
--- src/text.rt:84:9
 add-i : tie.Need-add-i Inv-loop μ-loop
 add-i c = search needs
 
--- src/text.rt:84:5
 loop-less : tie.Need-loop-less Inv-loop μ-loop
 loop-less c = search needs
 
--- src/text.rt:84:5
 loop-again : tie.Need-loop-again Inv-loop μ-loop
 loop-again c = search needs
 
--- src/text.rt:83:1
 returns : tie.Need-returns Inv-loop μ-loop
 returns c = search needs
 
