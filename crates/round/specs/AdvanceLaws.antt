@@ -7,7 +7,6 @@ use native.Mathlib.Omega.{arith}
 use lib.ListN.{length, drop, take-append-drop}
 use lib.Seq.{length-take-le}
 use Rattle.field.specs.Ext as E
-use Rattle.field.specs.Extension.{Extension}
 use Rattle.field.specs.Element.{dec, Canon}
 use Rattle.field.specs.ElementLaws.{is-unique}
 use Rattle.field.specs.declared.Ext.{Ext}
@@ -18,7 +17,7 @@ use Rattle.gkr.specs.Gkr as Gkr
 use Rattle.gkr.specs.Gkr.{accepted}
 use Rattle.refusal.specs.declared.Refusal.{Refusal}
 use Rattle.transcript.specs.declared.Pos.{Pos}
-use Rattle.transcript.specs.Log.{Supplied, logOf}
+use Rattle.transcript.specs.Log.{logOf}
 use Rattle.transcript.specs.LogLaws.{log-unique}
 use Rattle.round.specs.declared.Layer.{Layer}
 use Rattle.round.specs.declared.Advance.{Advance}

@@ -3,7 +3,7 @@
 use mathlib.Core.Path.{_≡_, refl, sym, _∙_, ap}
 use mathlib.Core.Bool.{Bool, true, false}
 use mathlib.Core.List.{List}
-use Prim.Native.Nat.{ℕ, _+_, _-_, _*_, _<_, _≤_}
+use Prim.Native.Nat.{ℕ, _+_, _-_, _*_, _^_, _<_, _≤_}
 use native.Mathlib.Omega.{arith}
 use borrow.Author.Tests.{ltb-true, ltb-false, eqb-true, eqb-false}
 use lib.Dec.{ltb, eqb}
@@ -12,7 +12,7 @@ use Rattle.field.specs.Ext as E
 use Rattle.field.specs.Cells.{cell}
 use Rattle.field.specs.CellLaws.{cells-unique}
 use Rattle.gkr.specs.Run.{Frac}
-use Rattle.tree.specs.Nodes.{node, StoredNode, Filled}
+use Rattle.tree.specs.Nodes.{node, StoredNode, Filled, Built}
 
 -- below a bound or not, and one number or not
 pub below-or-not : {A : Type 0} (a b : ℕ) → (a < b → A) → (b ≤ a → A) → A
@@ -54,3 +54,7 @@ filled-unique {ws} {l} {m} {at} {n} e h h' = cells-unique l m (h .clean) (h' .cl
     here j =
         below-or-not j at (λ u. h .below j u ∙ sym (h' .below j u))
         (λ u. below-or-not j (at + n) (in-area j u) (λ v. h .above j v ∙ sym (h' .above j v)))
+
+-- of the tree every node, from the root to the rows; the two cells before the root are not said
+pub built-unique : {rows ws l m : List ℕ} {size : ℕ} (n d i : ℕ) → size ≡ 2 ^ n → d ≤ n → i < 2 ^ d → Built rows ws l size → Built rows ws m size → node l (2 ^ d + i) ≡ node m (2 ^ d + i)
+built-unique n d i e u v h h' = let q : d + (n - d) ≡ n = omega arith in h .nodes n (n - d) d i e q v ∙ sym (h' .nodes n (n - d) d i e q v)
