@@ -3,7 +3,7 @@ ghost use mathlib.Core.Path.{_≡_};
 ghost use Prim.Native.Nat.{ℕ, suc, _+_, _*_, _^_, _<_, _≤_};
 ghost use lib.ListN.{length, drop};
 ghost use Rattle.field.specs.Ext as E;
-ghost use Rattle.field.specs.Element.{dec, Canon, Is};
+ghost use Rattle.field.specs.Element.{dec, Canon};
 ghost use Rattle.field.specs.Cells.{Clean};
 ghost use Rattle.gkr.specs.Run.{Frac as Fraction};
 ghost use Rattle.transcript.specs.Log.{logOf, Steps};
