@@ -72,8 +72,8 @@ fn verifier(n: usize) {
 fn layer() {
     let l = Layer { work: words(7, 32 << 10), eq: 4096, pq: 1024, half: 256 };
     let x = words(8, 4);
-    let (sums, fold) = (ours::round_sums(&l, &x), ours::fold(&l, &x));
-    compare("round sums, 512 entries", 1000, || timed(|| sums(&l, &x)), || theirs::round_sums(&l, &x));
+    let (sums, fold) = (ours::round_sums(&l), ours::fold(&l, &x));
+    compare("round sums, 512 entries", 1000, || timed(|| sums(&l)), || theirs::round_sums(&l, &[0; 4]));
     let folded = || {
         let mut m = Layer { work: l.work.clone(), ..l };
         let (t, ()) = timed(|| fold(&mut m, &x));

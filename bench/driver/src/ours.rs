@@ -16,7 +16,7 @@ extern "C" {
     fn field_bench_chain(a: u32, b: u32, n: usize) -> u32;
     fn field_bench_chains(a: u32, b: u32, n: usize) -> u32;
     fn layer_bench_round_sums(
-        work: *const u32, work_len: usize, eq: usize, pq: usize, half: usize, lambda: *const u32, lambda_len: usize, out: *mut u32, out_len: usize,
+        work: *const u32, work_len: usize, eq: usize, pq: usize, half: usize, out: *mut u32, out_len: usize,
     );
     fn layer_bench_fold(work: *mut u32, work_len: usize, eq: usize, pq: usize, half: usize, rho: *const u32, rho_len: usize);
 }
@@ -83,11 +83,12 @@ fn fits(l: &Layer, x: &[u32]) {
     assert!(l.work.iter().chain(x).all(|&w| w < p3_field::P));
 }
 
-pub fn round_sums(l: &Layer, lambda: &[u32]) -> impl Fn(&Layer, &[u32]) -> [u32; 12] {
-    fits(l, lambda);
-    |l, lambda| {
+/// Over weighed claims: lambda is in p1 already.
+pub fn round_sums(l: &Layer) -> impl Fn(&Layer) -> [u32; 12] {
+    fits(l, &[0; 4]);
+    |l| {
         let mut out = [0; 12];
-        unsafe { layer_bench_round_sums(l.work.as_ptr(), l.work.len(), l.eq, l.pq, l.half, lambda.as_ptr(), lambda.len(), out.as_mut_ptr(), 12) };
+        unsafe { layer_bench_round_sums(l.work.as_ptr(), l.work.len(), l.eq, l.pq, l.half, out.as_mut_ptr(), 12) };
         out
     }
 }

@@ -2,14 +2,14 @@
 -- Assumes nothing.
 use mathlib.Core.Path.{_≡_, refl, sym, _∙_, ap}
 use mathlib.Core.Bool.{Bool, true, false}
-use Prim.Native.Nat.{ℕ, zero, suc, _+_, _*_, _-_, _/_, _^_, _<_, _≤_}
+use Prim.Native.Nat.{ℕ, zero, suc, _+_, _*_, _-_, _^_, _<_, _≤_}
 use native.Mathlib.Nat.{mul-le-mul, pow-succ', pow-le-pow-right}
 use native.Mathlib.Bridge.{le-by-compare, IsLe}
 use native.Mathlib.Numerals.{add-one}
 use native.Mathlib.Omega.{arith}
-use borrow.Author.Tests.{lt-ltb, le-ltb, le-leb, lt-leb, eq-eqb, ne-eqb, ltb-false}
+use borrow.Author.Tests.{lt-ltb, le-ltb, le-leb, lt-leb, eq-eqb, ne-eqb}
 use lib.Dec.{eqb, ltb}
-use Rattle.gkr.specs.Sizes.{challenges, proof-bytes, point-words, workspace-words}
+use Rattle.gkr.specs.Sizes.{challenges, proof-bytes}
 use Rattle.refusal.specs.Limits.{maxRounds}
 use Rattle.gate.specs.Refusals.{Rooms, roundsFrom, roundsOf, isSize, logRoom, workRoom, shortRoom}
 

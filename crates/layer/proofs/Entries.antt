@@ -18,10 +18,10 @@ use Rattle.multilinear.specs.RoundSum as RoundSum
 use Rattle.multilinear.specs.RoundSum.{Claims}
 use Rattle.step.specs.declared.Entry.{Entry}
 use Rattle.step.specs.declared.Three.{Three}
-use Rattle.step.specs.Values.{IsEntry, decClaims, zip, line, two, three, summandAt, IsThree, decFrac}
-use Rattle.step.proofs.Pairs.{entry-claims}
+use Rattle.step.specs.Values.{IsEntry, decClaims, zip, line, two, three, summandAt, weighedAt, weigh, IsThree, decFrac}
+use Rattle.step.proofs.Pairs.{entry-claims, plain-at}
 use Rattle.tree.specs.Nodes.{StoredNode}
-use Rattle.layer.specs.Columns.{eqs, claims, summand, StoredEntry, Folded}
+use Rattle.layer.specs.Columns.{eqs, claims, summand, Weighed, StoredEntry, Folded}
 
 -- THE FOLD
 
@@ -94,21 +94,43 @@ folds-next ws₀ ws ws' at b n half r u h f s =
       high = λ j l. s .rest j (λ q. omega arith) (λ p q. omega arith) ∙ f .high j (omega arith);
     }
 
+-- WEIGHING
+
+pub weighs-none : (ws : List ℕ) (b : ℕ) (l : E.Ext) → Clean ws → Weighed ws ws b 0 l
+weighs-none ws b l h = record { clean = h; nodes = λ y u. absurd (not-suc-le-zero u); above = λ j u. refl }
+
+pub weighs-next : (ws₀ ws ws' : List ℕ) (b n : ℕ) (l : E.Ext) → Weighed ws₀ ws b n l
+    → Stored ws ws' (2 * (b + (2 * n + 1))) (E.add (E.mul (cell ws (2 * (b + (2 * n + 1)) + 1)) l) (cell ws (2 * (b + (2 * n + 1)))))
+    → Weighed ws₀ ws' b (n + 1) l
+weighs-next ws₀ ws ws' b n l f s =
+    record {
+      clean = s .clean;
+      nodes = below-more (λ y. claims ws' b y ≡ weigh l (claims ws₀ b y)) n
+          (λ y u. claims-kept ws ws' b y (λ j p q. s .rest j (λ e. omega arith)) ∙ f .nodes y u)
+          (λ i. record {
+            p0 = (s .rest (2 * (b + 2 * n)) (λ e. omega arith) ∙ f .above (2 * (b + 2 * n)) (omega arith)) i;
+            q0 = (s .rest (2 * (b + 2 * n) + 1) (λ e. omega arith) ∙ f .above (2 * (b + 2 * n) + 1) (omega arith)) i;
+            p1 = (s .here ∙ ap₂ (λ q p. E.add (E.mul q l) p) (f .above (2 * (b + (2 * n + 1)) + 1) (omega arith)) (f .above (2 * (b + (2 * n + 1))) (omega arith))) i;
+            q1 = (s .rest (2 * (b + (2 * n + 1)) + 1) (λ e. omega arith) ∙ f .above (2 * (b + (2 * n + 1)) + 1) (omega arith)) i;
+          });
+      above = λ j u. s .rest j (λ e. omega arith) ∙ f .above j (omega arith);
+    }
+
 -- THE SUMS
 
 -- the summands of the entries that were read are those of the columns
-module _ (ws : List ℕ) (at b y : ℕ) (l : E.Ext) (t0 t1 : Entry)
+module _ (ws : List ℕ) (at b y : ℕ) (t0 t1 : Entry)
     (h0 : IsEntry t0 (eqs ws at (2 * y)) (claims ws b (2 * y))) (h1 : IsEntry t1 (eqs ws at (2 * y + 1)) (claims ws b (2 * y + 1))) where
   abbrev told : E.Ext → E.Ext
-  told x = summandAt x l (dec (t0 .e)) (dec (t1 .e)) (decClaims t0) (decClaims t1)
+  told x = weighedAt x (dec (t0 .e)) (dec (t1 .e)) (decClaims t0) (decClaims t1)
 
-  same : (x : E.Ext) → told x ≡ summand ws at b l x y
+  same : (x : E.Ext) → told x ≡ summand ws at b E.nil x y
   unfolding Table.fold
-  same x i = summandAt x l (h0 .e .value i) (h1 .e .value i) (entry-claims t0 _ _ h0 i) (entry-claims t1 _ _ h1 i)
+  same x = plain-at x _ _ _ _ ∙ (λ i. summandAt x E.nil (h0 .e .value i) (h1 .e .value i) (entry-claims t0 _ _ h0 i) (entry-claims t1 _ _ h1 i))
 
   pub sums-added : (acc s r : Three) → IsThree s (told E.one) (told two) (told three)
       → IsThree r (E.add (dec (acc .s1)) (dec (s .s1))) (E.add (dec (acc .s2)) (dec (s .s2))) (E.add (dec (acc .s3)) (dec (s .s3)))
-      → IsThree r (E.add (dec (acc .s1)) (summand ws at b l E.one y)) (E.add (dec (acc .s2)) (summand ws at b l two y)) (E.add (dec (acc .s3)) (summand ws at b l three y))
+      → IsThree r (E.add (dec (acc .s1)) (summand ws at b E.nil E.one y)) (E.add (dec (acc .s2)) (summand ws at b E.nil two y)) (E.add (dec (acc .s3)) (summand ws at b E.nil three y))
   sums-added acc s r h k = record {
     s1 = record { canon = k .s1 .canon; value = k .s1 .value ∙ ap (E.add (dec (acc .s1))) (h .s1 .value ∙ same E.one) };
     s2 = record { canon = k .s2 .canon; value = k .s2 .value ∙ ap (E.add (dec (acc .s2))) (h .s2 .value ∙ same two) };

@@ -10,7 +10,7 @@ use Rattle.multilinear.specs.Table as Table
 use Rattle.multilinear.specs.RoundSum as RoundSum
 use Rattle.multilinear.specs.RoundSum.{Claims}
 use Rattle.gkr.specs.Tree as Tree
-use Rattle.step.specs.Values.{minus}
+use Rattle.step.specs.Values.{minus, weigh}
 use Rattle.tree.specs.Nodes.{node}
 
 -- the n cells from `at` on, as a point
@@ -44,6 +44,12 @@ pub record Grown (ws ws' : List ℕ) (at size n : ℕ) (x : E.Ext) : Type 0 wher
   pub below : (j : ℕ) → j < at → cell ws' j ≡ cell ws j
   pub between : (j : ℕ) → at + n ≤ j → j < at + size → cell ws' j ≡ cell ws j
   pub above : (j : ℕ) → at + size + n ≤ j → cell ws' j ≡ cell ws j
+
+-- the claims of the first n entries are weighed by lambda, and all cells behind them are as before
+pub record Weighed (ws ws' : List ℕ) (b n : ℕ) (lambda : E.Ext) : Type 0 where
+  pub clean : Clean ws'
+  pub nodes : (y : ℕ) → y < n → claims ws' b y ≡ weigh lambda (claims ws b y)
+  pub above : (j : ℕ) → 2 * b + 4 * n ≤ j → cell ws' j ≡ cell ws j
 
 -- x and c are put into entry y
 pub record StoredEntry (ws ws' : List ℕ) (at b y : ℕ) (x : E.Ext) (c : Claims E.Ext) : Type 0 where

@@ -1,17 +1,18 @@
 // One layer's columns in the workspace: the eq table from cell `eq` on, and the claims on pairs of nodes from node `pq` on.
-// They are read where they stand, summed in one pass for each sub-round, and folded in place.
+// They are read where they stand, summed in one pass for each sub-round, and folded in place. For the sub-rounds of a layer p1 is weighed:
+// p1 + lambda·q1 stands in its place, so that no sub-round multiplies by lambda.
 ghost use mathlib.Core.Path.{_≡_};
 ghost use Prim.Native.Nat.{_+_, _*_, _^_, _<_, _≤_};
 ghost use lib.ListN.{length};
 ghost use Rattle.field.specs.Ext as E;
 ghost use Rattle.field.specs.ExtRing.{ExtRing};
 ghost use Rattle.field.specs.Element.{dec, Canon};
-ghost use Rattle.field.specs.Cells.{Clean};
+ghost use Rattle.field.specs.Cells.{cell, Clean, Stored};
 ghost use Rattle.multilinear.specs.Table as Table;
 ghost use Rattle.multilinear.specs.RoundSum as RoundSum;
 ghost use Rattle.step.specs.Values.{CanonEntry, IsEntry, decClaims, CanonThree, IsThree, two, three};
 ghost use Rattle.tree.specs.Nodes.{Filled};
-ghost use Rattle.layer.specs.Columns.{cells, eqs, claims, summand, GrownEntry, Grown, StoredEntry, Folded};
+ghost use Rattle.layer.specs.Columns.{cells, eqs, claims, summand, GrownEntry, Grown, Weighed, StoredEntry, Folded};
 use field::Ext;
 use step::Entry;
 use step::Three;
@@ -53,6 +54,27 @@ pub fn evals_eq_hypercube(work: &mut [u32], eq: usize, xi: &[u32], round: usize,
     }
 }
 
+// p + lambda·q goes into the place of p of node k.
+fn weigh_node(work: &mut [u32], k: usize, lambda: Ext)
+    requires room { ⌜ 8 * k + 7 < length (now work) ⌝ }
+    requires clean { ⌜ Clean (now work) × Canon lambda ⌝ }
+    ensures { λ _. ⌜ Stored (now (work .entry)) (now (work .exit)) (2 * k) (E.add (E.mul (cell (now (work .entry)) (2 * k + 1)) (dec lambda)) (cell (now (work .entry)) (2 * k))) ⌝ }
+{
+    let f = tree::load_node(work, k);
+    field::store(work, 2 * k, f.q.times_plus(lambda, f.p));
+}
+
+// p1 of the first `size` entries is weighed by lambda.
+pub fn weigh(work: &mut [u32], pq: usize, size: usize, lambda: Ext)
+    requires room { ⌜ 8 * (pq + 2 * size) ≤ length (now work) ⌝ }
+    requires clean { ⌜ Clean (now work) × Canon lambda ⌝ }
+    ensures { λ _. ⌜ Weighed (now (work .entry)) (now (work .exit)) pq size (dec lambda) ⌝ }
+{
+    for y in 0..size {
+        weigh_node(work, pq + (2 * y + 1), lambda);
+    }
+}
+
 // Entry y of all five columns.
 fn load_entry(work: &[u32], eq: usize, pq: usize, y: usize) -> Entry
     requires room { ⌜ (8 * (pq + 2 * y) + 15 < length (now work)) × (4 * (eq + y) + 3 < length (now work)) ⌝ }
@@ -67,28 +89,22 @@ fn load_entry(work: &[u32], eq: usize, pq: usize, y: usize) -> Entry
 }
 
 // The summands at y are added.
-fn add_summands(work: &[u32], eq: usize, pq: usize, y: usize, lambda: Ext, acc: Three) -> Three
+fn add_summands(work: &[u32], eq: usize, pq: usize, y: usize, acc: Three) -> Three
     requires room { ⌜ (8 * (pq + 4 * y) + 31 < length (now work)) × (4 * (eq + 2 * y) + 7 < length (now work)) ⌝ }
     requires clean { ⌜ Clean (now work) ⌝ }
-    requires canon { ⌜ CanonThree acc × Canon lambda ⌝ }
-    ensures { λ r. ⌜ IsThree r (E.add (dec (acc .s1)) (summand (now (work .entry)) eq pq (dec lambda) E.one y)) (E.add (dec (acc .s2)) (summand (now (work .entry)) eq pq (dec lambda) two y)) (E.add (dec (acc .s3)) (summand (now (work .entry)) eq pq (dec lambda) three y)) ⌝ }
+    requires canon { ⌜ CanonThree acc ⌝ }
+    ensures { λ r. ⌜ IsThree r (E.add (dec (acc .s1)) (summand (now (work .entry)) eq pq E.nil E.one y)) (E.add (dec (acc .s2)) (summand (now (work .entry)) eq pq E.nil two y)) (E.add (dec (acc .s3)) (summand (now (work .entry)) eq pq E.nil three y)) ⌝ }
 {
     let t0 = load_entry(work, eq, pq, 2 * y);
     let t1 = load_entry(work, eq, pq, 2 * y + 1);
-    step::three_plus(acc, step::summands(t0, t1, lambda))
+    step::three_plus(acc, step::weighed_summands(t0, t1))
 }
 
-// A sub-round's polynomial at 1, 2 and 3, over columns of 2 * half entries.
-pub fn sumcheck_round_poly_evals(
-    work: &[u32],
-    eq: usize,
-    pq: usize,
-    half: usize,
-    lambda: Ext,
-) -> Three
+// A sub-round's polynomial at 1, 2 and 3, over columns of 2 * half entries that are weighed: lambda is nothing then.
+pub fn sumcheck_round_poly_evals(work: &[u32], eq: usize, pq: usize, half: usize) -> Three
     requires room { ⌜ (8 * (pq + 4 * half) ≤ length (now work)) × (4 * (eq + 2 * half) ≤ length (now work)) ⌝ }
-    requires clean { ⌜ Clean (now work) × Canon lambda ⌝ }
-    ensures { λ r. ⌜ IsThree r (Table.sum ExtRing half (summand (now (work .entry)) eq pq (dec lambda) E.one)) (Table.sum ExtRing half (summand (now (work .entry)) eq pq (dec lambda) two)) (Table.sum ExtRing half (summand (now (work .entry)) eq pq (dec lambda) three)) ⌝ }
+    requires clean { ⌜ Clean (now work) ⌝ }
+    ensures { λ r. ⌜ IsThree r (Table.sum ExtRing half (summand (now (work .entry)) eq pq E.nil E.one)) (Table.sum ExtRing half (summand (now (work .entry)) eq pq E.nil two)) (Table.sum ExtRing half (summand (now (work .entry)) eq pq E.nil three)) ⌝ }
 {
     let mut acc = Three {
         s1: Ext::ZERO,
@@ -96,7 +112,7 @@ pub fn sumcheck_round_poly_evals(
         s3: Ext::ZERO,
     };
     for y in 0..half {
-        acc = add_summands(work, eq, pq, y, lambda, acc);
+        acc = add_summands(work, eq, pq, y, acc);
     }
     acc
 }

@@ -22,21 +22,20 @@ fn put_three(out: &mut [u32], s: Three)
     field::store(out, 2, s.s3);
 }
 
-// One pass of round sums, with cell 0 of `lambda`.
+// One pass of round sums, over weighed claims.
 #[no_mangle]
 pub extern "C" fn layer_bench_round_sums(
     work: &[u32],
     eq: usize,
     pq: usize,
     half: usize,
-    lambda: &[u32],
     out: &mut [u32],
 )
-    requires room { ⌜ (8 * (pq + 4 * half) ≤ length (now work)) × (4 * (eq + 2 * half) ≤ length (now work)) × (4 ≤ length (now lambda)) × (12 ≤ length (now out)) ⌝ }
-    requires clean { ⌜ Clean (now work) × Clean (now lambda) × Clean (now out) ⌝ }
-    ensures { λ _. ⌜ InFront (now (out .entry)) (now (out .exit)) (Table.sum ExtRing half (summand (now (work .entry)) eq pq (cell (now (lambda .entry)) 0) E.one)) (Table.sum ExtRing half (summand (now (work .entry)) eq pq (cell (now (lambda .entry)) 0) two)) (Table.sum ExtRing half (summand (now (work .entry)) eq pq (cell (now (lambda .entry)) 0) three)) ⌝ }
+    requires room { ⌜ (8 * (pq + 4 * half) ≤ length (now work)) × (4 * (eq + 2 * half) ≤ length (now work)) × (12 ≤ length (now out)) ⌝ }
+    requires clean { ⌜ Clean (now work) × Clean (now out) ⌝ }
+    ensures { λ _. ⌜ InFront (now (out .entry)) (now (out .exit)) (Table.sum ExtRing half (summand (now (work .entry)) eq pq E.nil E.one)) (Table.sum ExtRing half (summand (now (work .entry)) eq pq E.nil two)) (Table.sum ExtRing half (summand (now (work .entry)) eq pq E.nil three)) ⌝ }
 {
-    let s = layer::sumcheck_round_poly_evals(work, eq, pq, half, field::load(lambda, 0));
+    let s = layer::sumcheck_round_poly_evals(work, eq, pq, half);
     put_three(out, s);
 }
 

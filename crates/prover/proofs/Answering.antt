@@ -2,12 +2,11 @@
 -- Assumes nothing.
 use mathlib.Core.Path.{_≡_, refl, sym, _∙_, ap, subst}
 use mathlib.Core.Bool.{Bool, true, false, not, _&&_, cond}
-use mathlib.Core.List.{List, [], _∷_, _++_, append-nil}
-use Prim.Native.Nat.{ℕ, zero, suc, _+_, _*_, _^_, _<_, _≤_}
+use mathlib.Core.List.{List, [], _++_, append-nil}
+use Prim.Native.Nat.{ℕ, suc, _+_, _*_, _^_, _≤_}
 use native.Mathlib.Omega.{arith}
 use borrow.Author.Tests.{not-true, not-false, eq-eqb, ne-eqb}
-use lib.ListN.{length, take, drop, replicate, length-append, length-replicate, take-append-drop}
-use lib.Seq.{length-take-le, drop-drop}
+use lib.ListN.{length, drop, replicate, length-replicate}
 use Rattle.field.specs.Base as B
 use Rattle.field.specs.Ext as E
 use Rattle.field.specs.ExtRing.{ExtRing}
@@ -15,7 +14,6 @@ use Rattle.field.specs.Extension.{Extension}
 use Rattle.field.specs.Element.{dec, enc}
 use Rattle.field.specs.ElementLaws.{enc-of-is}
 use Rattle.gkr.specs.Run.{Frac}
-use Rattle.gkr.specs.Count as Count
 use Rattle.gkr.specs.Tree as Tree
 use Rattle.gkr.specs.Gkr as Gkr
 use Rattle.gkr.specs.Gkr.{done, non-zero-root-sum}
@@ -33,7 +31,7 @@ use Rattle.stored.specs.Layout.{layout}
 use Rattle.stored.specs.Messages.{noRows}
 use Rattle.prover.specs.declared.Answer.{Answer}
 use Rattle.prover.specs.declared.Answer.the-variants.{Done, Refused}
-use Rattle.prover.specs.Proved.{Buffers, Outcome, over, wiped, encFrac, nothing, refused, after, oneRow, ran, entered, proved, roomsOf, pointWords}
+use Rattle.prover.specs.Proved.{Buffers, Outcome, wiped, encFrac, nothing, refused, after, oneRow, ran, entered, proved, roomsOf, pointWords}
 use Rattle.prover.specs.Inner.{runOf, Written}
 use Rattle.prover.proofs.Writing.{drop-all, whole-proof}
 

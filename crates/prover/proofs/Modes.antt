@@ -1,6 +1,6 @@
 -- Live mode differs from sandbox only by its row check: 7 with the lowest row that has p not 0 and q 0, where 1 to 6 do not apply.
 -- Assumes nothing.
-use mathlib.Core.Path.{_≡_, refl, sym, _∙_, ap, subst}
+use mathlib.Core.Path.{_≡_, refl, _∙_, ap}
 use mathlib.Core.Bool.{Bool, true, false, not, _&&_, cond}
 use mathlib.Core.List.{List, []}
 use Prim.Native.Nat.{ℕ, zero, suc, _+_, _*_, _%_, _<_, _≤_}
@@ -25,8 +25,7 @@ use Rattle.gate.specs.declared.Gate.{Gate}
 use Rattle.gate.specs.declared.Gate.the-variants.{Open, Shut}
 use Rattle.gate.specs.Refusals.{Call, Rooms, rowCount, roundsOf, isSize, shortRoom, degenerate, checkRows, firstRefusal}
 use Rattle.prover.specs.declared.Answer.{Answer}
-use Rattle.prover.specs.declared.Answer.the-variants.{Done, Refused}
-use Rattle.prover.specs.Proved.{Buffers, Outcome, roomsOf, refused, finished, after, oneRow, nothing, ran, entered, proved}
+use Rattle.prover.specs.Proved.{Buffers, roomsOf, refused, finished, after, nothing, ran, entered, proved}
 use Rattle.prover.specs.Report.{answerReport}
 
 -- THE ROW CHECK

@@ -4,7 +4,7 @@ use mathlib.Core.Path.{_≡_, refl, sym, _∙_, ap, subst}
 use mathlib.Core.Bool.{Bool, true, false, not, _||_, cond}
 use mathlib.Core.Logic.{_⊎_, inl, inr}
 use mathlib.Core.List.{List}
-use Prim.Native.Nat.{ℕ, zero, suc, _+_, _*_, _-_, _/_, _%_, _^_, _<_, _≤_}
+use Prim.Native.Nat.{ℕ, zero, suc, _+_, _*_, _-_, _/_, _%_, _^_, _≤_}
 use native.Mathlib.Omega.{arith}
 use borrow.Author.Tests.{not-false, ltb-false, eqb-true}
 use lib.Dec.{eqb, ltb}
@@ -19,7 +19,7 @@ use Rattle.wire.specs.WordLaws.{canonical-below}
 use Rattle.rounds.specs.Layers.{logUpTo, usedUpTo}
 use Rattle.gate.specs.declared.Gate.{Gate}
 use Rattle.gate.specs.declared.Gate.the-variants.{Open, Shut}
-use Rattle.gate.specs.Refusals.{Call, Rooms, rowCount, roundsFrom, roundsOf, isSize, logRoom, workRoom, shortRoom, checkRows, firstRefusal}
+use Rattle.gate.specs.Refusals.{Call, Rooms, rowCount, roundsFrom, roundsOf, isSize, logRoom, workRoom, shortRoom, firstRefusal}
 use Rattle.prover.specs.Inner.{Room, Opens}
 
 -- A GATE THAT IS OPEN

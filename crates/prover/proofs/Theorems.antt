@@ -1,13 +1,11 @@
 -- What follows from the definition of a call: no second outcome fits, what buffers held before does not matter, live differs from sandbox only by its row check, and the workspace is wiped.
 -- Assumes nothing.
-use mathlib.Core.Path.{_≡_, refl, sym, _∙_, ap, subst}
-use mathlib.Core.Bool.{Bool, true, false, not, _&&_, cond}
+use mathlib.Core.Path.{_≡_, refl, sym, _∙_, ap}
+use mathlib.Core.Bool.{Bool, true, false, cond}
 use mathlib.Core.List.{List, []}
-use Prim.Native.Nat.{ℕ, zero, suc, _+_, _*_, _<_, _≤_}
-use native.Mathlib.Omega.{arith}
+use Prim.Native.Nat.{ℕ, zero, suc, _*_}
 use lib.Dec.{eqb}
 use lib.ListN.{replicate, take}
-use Rattle.field.specs.Ext as E
 use Rattle.field.specs.Extension.{Extension}
 use Rattle.gkr.specs.Sizes.{challenges}
 use Rattle.gkr.specs.Gkr as Gkr
@@ -17,14 +15,13 @@ use Rattle.tree.specs.Nodes.{node}
 use Rattle.stored.specs.Layout.{layout}
 use Rattle.stored.specs.Elements.{encoded}
 use Rattle.refusal.specs.declared.Refusal.{Refusal}
-use Rattle.refusal.specs.declared.Refusal.the-variants.{RaggedRows, TooManyRows, NotPowerOfTwo, ShortChallenges, ShortRoom, BadWord, ZeroDenominator, NonZeroRootSum, SingleRow}
+use Rattle.refusal.specs.declared.Refusal.the-variants.{NonZeroRootSum}
 use Rattle.gate.specs.declared.Gate.{Gate}
 use Rattle.gate.specs.declared.Gate.the-variants.{Open, Shut}
-use Rattle.gate.specs.Refusals.{Call, Rooms, rowCount, roundsOf, workRoom, degenerate, checkRows, firstRefusal}
+use Rattle.gate.specs.Refusals.{Call, Rooms, rowCount, roundsOf, workRoom, firstRefusal}
 use Rattle.prover.specs.declared.Answer.{Answer}
 use Rattle.prover.specs.declared.Answer.the-variants.{Done, Refused}
 use Rattle.prover.specs.Proved.{Buffers, Outcome, roomsOf, over, pointWords, encFrac, refused, wiped, finished, after, oneRow, nothing, ran, entered, proved}
-use Rattle.prover.specs.Report.{answerReport}
 
 -- NO SECOND OUTCOME FITS
 

@@ -15,7 +15,7 @@ use Rattle.field.specs.Cells.{cell}
 use Rattle.multilinear.specs.Table as Table
 use Rattle.multilinear.specs.RoundSum as RoundSum
 use Rattle.multilinear.specs.RoundSum.{Claims}
-use Rattle.gkr.specs.Run.{Frac, Cubic}
+use Rattle.gkr.specs.Run.{Frac}
 use Rattle.gkr.specs.Transcripts.{Words, mark}
 use Rattle.gkr.specs.Tree as Tree
 use Rattle.gkr.specs.Sumcheck as Sumcheck

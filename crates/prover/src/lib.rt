@@ -52,7 +52,7 @@ fn write_run(
     run::run_rounds(n, size, root.q, work, xi, log, challenges, pos);
     let i = pos.put / 4;
     stored::writer::put_proof(proof, log, i, n);
-    tree::clear(work);
+    tree::clear(work); // nothing of the rows stays
 }
 
 // Whether zero is asserted of a sum whose numerator is not zero.

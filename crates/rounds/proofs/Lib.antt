@@ -1,3 +1,4 @@
 -- The laws of the rounds.
 pub mod Sending
+pub mod Weighing
 pub mod Descent

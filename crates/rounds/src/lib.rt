@@ -3,7 +3,7 @@ ghost use mathlib.Core.Path.{_≡_};
 ghost use Prim.Native.Nat.{ℕ, suc, _+_, _*_, _^_, _<_, _≤_};
 ghost use lib.ListN.{length, drop};
 ghost use Rattle.field.specs.Ext as E;
-ghost use Rattle.field.specs.Element.{dec, Canon, Is};
+ghost use Rattle.field.specs.Element.{dec, Canon};
 ghost use Rattle.field.specs.Cells.{Clean};
 ghost use Rattle.gkr.specs.Run.{Frac as Fraction};
 ghost use Rattle.transcript.specs.Log.{logOf, Steps};
@@ -26,13 +26,12 @@ fn observe_round_poly(log: &mut [u32], pos: Pos, s: Three) -> Pos
     transcript::observe_ext(log, b, s.s3)
 }
 
-// One sub-round: its polynomial is observed, rho sampled and kept in cell i of the point, and all columns are folded at rho.
+// One sub-round over weighed claims: its polynomial is observed, rho sampled and kept in cell i of the point, and all columns are folded at rho.
 fn sub_round(
     work: &mut [u32],
     eq: usize,
     pq: usize,
     half: usize,
-    lambda: Ext,
     xi: &mut [u32],
     i: usize,
     log: &mut [u32],
@@ -41,10 +40,10 @@ fn sub_round(
 ) -> Pos
     requires layer { ⌜ (2 * pq + 8 * half ≤ eq) × (4 * (eq + 2 * half) ≤ length (now work)) ⌝ }
     requires room { ⌜ (4 * i + 3 < length (now xi)) × (pos .put + 16 ≤ length (now log)) × (4 * pos .used + 3 < length (now challenges)) ⌝ }
-    requires clean { ⌜ Clean (now work) × Clean (now xi) × Clean (now challenges) × Canon lambda ⌝ }
-    ensures { λ r. ⌜ ((k : ℕ) → half ≡ 2 ^ k → SubRound (now (work .entry)) (now (work .exit)) (now (xi .entry)) (now (xi .exit)) (now (log .entry)) (now (log .exit)) (now (challenges .entry)) eq pq k half i (dec lambda) pos r) ⌝ }
+    requires clean { ⌜ Clean (now work) × Clean (now xi) × Clean (now challenges) ⌝ }
+    ensures { λ r. ⌜ ((k : ℕ) → half ≡ 2 ^ k → SubRound (now (work .entry)) (now (work .exit)) (now (xi .entry)) (now (xi .exit)) (now (log .entry)) (now (log .exit)) (now (challenges .entry)) eq pq k half i E.nil pos r) ⌝ }
 {
-    let s = layer::sumcheck_round_poly_evals(work, eq, pq, half, lambda);
+    let s = layer::sumcheck_round_poly_evals(work, eq, pq, half);
     let p = observe_round_poly(log, pos, s);
     let d = transcript::sample_ext(log, challenges, p);
     let rho = d.x;
@@ -53,7 +52,34 @@ fn sub_round(
     d.pos
 }
 
-// The sub-rounds of a round over size = 2^round entries; each rho goes into the point behind cell 0, in order.
+// The sub-rounds of a round over size = 2^round entries with weighed claims; each rho goes into the point behind cell 0, in order.
+fn weighed_sub_rounds(
+    work: &mut [u32],
+    eq: usize,
+    pq: usize,
+    round: usize,
+    size: usize,
+    xi: &mut [u32],
+    log: &mut [u32],
+    challenges: &[u32],
+    pos: Pos,
+) -> Pos
+    requires size { ⌜ size ≡ 2 ^ round ⌝ }
+    requires layer { ⌜ (2 * pq + 4 * size ≤ eq) × (4 * (eq + size) ≤ length (now work)) ⌝ }
+    requires room { ⌜ (4 * round + 4 ≤ length (now xi)) × (pos .put + 16 * round ≤ length (now log)) × (4 * (pos .used + round) ≤ length (now challenges)) ⌝ }
+    requires clean { ⌜ Clean (now work) × Clean (now xi) × Clean (now challenges) ⌝ }
+    ensures { λ r. ⌜ SubRounds (now (work .entry)) (now (work .exit)) (now (xi .entry)) (now (xi .exit)) (now (log .entry)) (now (log .exit)) (now (challenges .entry)) eq pq round size E.nil pos r ⌝ }
+{
+    let mut p = pos;
+    let mut half = size;
+    for j in 0..round {
+        half = half / 2;
+        p = sub_round(work, eq, pq, half, xi, j + 1, log, challenges, p);
+    }
+    p
+}
+
+// The sub-rounds of a round: the claims are weighed by lambda before, and those that are left are taken back after.
 fn sub_rounds(
     work: &mut [u32],
     eq: usize,
@@ -72,12 +98,9 @@ fn sub_rounds(
     requires clean { ⌜ Clean (now work) × Clean (now xi) × Clean (now challenges) × Canon lambda ⌝ }
     ensures { λ r. ⌜ SubRounds (now (work .entry)) (now (work .exit)) (now (xi .entry)) (now (xi .exit)) (now (log .entry)) (now (log .exit)) (now (challenges .entry)) eq pq round size (dec lambda) pos r ⌝ }
 {
-    let mut p = pos;
-    let mut half = size;
-    for j in 0..round {
-        half = half / 2;
-        p = sub_round(work, eq, pq, half, lambda, xi, j + 1, log, challenges, p);
-    }
+    layer::weigh(work, pq, size, lambda);
+    let p = weighed_sub_rounds(work, eq, pq, round, size, xi, log, challenges, pos);
+    layer::weigh(work, pq, 1, Ext::ZERO.minus(lambda));
     p
 }
 

@@ -3,7 +3,7 @@
 use mathlib.Core.Path.{_≡_, refl, sym, _∙_, ap, ap₂, subst}
 use mathlib.Core.Bool.{Bool, true, false, cond}
 use mathlib.Core.List.{List, [], _∷_}
-use Prim.Native.Nat.{ℕ, suc, _+_, _*_, _-_, _^_, _<_, _≤_}
+use Prim.Native.Nat.{ℕ, suc, _+_, _-_, _≤_}
 use native.Mathlib.Omega.{arith}
 use lib.ListN.{drop}
 use lib.Seq.{drop-drop}
@@ -11,7 +11,6 @@ use Rattle.field.specs.Ext as E
 use Rattle.field.specs.ExtRing.{ExtRing}
 use Rattle.field.specs.Extension.{Extension}
 use Rattle.field.specs.Element.{dec}
-use Rattle.multilinear.specs.RoundSum.{Claims}
 use Rattle.gkr.specs.Run.{Frac}
 use Rattle.gkr.specs.Transcripts.{Words}
 use Rattle.gkr.specs.Tree as Tree

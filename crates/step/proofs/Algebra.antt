@@ -30,6 +30,14 @@ line-turned a b r = ring ExtRing (a ∷ b ∷ r ∷ []) (search quote depth 20 f
 pub cross-weighed : (p0 q0 p1 q1 l : Ext) → add (mul p0 q1) (mul q0 (add (mul q1 l) p1)) ≡ RoundSum.cross ExtRing l (record { p0 = p0; q0 = q0; p1 = p1; q1 = q1 })
 cross-weighed p0 q0 p1 q1 l = ring ExtRing (p0 ∷ q0 ∷ p1 ∷ q1 ∷ l ∷ []) (search quote depth 20 fits 9999) tt
 
+-- with a lambda of nothing, the numerator alone
+pub cross-none : (p0 q0 p1 q1 : Ext) → add (mul p0 q1) (mul q0 p1) ≡ RoundSum.cross ExtRing E.nil (record { p0 = p0; q0 = q0; p1 = p1; q1 = q1 })
+cross-none p0 q0 p1 q1 = ring ExtRing (p0 ∷ q0 ∷ p1 ∷ q1 ∷ []) (search quote depth 20 fits 9999) tt
+
+-- lambda taken out again
+pub weighed-back : (p q l : Ext) → add (mul q (minus E.nil l)) (add (mul q l) p) ≡ p
+weighed-back p q l = ring ExtRing (p ∷ q ∷ l ∷ []) (search quote depth 20 fits 9999) tt
+
 -- the line through weighed ends
 pub line-weighed : (x l p q p' q' : Ext) → line x (add (mul q l) p) (add (mul q' l) p') ≡ add (mul (line x q q') l) (line x p p')
 line-weighed x l p q p' q' = ring ExtRing (x ∷ l ∷ p ∷ q ∷ p' ∷ q' ∷ []) (search quote depth 20 fits 9999) tt

@@ -10,7 +10,7 @@ use Rattle.field.specs.declared.Ext.{Ext}
 use Rattle.step.specs.declared.Entry.{Entry}
 use Rattle.step.specs.declared.Three.{Three}
 use Rattle.step.specs.Values.{CanonEntry, IsEntry, IsThree, decClaims, zip, minus, line, two, three, summandAt, weigh, numerator, weighedAt}
-use Rattle.step.proofs.Algebra.{at-one, at-two, at-three, cross-weighed, line-weighed}
+use Rattle.step.proofs.Algebra.{at-one, at-two, at-three, cross-weighed, cross-none, line-weighed}
 
 pub entry-canon : (t : Entry) (x : E.Ext) (c : Claims E.Ext) → IsEntry t x c → CanonEntry t
 entry-canon t x c h = record { e = h .e .canon; l = record { p = h .l .p .canon; q = h .l .q .canon }; r = record { p = h .r .p .canon; q = h .r .q .canon } }
@@ -79,6 +79,13 @@ weighed-at x l e0 e1 c0 c1 =
     let r : E.Ext = E.mul (line x (c0 .p0) (c1 .p0)) (line x (c0 .q1) (c1 .q1)) in
     ap (λ w. E.mul (line x e0 e1) (E.add r (E.mul q w))) (line-weighed x l (c0 .p1) (c0 .q1) (c1 .p1) (c1 .q1))
     ∙ ap (E.mul (line x e0 e1)) (weighed-cross l (zip (line x) c0 c1))
+
+pub numerator-cross : (c : Claims E.Ext) → numerator c ≡ RoundSum.cross ExtRing E.nil c
+numerator-cross c = cross-none (c .p0) (c .q0) (c .p1) (c .q1)
+
+-- weighed claims are those of a run with a lambda of nothing
+pub plain-at : (x e0 e1 : E.Ext) (c0 c1 : Claims E.Ext) → weighedAt x e0 e1 c0 c1 ≡ summandAt x E.nil e0 e1 c0 c1
+plain-at x e0 e1 c0 c1 = ap (E.mul (line x e0 e1)) (numerator-cross (zip (line x) c0 c1))
 
 -- from weighed entries to the entries
 module _ (l : E.Ext) (t u : Entry) (h : IsEntry u (dec (t .e)) (weigh l (decClaims t))) where

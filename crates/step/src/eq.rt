@@ -1,5 +1,4 @@
 // eq goes on by one coordinate of each of two points.
-ghost use mathlib.Core.Path.{_≡_};
 ghost use Rattle.field.specs.Ext as E;
 ghost use Rattle.field.specs.ExtRing.{ExtRing};
 ghost use Rattle.field.specs.Element.{dec, Canon, Is};

@@ -1,5 +1,4 @@
 // The values at x of the polynomials through given values at 0, 1, 2, 3: canonical words in, canonical words out.
-ghost use mathlib.Core.Path.{_≡_};
 ghost use Rattle.field.specs.Ext as E;
 ghost use Rattle.field.specs.Extension.{Extension};
 ghost use Rattle.field.specs.Element.{dec, Canon, Is};

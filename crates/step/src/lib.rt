@@ -1,6 +1,5 @@
 // The formulas at one index, each once: sums of fractions, lines through two entries, the summands of a sub-round, one step of doubling.
 // All of these take canonical words; loops over columns and over the tree call them.
-ghost use mathlib.Core.Path.{_≡_};
 ghost use Rattle.field.specs.Ext as E;
 ghost use Rattle.field.specs.ExtRing.{ExtRing};
 ghost use Rattle.field.specs.Element.{dec, Canon, Is};
@@ -80,17 +79,6 @@ pub fn pair_minus(a: Frac, b: Frac) -> Frac
     }
 }
 
-// The lines through numerators and through denominators, taken at r.
-pub fn pair_line(a: Frac, b: Frac, r: Ext) -> Frac
-    requires { ⌜ CanonFrac a × CanonFrac b × Canon r ⌝ }
-    ensures { λ x. ⌜ IsFrac x (zipFrac (line (dec r)) (decFrac a) (decFrac b)) ⌝ }
-{
-    Frac {
-        p: line_at(a.p, b.p, r),
-        q: line_at(a.q, b.q, r),
-    }
-}
-
 // All five columns added.
 pub fn entry_plus(a: Entry, b: Entry) -> Entry
     requires { ⌜ CanonEntry a × CanonEntry b ⌝ }
@@ -115,15 +103,22 @@ pub fn entry_minus(a: Entry, b: Entry) -> Entry
     }
 }
 
-// All five columns of the line at r.
+// All five columns of the line at r. The five lines stand here one by one, so that the compiler takes them into a loop over entries
+// and the multiples of 11 of r out of it.
 pub fn entry_line(a: Entry, b: Entry, r: Ext) -> Entry
     requires { ⌜ CanonEntry a × CanonEntry b × Canon r ⌝ }
     ensures { λ x. ⌜ IsEntry x (line (dec r) (dec (a .e)) (dec (b .e))) (zip (line (dec r)) (decClaims a) (decClaims b)) ⌝ }
 {
     Entry {
         e: line_at(a.e, b.e, r),
-        l: pair_line(a.l, b.l, r),
-        r: pair_line(a.r, b.r, r),
+        l: Frac {
+            p: line_at(a.l.p, b.l.p, r),
+            q: line_at(a.l.q, b.l.q, r),
+        },
+        r: Frac {
+            p: line_at(a.r.p, b.r.p, r),
+            q: line_at(a.r.q, b.r.q, r),
+        },
     }
 }
 

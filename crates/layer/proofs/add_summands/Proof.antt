@@ -6,7 +6,7 @@ use Rattle.layer.proofs.add_summands.Tie as tie
 use Rattle.layer.proofs.add_summands.Reads as reads
 use Rattle.layer.proofs.add_summands.Lts as lts
 use Rattle.layer.proofs.load_entry.Reads as load-entry-reads
-use Rattle.step.proofs.summands.Reads as summands-reads
+use Rattle.step.proofs.weighed_summands.Reads as weighed-summands-reads
 use Rattle.step.proofs.three_plus.Reads as three-plus-reads
 
 mul-load-entry : tie.Need-mul-load-entry
@@ -24,14 +24,14 @@ add-load-entry c = search needs
 load-entry-requires-2 : tie.Need-load-entry-requires-2
 load-entry-requires-2 c κs = search needs
 
-summands-requires : tie.Need-summands-requires
-summands-requires c κs = search needs
+weighed-summands-requires : tie.Need-weighed-summands-requires
+weighed-summands-requires c κs = search needs
 
 three-plus-requires : tie.Need-three-plus-requires
 three-plus-requires c κs = search needs
 
 returns : tie.Need-returns
-returns c = sums-added _ (c .before .before .before .before .before .args .eq) (c .before .before .before .before .before .args .pq) (c .before .before .before .before .before .args .y) _ _ _ (c .before .before .before .load-entry .ensures) (c .before .before .load-entry2 .ensures) (c .before .before .before .before .before .args .acc) _ _ (c .before .summands .ensures) (c .three-plus .ensures)
+returns c = sums-added _ (c .before .before .before .before .before .args .eq) (c .before .before .before .before .before .args .pq) (c .before .before .before .before .before .args .y) _ _ (c .before .before .before .load-entry .ensures) (c .before .before .load-entry2 .ensures) (c .before .before .before .before .before .args .acc) _ _ (c .before .weighed-summands .ensures) (c .three-plus .ensures)
 
 pub add-summands-spec : {M : Type 1} → statement M
 add-summands-spec =
@@ -42,6 +42,6 @@ add-summands-spec =
     mul-load-entry-2
     add-load-entry
     load-entry-requires-2
-    summands-requires
+    weighed-summands-requires
     three-plus-requires
     returns)

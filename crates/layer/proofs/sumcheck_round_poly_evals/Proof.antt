@@ -1,6 +1,5 @@
 use Prim.Native.Nat.{_≤_, _-_}
 use mathlib.Core.Path.{_≡_}
-use Rattle.field.specs.Element.{dec}
 use Rattle.field.specs.Ext as E
 use Rattle.field.specs.ExtRing.{ExtRing}
 use Rattle.multilinear.specs.Table as Table
@@ -16,10 +15,10 @@ use Rattle.layer.proofs.sumcheck_round_poly_evals.Lts as lts
 use Rattle.layer.proofs.add_summands.Reads as add-summands-reads
 
 abbrev Inv-loop : tie.InvT-loop
-Inv-loop work eq pq half lambda acc₀ y₀ acc y = (y ≤ half) × IsThree acc (Table.sum ExtRing y (summand work eq pq (dec lambda) E.one)) (Table.sum ExtRing y (summand work eq pq (dec lambda) two)) (Table.sum ExtRing y (summand work eq pq (dec lambda) three))
+Inv-loop work eq pq half acc₀ y₀ acc y = (y ≤ half) × IsThree acc (Table.sum ExtRing y (summand work eq pq E.nil E.one)) (Table.sum ExtRing y (summand work eq pq E.nil two)) (Table.sum ExtRing y (summand work eq pq E.nil three))
 
 abbrev μ-loop : tie.MeasureT-loop
-μ-loop work eq pq half lambda acc₀ y₀ acc y = half - y
+μ-loop work eq pq half acc₀ y₀ acc y = half - y
 
 loop-holds : tie.Need-loop-holds Inv-loop μ-loop
 loop-holds c = (search needs, three-none _ _ _ _ zero-is zero-is zero-is)

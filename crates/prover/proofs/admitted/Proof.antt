@@ -4,7 +4,6 @@ use lib.Seq.{length-take-le}
 use Rattle.gate.proofs.Sizing.{pow-small}
 use Rattle.prover.proofs.Opening.{run-room, rows-room, parts-room, supplied-part}
 use Rattle.prover.proofs.Parts.{run-parts, no-parts}
-use mathlib.Core.Path.{_≡_, sym, _∙_}
 use Rattle.gate.specs.Refusals.{rowCount, roundsOf}
 use native.Mathlib.Omega.{arith}
 use borrow.Author.Needs.{needs}

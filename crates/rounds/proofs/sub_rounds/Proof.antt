@@ -1,90 +1,58 @@
-use Prim.Native.Nat.{suc, _+_, _≤_, _-_, _^_}
-use mathlib.Core.Path.{_≡_, _∙_, ap, sym}
-use lib.ListN.{length}
+use mathlib.Core.Path.{_∙_, ap}
+use lib.Pow.{pow-pos}
 use Rattle.field.specs.Element.{dec}
-use Rattle.rounds.specs.SubRounds.{Going}
-use Rattle.rounds.proofs.Sending.{going-none, going-next, going-end, half-down}
-use borrow.Author.Needs.{needs}
+use Rattle.step.specs.Values.{minus}
+use Rattle.layer.proofs.Entries.{zero-is}
+use Rattle.rounds.proofs.Weighing.{weighed-rounds}
 use native.Mathlib.Omega.{arith}
+use borrow.Author.Needs.{needs}
 use Rattle.rounds.proofs.sub_rounds.Statement.{statement}
 use Rattle.rounds.proofs.sub_rounds.Tie as tie
 use Rattle.rounds.proofs.sub_rounds.Reads as reads
 use Rattle.rounds.proofs.sub_rounds.Lts as lts
-use Rattle.rounds.proofs.sub_round.Reads as sub-round-reads
+use Rattle.field.proofs.Ext.minus.Reads as minus-reads
+use Rattle.layer.proofs.weigh.Reads as weigh-reads
+use Rattle.rounds.proofs.weighed_sub_rounds.Reads as weighed-sub-rounds-reads
 
-abbrev Inv-loop : tie.InvT-loop
-Inv-loop work₀ eq pq round size lambda xi₀ log₀ challenges p₀ half₀ j₀ work xi log p half j = (j ≤ round) × (length work ≡ length work₀) × (length xi ≡ length xi₀) × (length log ≡ length log₀) × (half ≡ 2 ^ (round - j)) × (half ≤ size) × Going work₀ work xi₀ xi log₀ log challenges eq pq j (round - j) round size (dec lambda) p₀ p
+weigh-requires : tie.Need-weigh-requires
+weigh-requires c κs = search needs
 
-abbrev μ-loop : tie.MeasureT-loop
-μ-loop work₀ eq pq round size lambda xi₀ log₀ challenges p₀ half₀ j₀ work xi log p half j = round - j
+weighed-sub-rounds-requires : tie.Need-weighed-sub-rounds-requires
+weighed-sub-rounds-requires c κs =
+    let p = c .before .before .before .before .before .before .before .before .before .before .before .pre in
+    (p .0, ((p .1 .0 .0, omega (arith, p .1 .0 .1, c .before .before .before .before .before .weigh .kept)), (p .1 .1 .0, (c .before .before .before .before .before .weigh .ensures .clean, p .1 .1 .1 .1, p .1 .1 .1 .2))))
 
-loop-holds : tie.Need-loop-holds Inv-loop μ-loop
-loop-holds c =
-    let a = c .before .before .before .before .args in
-    let p = c .before .before .before .before .pre in
-    let z : a .round ≡ a .round - 0 = omega arith in
-    (search needs, search needs, search needs, search needs, p .0 ∙ ap (λ n. 2 ^ n) z, search needs, going-none _ _ _ _ _ _ _ _ _ _ _ (sym z) (p .1 .1 .1 .0) (p .1 .1 .1 .1))
+minus-requires : tie.Need-minus-requires
+minus-requires c κs = search needs
 
-add-sub-round : tie.Need-add-sub-round Inv-loop μ-loop
-add-sub-round c = search needs
+weigh-requires-2 : tie.Need-weigh-requires-2
+weigh-requires-2 c κs =
+    let p = c .before .before .before .before .before .before .before .before .before .before .before .before .before .before .before .before .before .before .before .before .pre in
+    (omega (arith, p .0, p .1 .0 .0, p .1 .0 .1, pow-pos (c .before .before .before .before .before .before .before .before .before .before .before .before .before .before .before .before .before .before .before .before .args .round), c .before .before .before .before .before .before .before .before .before .before .before .before .before .before .weigh .kept, c .before .before .before .before .before .before .before .before .weighed-sub-rounds .kept), (c .before .before .before .before .before .before .before .before .weighed-sub-rounds .ensures .clean, c .minus .ensures .canon))
 
-sub-round-requires : tie.Need-sub-round-requires Inv-loop μ-loop
-sub-round-requires c κs =
-    let p = c .before .before .before .before .before .before .before .before .before .pre in
-    let l = c .before .before .before .before .loop in
-    let h = half-down (l .half) (c .before .before .before .before .before .before .before .before .before .args .round) (l .j) (c .before .before .before .loop-test .taken) (l .inv .4) in
-    let g = l .inv .6 in (
-      (omega (arith, h .1), omega (arith, h .1)),
-      ((omega arith, omega (arith, g .steps .put), omega (arith, g .steps .used)), (g .clean, g .points, p .1 .1 .1 .2, p .1 .1 .1 .3)),
-    )
-
-add-j : tie.Need-add-j Inv-loop μ-loop
-add-j c = search needs
-
-loop-less : tie.Need-loop-less Inv-loop μ-loop
-loop-less c = search needs
-
-loop-again : tie.Need-loop-again Inv-loop μ-loop
-loop-again c =
-    let a = c .before .before .before .before .before .before .before .before .before .before .before .before .before .before .before .before .args in
-    let l = c .before .before .before .before .before .before .before .before .before .before .before .loop in
-    let h = half-down (l .half) (a .round) (l .j) (c .before .before .before .before .before .before .before .before .before .before .loop-test .taken) (l .inv .4) in
-    let g = l .inv .6 in
-    let m = a .round - (l .j + 1) in
-    let e : a .round - l .j ≡ suc m = omega arith in (
-      search needs,
-      search needs,
-      search needs,
-      search needs,
-      h .0,
-      omega (arith, h .1),
-      going-next _ (l .work) _ _ (l .xi) _ _ (l .log) _ _ _ _ (l .j) m _ _ _ _ _ (l .p) _ (h .0) (omega (arith, h .1)) (rw e at g) (c .before .before .before .before .before .before .sub-round .ensures m (h .0)),
-    )
-
-same-length : tie.Need-same-length Inv-loop μ-loop
+same-length : tie.Need-same-length
 same-length c = search needs
 
-same-length-2 : tie.Need-same-length-2 Inv-loop μ-loop
+same-length-2 : tie.Need-same-length-2
 same-length-2 c = search needs
 
-same-length-3 : tie.Need-same-length-3 Inv-loop μ-loop
+same-length-3 : tie.Need-same-length-3
 same-length-3 c = search needs
 
-returns : tie.Need-returns Inv-loop μ-loop
-returns c = going-end _ _ _ _ _ _ _ _ _ (c .before .loop .j) _ _ _ _ _ _ (omega arith) (omega arith) (c .before .loop .inv .6)
+returns : tie.Need-returns
+returns c =
+    let p = c .before .before .before .before .before .before .before .before .before .before .before .before .before .before .before .before .before .before .before .before .before .before .before .pre in
+    let a = c .before .before .before .before .before .before .before .before .before .before .before .before .before .before .before .before .before .before .before .before .before .before .before .args in
+    weighed-rounds _ _ _ _ _ _ _ _ _ (a .eq) (a .pq) (a .round) (a .size) (dec (a .lambda)) _ _ _ (p .0) (p .1 .0 .0) (c .before .before .before .minus .ensures .value ∙ ap (λ z. minus z (dec (a .lambda))) (zero-is .value)) (c .before .before .before .before .before .before .before .before .before .before .before .before .before .before .before .before .before .weigh .ensures) (c .before .before .before .before .before .before .before .before .before .before .before .weighed-sub-rounds .ensures) (c .before .before .weigh2 .ensures)
 
 pub sub-rounds-spec : {M : Type 1} → statement M
 sub-rounds-spec =
     tie.close
     (tie.spec
-    Inv-loop
-    μ-loop
-    loop-holds
-    add-sub-round
-    sub-round-requires
-    add-j
-    loop-less
-    loop-again
+    weigh-requires
+    weighed-sub-rounds-requires
+    minus-requires
+    weigh-requires-2
     same-length
     same-length-2
     same-length-3
