@@ -13,7 +13,7 @@ use Rattle.field.specs.ExtRing.{ExtRing}
 use Rattle.field.specs.Extension.{Extension}
 use Rattle.field.specs.declared.Ext.{Ext}
 use Rattle.field.specs.Element.{dec, enc, Canon, Is, sameWords}
-use Rattle.field.specs.ElementLaws.{same-is, enc-of-is}
+use Rattle.field.specs.ElementLaws.{same-is, enc-of-is, zero-is}
 use Rattle.field.specs.Cells.{cell, Clean, Stored}
 use Rattle.multilinear.specs.RoundSum as RoundSum
 use Rattle.multilinear.specs.RoundSum.{Claims}
@@ -38,7 +38,6 @@ use Rattle.round.specs.Values.{columns}
 use Rattle.round.specs.Points.{segment}
 use Rattle.round.specs.Verdicts.{Model, answerOf, pointOf, loggedBy}
 use Rattle.round.specs.Rounds.{Descended, Goes, Stops, Came, Closed, Rooted}
-use Rattle.round.proofs.Arithmetic.{zero-is}
 use Rattle.round.proofs.Points.{headed}
 
 -- the model's log after the claims c
@@ -144,7 +143,7 @@ module _ (ch lg : List ℕ) (q0 : Ext) (c : Claims E.Ext) (pos : Pos) (numer den
   opening = refl
 
   zero-test : sameWords numer (record { c0 = 0; c1 = 0; c2 = 0; c3 = 0 }) ≡ E.same (R .p) E.nil
-  zero-test = same-is x (record { canon = record { c0 = omega arith; c1 = omega arith; c2 = omega arith; c3 = omega arith }; value = zero-is })
+  zero-test = same-is x zero-is
 
   zero-fails : {b : Bool} → b ≡ sameWords numer (record { c0 = 0; c1 = 0; c2 = 0; c3 = 0 }) → b ≡ false
       → Gkr.root Extension (Supplied ch) (dec q0) c cs mss (logOf lg pos) ≡ zero-check (R .p) (after c t₀)

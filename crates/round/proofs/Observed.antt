@@ -8,7 +8,7 @@ use Rattle.field.specs.ExtRing.{ExtRing}
 use Rattle.field.specs.Extension.{Extension}
 use Rattle.field.specs.declared.Ext.{Ext}
 use Rattle.field.specs.Element.{dec, Is}
-use Rattle.field.specs.ElementLaws.{is-eq}
+use Rattle.field.specs.ElementLaws.{is-eq, one-is}
 use Rattle.field.specs.Cells.{cell, Stored}
 use Rattle.multilinear.specs.Forms as Forms
 use Rattle.multilinear.specs.Interpolate as Interpolate
@@ -21,9 +21,7 @@ use Rattle.gkr.specs.Gkr as Gkr
 use Rattle.transcript.specs.declared.Pos.{Pos}
 use Rattle.transcript.specs.declared.Drawn.{Drawn}
 use Rattle.transcript.specs.Log.{Supplied, logOf, Steps}
-use native.Mathlib.Omega.{arith}
 use Rattle.transcript.proofs.Logs.{then, retold}
-use Rattle.round.proofs.Arithmetic.{one-is}
 use Rattle.step.specs.declared.Frac.{Frac}
 use Rattle.step.specs.Values.{IsFrac, minus}
 use Rattle.round.specs.declared.Layer.{Layer}
@@ -80,6 +78,6 @@ opened pt lg lg' ch s d prod claim xi a v p c x =
       steps = a;
       lambda = v;
       claim = is-eq c (ap (E.add (dec (s .numer))) (p .value ∙ ap (λ y. E.mul y (dec (s .denom))) (v .value)));
-      eq = record { canon = record { c0 = omega arith; c1 = omega arith; c2 = omega arith; c3 = omega arith }; value = one-is };
+      eq = one-is;
       xi = x;
     }

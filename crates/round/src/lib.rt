@@ -9,7 +9,6 @@ ghost use Rattle.field.specs.ExtRing.{ExtRing};
 ghost use Rattle.field.specs.Extension.{Extension};
 ghost use Rattle.field.specs.Element.{dec, Canon, Is};
 ghost use Rattle.field.specs.Cells.{cell, Clean};
-ghost use Rattle.multilinear.specs.Forms as Forms;
 ghost use Rattle.multilinear.specs.Interpolate as Interpolate;
 ghost use Rattle.multilinear.specs.RoundSum as RoundSum;
 ghost use Rattle.gkr.specs.Tree as Tree;
@@ -115,15 +114,6 @@ pub fn next_claim(claim: Ext, m: SubroundEvals, rho: Ext) -> Ext
     step::interpolate::cubic_at(at0, m.s_1, m.s_2, m.s_3, rho)
 }
 
-// eq goes on by xi·rho + (1 - xi)·(1 - rho): two products.
-pub fn update_eq(eq: Ext, xi: Ext, rho: Ext) -> Ext
-    requires { ⌜ Canon eq × Canon xi × Canon rho ⌝ }
-    ensures { λ r. ⌜ Is r (E.mul (dec eq) (Forms.agree ExtRing (dec xi) (dec rho))) ⌝ }
-{
-    let both = xi.times(rho);
-    eq.times(both.plus(both).plus(Ext::ONE.minus(xi).minus(rho)))
-}
-
 // The start of a layer: lambda is sampled, and batches the two claims.
 pub fn open_layer(point: &[u32], log: &mut [u32], challenges: &[u32], s: Layer) -> Opened
     requires room { ⌜ (4 ≤ length (now point)) × (s .pos .put + 4 ≤ length (now log)) × (4 * s .pos .used + 3 < length (now challenges)) ⌝ }
@@ -161,7 +151,7 @@ pub fn sub_round(
     field::store(point, i, rho);
     let pos = d.pos;
     let claim = next_claim(s.claim, m, rho);
-    let eq = update_eq(s.eq, s.xi, rho);
+    let eq = step::eq::eq_step(s.eq, s.xi, rho);
     Sums { pos, claim, eq, xi }
 }
 

@@ -11,7 +11,7 @@ use Rattle.field.proofs.load.Reads as load-reads
 use Rattle.field.proofs.store.Reads as store-reads
 use Rattle.round.proofs.next_claim.Reads as next-claim-reads
 use Rattle.round.proofs.observe_cubic.Reads as observe-cubic-reads
-use Rattle.round.proofs.update_eq.Reads as update-eq-reads
+use Rattle.step.proofs.eq.eq_step.Reads as eq-step-reads
 use Rattle.transcript.proofs.sample_ext.Reads as sample-ext-reads
 
 add-i : tie.Need-add-i
@@ -32,8 +32,8 @@ store-requires c κs = (omega (arith, c .before .before .before .before .before 
 next-claim-requires : tie.Need-next-claim-requires
 next-claim-requires c κs = (c .before .before .before .before .before .before .before .before .before .before .before .before .before .before .before .before .before .before .before .pre .1 .3 .claim, c .before .before .before .before .before .before .before .before .before .before .before .before .before .before .before .before .before .before .before .pre .1 .2, c .before .before .before .before .before .before .before .before .sample-ext .ensures .1 .canon)
 
-update-eq-requires : tie.Need-update-eq-requires
-update-eq-requires c κs = (c .before .before .before .before .before .before .before .before .before .before .before .before .before .before .before .before .before .before .before .before .pre .1 .3 .eq, c .before .before .before .before .before .before .before .before .before .before .before .before .before .before .before .before .before .before .before .before .pre .1 .3 .xi, c .before .before .before .before .before .before .before .before .before .sample-ext .ensures .1 .canon)
+eq-step-requires : tie.Need-eq-step-requires
+eq-step-requires c κs = search (needs, c .before .before .before .before .before .before .before .before .before .before .before .before .before .before .before .before .before .before .before .before .pre .1 .3 .eq, c .before .before .before .before .before .before .before .before .before .before .before .before .before .before .before .before .before .before .before .before .pre .1 .3 .xi, c .before .before .before .before .before .before .before .before .before .sample-ext .ensures .1 .canon)
 
 same-length : tie.Need-same-length
 same-length c = search needs
@@ -42,7 +42,7 @@ same-length-2 : tie.Need-same-length-2
 same-length-2 c = search needs
 
 returns : tie.Need-returns
-returns c = sub-done _ _ _ _ _ _ _ (decCubic (cubicIn (c .before .before .before .before .before .before .before .before .before .before .before .before .before .before .before .before .before .before .before .before .before .args .m))) (c .before .before .before .before .before .before .before .before .before .before .before .before .before .before .before .before .before .before .before .before .before .args .s) _ (c .before .before .before .before .before .before .before .before .before .before .sample-ext .result) _ _ _ (c .before .before .before .before .before .before .before .before .before .before .before .before .before .before .observe-cubic .ensures) (c .before .before .before .before .before .before .before .before .before .before .sample-ext .ensures .0) (c .before .before .before .before .before .before .before .before .before .before .sample-ext .ensures .1) (c .before .before .before .before .before .store .ensures) (c .before .before .before .before .before .before .before .before .before .before .before .before .before .before .before .before .load .ensures) (c .before .next-claim .ensures) (c .update-eq .ensures)
+returns c = sub-done _ _ _ _ _ _ _ (decCubic (cubicIn (c .before .before .before .before .before .before .before .before .before .before .before .before .before .before .before .before .before .before .before .before .before .args .m))) (c .before .before .before .before .before .before .before .before .before .before .before .before .before .before .before .before .before .before .before .before .before .args .s) _ (c .before .before .before .before .before .before .before .before .before .before .sample-ext .result) _ _ _ (c .before .before .before .before .before .before .before .before .before .before .before .before .before .before .observe-cubic .ensures) (c .before .before .before .before .before .before .before .before .before .before .sample-ext .ensures .0) (c .before .before .before .before .before .before .before .before .before .before .sample-ext .ensures .1) (c .before .before .before .before .before .store .ensures) (c .before .before .before .before .before .before .before .before .before .before .before .before .before .before .before .before .load .ensures) (c .before .next-claim .ensures) (c .eq-step .ensures)
 
 pub sub-round-spec : {M : Type 1} → statement M
 sub-round-spec =
@@ -54,7 +54,7 @@ sub-round-spec =
     sample-ext-requires
     store-requires
     next-claim-requires
-    update-eq-requires
+    eq-step-requires
     same-length
     same-length-2
     returns)
