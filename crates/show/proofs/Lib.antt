@@ -1,2 +1,3 @@
 -- The laws of the text.
 pub mod Reading
+pub mod Counts

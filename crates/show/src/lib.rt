@@ -1,4 +1,8 @@
 // A sheet's answers as text: it is proved in sandbox mode with zero asserted, and the proof is verified. Challenge k, from 1, is the element k.
+ghost use mathlib.Core.Path.{_≡_};
+ghost use Prim.Native.Nat.{_/_};
+ghost use lib.ListN.{length};
+ghost use Rattle.show.specs.Counting.{countedUp};
 use agreement::Joint;
 use field::Ext;
 use refusal::Refusal;
@@ -6,7 +10,8 @@ use round::Verdict;
 use step::Frac;
 use stored::SheetAnswer;
 
-fn print_number(name: &[u8], n: u64) {
+// A name and a number, on a line.
+pub fn print_number(name: &[u8], n: u64) {
     io::write_all(1, name);
     io::print_decimal(1, n);
     io::write_all(1, b"\n");
@@ -37,7 +42,7 @@ pub fn print_refusal(refusal: Refusal) {
     );
 }
 
-fn print_sum(sum: Frac) {
+pub fn print_sum(sum: Frac) {
     io::write_all(1, b"sum");
     print_ext(sum.p);
     print_ext(sum.q);
@@ -65,14 +70,17 @@ fn print_point(point: &[u32], n: usize) {
     io::write_all(1, b"\n");
 }
 
+// Verdict 0, the two claims, and the first n coordinates of the point.
+pub fn print_accepted(numer: Ext, denom: Ext, point: &[u32], n: usize) {
+    print_number(b"verdict ", 0);
+    print_named(b"numer", numer);
+    print_named(b"denom", denom);
+    print_point(point, n);
+}
+
 fn print_verdict(verdict: Verdict, point: &[u32], n: usize) {
     match verdict {
-        Verdict::Accepted { numer, denom } => {
-            print_number(b"verdict ", 0);
-            print_named(b"numer", numer);
-            print_named(b"denom", denom);
-            print_point(point, n);
-        }
+        Verdict::Accepted { numer, denom } => print_accepted(numer, denom, point, n),
         Verdict::Refused(refusal) => print_number(
             b"verdict ",
             refusal::number_and_fields(refusal).number as u64,
@@ -81,12 +89,12 @@ fn print_verdict(verdict: Verdict, point: &[u32], n: usize) {
 }
 
 // The challenges 1, 2, 3, .. in a cleared buffer.
-fn count_up(challenges: &mut [u32]) {
+pub fn count_up(challenges: &mut [u32])
+    ensures { λ _. ⌜ now (challenges .exit) ≡ countedUp (length (now (challenges .entry)) / 4) (now (challenges .entry)) ⌝ }
+{
     let n = challenges.len() / 4;
-    let mut word = 0;
     for k in 0..n {
-        word = std::num::wrapping_add_u32(word, 1);
-        challenges[4 * k] = word;
+        challenges[4 * k] = (k % 2013265920) as u32 + 1;
     }
 }
 

@@ -1,23 +1,30 @@
--- `show::count_up` is safe and ends.
+-- `show::count_up` meets its contract.
 -- Assumes nothing.
-use mathlib.Core.Path.{_≡_}
-use Prim.Native.Nat.{_≤_, _-_, _*_}
+use mathlib.Core.Path.{_≡_, refl}
+use Prim.Native.Nat.{_≤_, _-_, _/_}
 use lib.ListN.{length}
+use Rattle.show.specs.Counting.{countedUp}
+use Rattle.show.proofs.Counts.{one-more}
 use borrow.Author.Needs.{needs}
+use native.Mathlib.Omega.{arith}
 use Rattle.show.proofs.count_up.Statement.{statement}
 use Rattle.show.proofs.count_up.Tie as tie
 
 abbrev Inv-loop : tie.InvT-loop
-Inv-loop challenges₀ n word₀ k₀ challenges word k = (k ≤ n) × (4 * n ≤ length challenges) × (length challenges ≡ length challenges₀)
+Inv-loop challenges₀ n k₀ challenges k = (k ≤ n) × (length challenges ≡ length challenges₀) × (challenges ≡ countedUp k challenges₀)
 
 abbrev μ-loop : tie.MeasureT-loop
-μ-loop challenges₀ n word₀ k₀ challenges word k = n - k
+μ-loop challenges₀ n k₀ challenges k = n - k
 
 loop-holds : tie.Need-loop-holds Inv-loop μ-loop
-loop-holds c = search needs
+unfolding countedUp
+loop-holds c = (search needs, refl, refl)
 
-wrapping-add-u32-requires : tie.Need-wrapping-add-u32-requires Inv-loop μ-loop
-wrapping-add-u32-requires c κs = search needs
+cast-challenges : tie.Need-cast-challenges Inv-loop μ-loop
+cast-challenges c = search needs
+
+add-challenges : tie.Need-add-challenges Inv-loop μ-loop
+add-challenges c = search needs
 
 mul-challenges : tie.Need-mul-challenges Inv-loop μ-loop
 mul-challenges c = search needs
@@ -35,13 +42,15 @@ loop-less : tie.Need-loop-less Inv-loop μ-loop
 loop-less c = search needs
 
 loop-again : tie.Need-loop-again Inv-loop μ-loop
-loop-again c = search needs
+loop-again c = (search needs, search needs, one-more _ _ _ (c .before .loop .inv .2))
 
 same-length : tie.Need-same-length Inv-loop μ-loop
 same-length c = search needs
 
 returns : tie.Need-returns Inv-loop μ-loop
-returns c = search needs
+returns c = let l = c .before .loop in
+    let q : l .k ≡ length (c .before .before .args .challenges .now) / 4 = omega arith in
+    rw (← q) (l .inv .2)
 
 pub count-up-spec : {M : Type 1} → statement M
 count-up-spec =
@@ -50,7 +59,8 @@ count-up-spec =
     Inv-loop
     μ-loop
     loop-holds
-    wrapping-add-u32-requires
+    cast-challenges
+    add-challenges
     mul-challenges
     mul-challenges-2
     slice-write-challenges

@@ -1,0 +1,2 @@
+-- What the commands read.
+pub mod Rows

@@ -1,0 +1,4 @@
+-- The laws of the text.
+pub mod Scanning
+pub mod Composing
+pub mod Listing

@@ -1,0 +1,125 @@
+// Runs the command lines of standard input, words with single spaces between them, and prints each before its answer;
+// `size NAME` prints the bytes of a file. Then the words of each refusal are printed.
+ghost use Rattle.io.specs.Counts.{Counts};
+use command::args::beyond;
+use command::args::find;
+use field::Ext;
+use refusal::Refusal;
+
+// The line with a byte 0 for each space and after it.
+fn split(line: &[u8], args: &mut [u8]) -> usize
+    ensures { λ r. ⌜ Counts r (now (args .exit)) ⌝ }
+{
+    if args.len() <= line.len() {
+        return 0;
+    }
+    let n = line.len();
+    for i in 0..n {
+        args[i] = zero_for_space(line[i]);
+    }
+    args[n] = 0;
+    n + 1
+}
+
+fn zero_for_space(b: u8) -> u8 {
+    if b == b' ' { 0 } else { b }
+}
+
+fn print_size(path: &[u8]) {
+    let mut bytes = [0u8; 32772];
+    let file = os::open_read(path);
+    if file < 0 {
+        io::write_all(1, b"no such file\n");
+        return;
+    }
+    let n = io::read_full(file, &mut bytes);
+    libc::close(file);
+    show::print_number(b"bytes ", n as u64);
+}
+
+// `size` is the one command whose second letter is i.
+fn run_line(line: &[u8]) {
+    io::write_all(1, b"$ ");
+    io::write_all(1, line);
+    io::write_all(1, b"\n");
+    if line.len() > 5 {
+        if line[1] == b'i' {
+            return print_size(&line[5..]);
+        }
+    }
+    let mut args = [0u8; 4096];
+    let n = split(line, &mut args);
+    command::args::run(&args[..n]);
+}
+
+fn run_lines(text: &[u8]) {
+    let mut at = 0;
+    while at < text.len() {
+        let end = find(text, at, b'\n');
+        run_line(&text[at..end]);
+        at = beyond(end, text.len());
+    }
+}
+
+fn element(c0: u32, c1: u32, c2: u32, c3: u32) -> Ext {
+    Ext { c0, c1, c2, c3 }
+}
+
+fn print_plain() {
+    command::refusals::print_refusal(Refusal::RaggedRows);
+    command::refusals::print_refusal(Refusal::TooManyRows);
+    command::refusals::print_refusal(Refusal::NotPowerOfTwo);
+    command::refusals::print_refusal(Refusal::ShortChallenges);
+    command::refusals::print_refusal(Refusal::ShortRoom);
+    command::refusals::print_refusal(Refusal::BadWord);
+    command::refusals::print_refusal(Refusal::ZeroDenominator { row: 1023 });
+    command::refusals::print_refusal(Refusal::NonZeroRootSum);
+    command::refusals::print_refusal(Refusal::SingleRow);
+    command::refusals::print_refusal(Refusal::ZeroRounds);
+    command::refusals::print_refusal(Refusal::TooManyRounds);
+    command::refusals::print_refusal(Refusal::BadVersion);
+    command::refusals::print_refusal(Refusal::BadLength);
+}
+
+fn print_counts() {
+    command::refusals::print_refusal(Refusal::IncorrectLayerCount {
+        expected: 3,
+        actual: 255,
+    });
+    command::refusals::print_refusal(Refusal::IncorrectSumcheckPolyCount {
+        expected: 2,
+        actual: 0,
+    });
+    command::refusals::print_refusal(Refusal::IncorrectSubroundCount {
+        round: 9,
+        expected: 9,
+        actual: 8,
+    });
+}
+
+fn print_elements() {
+    let half = element(1006632960, 0, 0, 0);
+    let above = element(1006632961, 0, 0, 0);
+    let minus = element(2013265920, 0, 0, 0);
+    let four = element(0, 1, 2013265919, 0);
+    command::refusals::print_refusal(Refusal::ZeroCheckFailed { actual: minus });
+    command::refusals::print_refusal(Refusal::RootConsistencyCheckFailed {
+        expected: half,
+        actual: above,
+    });
+    command::refusals::print_refusal(Refusal::LayerConsistencyCheckFailed {
+        round: 1,
+        expected: four,
+        actual: Ext::ZERO,
+    });
+}
+
+fn main() {
+    let mut text = [0u8; 8192];
+    let n = io::read_full(0, &mut text);
+    run_lines(&text[..n]);
+    io::write_all(1, b"the words of each refusal\n");
+    print_plain();
+    print_counts();
+    print_elements();
+}

@@ -1,0 +1,2 @@
+-- The counted challenges.
+pub mod Counting
