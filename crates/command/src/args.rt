@@ -1,12 +1,13 @@
 // The arguments of a command in one buffer, each ended by a byte 0, and the command that they ask for.
-ghost use mathlib.Core.Path.{_≡_};
-ghost use Prim.Native.Nat.{_+_, _≤_, min};
+ghost use Prim.Native.Nat.{_≤_};
 ghost use lib.ListN.{length};
 use crate::prove::Mode;
 use crate::prove::prove;
 use crate::sheets::make;
 use crate::sheets::show;
 use crate::verify::verify;
+use sheet_text::list::beyond;
+use sheet_text::list::find;
 
 struct Part {
     from: usize,
@@ -33,28 +34,6 @@ fn count(args: &[u8]) -> usize {
         n += one_if_zero(args[i]);
     }
     n
-}
-
-// The place of the next byte b from `at` on, or the length.
-pub fn find(text: &[u8], at: usize, b: u8) -> usize
-    requires { ⌜ at ≤ length (now text) ⌝ }
-    ensures { λ r. ⌜ (at ≤ r) × (r ≤ length (now (text .entry))) ⌝ }
-{
-    let mut i = at;
-    while i < text.len() {
-        if text[i] == b {
-            return i;
-        }
-        i += 1;
-    }
-    i
-}
-
-// The place after that one, or the length.
-pub fn beyond(at: usize, length: usize) -> usize
-    ensures { λ r. ⌜ r ≡ min (at + 1) «length» ⌝ }
-{
-    if at < length { at + 1 } else { length }
 }
 
 // Argument k, from 0; empty where there is none.

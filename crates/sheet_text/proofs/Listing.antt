@@ -18,31 +18,31 @@ use Rattle.sheet_text.specs.declared.Placed.{Placed}
 use Rattle.sheet_text.specs.declared.Placed.the-variants.{At, Other, Full}
 use Rattle.sheet_text.specs.declared.ListAnswer.the-variants as Ends
 use Rattle.sheet_text.specs.Lines.{lineOf}
-use Rattle.sheet_text.specs.Reading.{lineLength, longer, linesOf, Left, putSingle, putFraction, putLine, Ended, goOn, readLines}
+use Rattle.sheet_text.specs.Reading.{lengthTo, longer, linesOf, Left, putSingle, putFraction, putLine, Ended, goOn, readLines}
 
 module _ (text : List ℕ) (i : ℕ) where
   next : i < length text → drop i text ≡ getD text i 0 ∷ drop (i + 1) text
   next h = rw (add-one, drop-cons text i 0)
 
-  pub line-stops : i < length text → getD text i 0 ≡ 10 → lineLength (drop i text) ≡ 0
-  unfolding lineLength
-  line-stops h e = rw (next h, eq-eqb (getD text i 0) 10 e)
+  pub line-stops : (b : ℕ) → i < length text → getD text i 0 ≡ b → lengthTo b (drop i text) ≡ 0
+  unfolding lengthTo
+  line-stops b h e = rw (next h, eq-eqb (getD text i 0) b e)
 
-  pub line-more : i < length text → (getD text i 0 ≡ 10 → ⊥) → lineLength (drop i text) ≡ suc (lineLength (drop (i + 1) text))
-  unfolding lineLength
-  line-more h e = rw (next h, ne-eqb (getD text i 0) 10 e)
+  pub line-more : (b : ℕ) → i < length text → (getD text i 0 ≡ b → ⊥) → lengthTo b (drop i text) ≡ suc (lengthTo b (drop (i + 1) text))
+  unfolding lengthTo
+  line-more b h e = rw (next h, ne-eqb (getD text i 0) b e)
 
-  pub line-ends : length text ≤ i → lineLength (drop i text) ≡ 0
-  unfolding lineLength
-  line-ends h = rw (drop-of-length-le text h)
+  pub line-ends : (b : ℕ) → length text ≤ i → lengthTo b (drop i text) ≡ 0
+  unfolding lengthTo
+  line-ends b h = rw (drop-of-length-le text h)
 
 -- A text with a byte is its first line, and the lines after it.
 abbrev Cut : List ℕ → Type 0
 Cut [] = Unit {0}
-Cut (b ∷ rest) = linesOf (b ∷ rest) ≡ take (lineLength (b ∷ rest)) (b ∷ rest) ∷ linesOf (drop (suc (lineLength (b ∷ rest))) (b ∷ rest))
+Cut (b ∷ rest) = linesOf (b ∷ rest) ≡ take (lengthTo 10 (b ∷ rest)) (b ∷ rest) ∷ linesOf (drop (suc (lengthTo 10 (b ∷ rest))) (b ∷ rest))
 
 cut-on : (b : ℕ) (rest : List ℕ) (t : Bool) → eqb b 10 ≡ t → Cut rest → Cut (b ∷ rest)
-unfolding linesOf lineLength longer
+unfolding linesOf lengthTo longer
 cut-on b rest true e h = rw e
 cut-on b [] false e h = rw e
 cut-on b (d ∷ rest) false e h = rw (e, h)
@@ -152,7 +152,7 @@ module _ (pairs : Bool) (n put : ℕ) (ws text : List ℕ) (i : ℕ) where
   unfolding readLines linesOf
   lines-end h = rw (drop-of-length-le text h)
 
-  module _ (end : ℕ) (h : i < length text) (e : end ≡ i + lineLength (drop i text)) where
+  module _ (end : ℕ) (h : i < length text) (e : end ≡ i + lengthTo 10 (drop i text)) where
     -- what is read from here on is what the line leaves, and the lines after it
     turn : readLines pairs n put ws (linesOf (drop i text)) ≡ goOn (n + 1) (putLine pairs put ws (lineOf (take (end - i) (drop i text)))) (λ put' ws'. readLines pairs (n + 1) put' ws' (linesOf (drop (end + 1) text)))
     unfolding readLines
@@ -160,11 +160,11 @@ module _ (pairs : Bool) (n put : ℕ) (ws text : List ℕ) (i : ℕ) where
         let l = drop (i + 1) text in
         let b = getD text i 0 in
         let d : drop i text ≡ b ∷ l = next text i h in
-        let k₀ : end - i ≡ lineLength (drop i text) = omega arith in
-        let k : end - i ≡ lineLength (b ∷ l) = rw d at k₀ in
-        let q : i + suc (lineLength (drop i text)) ≡ end + 1 = omega arith in
-        let m₀ : drop (suc (lineLength (drop i text))) (drop i text) ≡ drop (end + 1) text = rw (← q) (drop-drop (suc (lineLength (drop i text))) i text) in
-        let m : drop (suc (lineLength (b ∷ l))) (b ∷ l) ≡ drop (end + 1) text = rw d at m₀ in
+        let k₀ : end - i ≡ lengthTo 10 (drop i text) = omega arith in
+        let k : end - i ≡ lengthTo 10 (b ∷ l) = rw d at k₀ in
+        let q : i + suc (lengthTo 10 (drop i text)) ≡ end + 1 = omega arith in
+        let m₀ : drop (suc (lengthTo 10 (drop i text))) (drop i text) ≡ drop (end + 1) text = rw (← q) (drop-drop (suc (lengthTo 10 (drop i text))) i text) in
+        let m : drop (suc (lengthTo 10 (b ∷ l))) (b ∷ l) ≡ drop (end + 1) text = rw d at m₀ in
         rw (k, ← m, d, cut (b ∷ l))
 
     module _ (line : Line) (r : Placed) (ws' : List ℕ) (el : line ≡ lineOf (take (end - i) (drop i text))) (er : _≡_ {A = Left} (record { answer = r; words = ws' }) (putLine pairs put ws line)) where

@@ -16,10 +16,10 @@ use Rattle.sheet_text.specs.declared.ListAnswer.{ListAnswer}
 use Rattle.sheet_text.specs.declared.ListAnswer.the-variants as Ends
 use Rattle.sheet_text.specs.Lines.{lineOf}
 
--- the bytes before the first line feed
-unfoldable pub lineLength : List ℕ → ℕ
-lineLength [] = 0
-lineLength (b ∷ rest) = cond (eqb b 10) 0 (suc (lineLength rest))
+-- how many bytes stand before the first b
+unfoldable pub lengthTo : ℕ → List ℕ → ℕ
+lengthTo b [] = 0
+lengthTo b (x ∷ rest) = cond (eqb x b) 0 (suc (lengthTo b rest))
 
 -- a byte in front of the first line
 unfoldable pub longer : ℕ → List (List ℕ) → List (List ℕ)

@@ -4,21 +4,21 @@ ghost use Prim.Native.Nat.{_+_, _≤_, min};
 ghost use lib.ListN.{length, drop};
 ghost use lib.Seq.{sets};
 ghost use Rattle.wire.specs.Words.{extWords};
-ghost use Rattle.sheet_text.specs.Reading.{lineLength, putSingle, putFraction, putLine, listRead, Within};
+ghost use Rattle.sheet_text.specs.Reading.{lengthTo, putSingle, putFraction, putLine, listRead, Within};
 use crate::Line;
 use crate::ListAnswer;
 use crate::Placed;
 use crate::lines::read_line;
 use field::Ext;
 
-// The place of the next line feed from `at` on, or the length.
-fn line_end(text: &[u8], at: usize) -> usize
+// The place of the next byte b from `at` on, or the length.
+pub fn find(text: &[u8], at: usize, b: u8) -> usize
     requires { ⌜ at ≤ length (now text) ⌝ }
-    ensures { λ r. ⌜ (r ≡ at + lineLength (drop at (now (text .entry)))) × (r ≤ length (now (text .entry))) ⌝ }
+    ensures { λ r. ⌜ (r ≡ at + lengthTo b (drop at (now (text .entry)))) × (r ≤ length (now (text .entry))) ⌝ }
 {
     let mut i = at;
     while i < text.len() {
-        if text[i] == b'\n' {
+        if text[i] == b {
             return i;
         }
         i += 1;
@@ -82,12 +82,11 @@ fn put_line(words: &mut [u32], at: usize, line: Line, pairs: bool) -> Placed
     }
 }
 
-// The place after the end of a line, or the length.
-fn line_start(end: usize, length: usize) -> usize
-    requires { ⌜ end ≤ «length» ⌝ }
-    ensures { λ r. ⌜ r ≡ min (end + 1) «length» ⌝ }
+// The place after this one, or the length.
+pub fn beyond(at: usize, length: usize) -> usize
+    ensures { λ r. ⌜ r ≡ min (at + 1) «length» ⌝ }
 {
-    if end < length { end + 1 } else { end }
+    if at < length { at + 1 } else { length }
 }
 
 // Every line of a text, fractions or single elements, into the words from the front on.
@@ -99,14 +98,14 @@ pub fn read_list(text: &[u8], words: &mut [u32], pairs: bool) -> ListAnswer
     let mut line = 0;
     let mut put = 0;
     while at < text.len() {
-        let end = line_end(text, at);
+        let end = find(text, at, b'\n');
         line += 1;
         match put_line(words, put, read_line(&text[at..end]), pairs) {
             Placed::At(next) => put = next,
             Placed::Other => return ListAnswer::Malformed(line),
             Placed::Full => return ListAnswer::Full(line),
         }
-        at = line_start(end, text.len());
+        at = beyond(end, text.len());
     }
     ListAnswer::Done(put)
 }

@@ -1,10 +1,10 @@
 // Runs the command lines of standard input, words with single spaces between them, and prints each before its answer;
 // `size NAME` prints the bytes of a file. Then the words of each refusal are printed.
 ghost use Rattle.io.specs.Counts.{Counts};
-use command::args::beyond;
-use command::args::find;
 use field::Ext;
 use refusal::Refusal;
+use sheet_text::list::beyond;
+use sheet_text::list::find;
 
 // The line with a byte 0 for each space and after it.
 fn split(line: &[u8], args: &mut [u8]) -> usize

@@ -18,8 +18,8 @@ abbrev μ-loop : tie.MeasureT-loop
 loop-holds : tie.Need-loop-holds Inv-loop μ-loop
 loop-holds c = (search needs, search needs, search needs, refl, refl)
 
-line-end-requires : tie.Need-line-end-requires Inv-loop μ-loop
-line-end-requires c κs = search needs
+find-requires : tie.Need-find-requires Inv-loop μ-loop
+find-requires c κs = search needs
 
 add-line : tie.Need-add-line Inv-loop μ-loop
 add-line c = search needs
@@ -49,7 +49,7 @@ same-length : tie.Need-same-length Inv-loop μ-loop
 same-length c = search needs
 
 returns : tie.Need-returns Inv-loop μ-loop
-returns c = (line-other _ _ _ (c .before .before .before .before .before .before .before .before .before .before .loop .words) (c .before .before .before .before .before .before .before .before .before .before .before .before .before .args .text .now) (c .before .before .before .before .before .before .before .before .before .before .loop .at) _ (c .before .before .before .before .before .before .before .before .before .loop-test .taken) (c .before .before .before .before .before .before .before .before .line-end .ensures .0) _ _ _ (c .before .before .before .before .before .read-line .ensures) (c .before .before .before .before .put-line .ensures) (c .enum-told .given .1) ∙ c .before .before .before .before .before .before .before .before .before .before .loop .inv .4, tt)
+returns c = (line-other _ _ _ (c .before .before .before .before .before .before .before .before .before .before .loop .words) (c .before .before .before .before .before .before .before .before .before .before .before .before .before .args .text .now) (c .before .before .before .before .before .before .before .before .before .before .loop .at) _ (c .before .before .before .before .before .before .before .before .before .loop-test .taken) (c .before .before .before .before .before .before .before .before .find .ensures .0) _ _ _ (c .before .before .before .before .before .read-line .ensures) (c .before .before .before .before .put-line .ensures) (c .enum-told .given .1) ∙ c .before .before .before .before .before .before .before .before .before .before .loop .inv .4, tt)
 
 enum-told-2 : tie.Need-enum-told-2 Inv-loop μ-loop
 enum-told-2 c = search needs
@@ -58,16 +58,16 @@ same-length-2 : tie.Need-same-length-2 Inv-loop μ-loop
 same-length-2 c = search needs
 
 returns-2 : tie.Need-returns-2 Inv-loop μ-loop
-returns-2 c = (line-full _ _ _ (c .before .before .before .before .before .before .before .before .before .before .loop .words) (c .before .before .before .before .before .before .before .before .before .before .before .before .before .args .text .now) (c .before .before .before .before .before .before .before .before .before .before .loop .at) _ (c .before .before .before .before .before .before .before .before .before .loop-test .taken) (c .before .before .before .before .before .before .before .before .line-end .ensures .0) _ _ _ (c .before .before .before .before .before .read-line .ensures) (c .before .before .before .before .put-line .ensures) (c .enum-told2 .given .1) ∙ c .before .before .before .before .before .before .before .before .before .before .loop .inv .4, tt)
+returns-2 c = (line-full _ _ _ (c .before .before .before .before .before .before .before .before .before .before .loop .words) (c .before .before .before .before .before .before .before .before .before .before .before .before .before .args .text .now) (c .before .before .before .before .before .before .before .before .before .before .loop .at) _ (c .before .before .before .before .before .before .before .before .before .loop-test .taken) (c .before .before .before .before .before .before .before .before .find .ensures .0) _ _ _ (c .before .before .before .before .before .read-line .ensures) (c .before .before .before .before .put-line .ensures) (c .enum-told2 .given .1) ∙ c .before .before .before .before .before .before .before .before .before .before .loop .inv .4, tt)
 
-line-start-requires : tie.Need-line-start-requires Inv-loop μ-loop
-line-start-requires c κs = search needs
+beyond-requires : tie.Need-beyond-requires Inv-loop μ-loop
+beyond-requires c κs = search needs
 
 loop-less : tie.Need-loop-less Inv-loop μ-loop
 loop-less c = search needs
 
 loop-again : tie.Need-loop-again Inv-loop μ-loop
-loop-again c = (search needs, search needs, put-fits _ _ _ (c .before .before .before .before .before .before .before .before .before .before .before .before .loop .words) _ _ _ (c .before .before .before .before .before .before .put-line .ensures) (c .before .before .next .given .1) (search needs), search needs, line-on _ _ _ (c .before .before .before .before .before .before .before .before .before .before .before .before .loop .words) (c .before .before .before .before .before .before .before .before .before .before .before .before .before .before .before .args .text .now) (c .before .before .before .before .before .before .before .before .before .before .before .before .loop .at) _ (c .before .before .before .before .before .before .before .before .before .before .before .loop-test .taken) (c .before .before .before .before .before .before .before .before .before .before .line-end .ensures .0) _ _ _ (c .before .before .before .before .before .before .before .read-line .ensures) (c .before .before .before .before .before .before .put-line .ensures) _ _ (c .before .before .next .given .1) (c .before .before .before .before .before .before .before .before .before .before .line-end .ensures .1) (c .line-start .ensures) ∙ c .before .before .before .before .before .before .before .before .before .before .before .before .loop .inv .4)
+loop-again c = (search needs, search needs, put-fits _ _ _ (c .before .before .before .before .before .before .before .before .before .before .before .before .loop .words) _ _ _ (c .before .before .before .before .before .before .put-line .ensures) (c .before .before .next .given .1) (search needs), search needs, line-on _ _ _ (c .before .before .before .before .before .before .before .before .before .before .before .before .loop .words) (c .before .before .before .before .before .before .before .before .before .before .before .before .before .before .before .args .text .now) (c .before .before .before .before .before .before .before .before .before .before .before .before .loop .at) _ (c .before .before .before .before .before .before .before .before .before .before .before .loop-test .taken) (c .before .before .before .before .before .before .before .before .before .before .find .ensures .0) _ _ _ (c .before .before .before .before .before .before .before .read-line .ensures) (c .before .before .before .before .before .before .put-line .ensures) _ _ (c .before .before .next .given .1) (c .before .before .before .before .before .before .before .before .before .before .find .ensures .1) (c .beyond .ensures) ∙ c .before .before .before .before .before .before .before .before .before .before .before .before .loop .inv .4)
 
 same-length-3 : tie.Need-same-length-3 Inv-loop μ-loop
 same-length-3 c = search needs
@@ -82,7 +82,7 @@ read-list-spec =
     Inv-loop
     μ-loop
     loop-holds
-    line-end-requires
+    find-requires
     add-line
     sub-read-line
     part-read-line-start
@@ -96,7 +96,7 @@ read-list-spec =
     enum-told-2
     same-length-2
     returns-2
-    line-start-requires
+    beyond-requires
     loop-less
     loop-again
     same-length-3
