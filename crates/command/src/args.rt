@@ -196,6 +196,7 @@ fn run_make(args: &[u8], n: usize) {
     make(&args[a..b], &args[c..d]);
 }
 
+// Does what the arguments ask for, each ended by a byte 0, or says how they are used.
 pub fn run(args: &[u8]) {
     let n = count(args);
     if is_word(args, 0, b"prove") {

@@ -26,6 +26,7 @@ fn rest(file: i32, path: &[u8]) -> After {
     if got == 0 { After::End } else { After::More }
 }
 
+// The file from its start into the front of the buffer.
 pub fn read(path: &[u8], buffer: &mut [u8]) -> Input
     ensures { λ r. ⌜ Counts (r .count) (now (buffer .exit)) ⌝ }
 {

@@ -2,10 +2,12 @@
 use field::Ext;
 use step::Frac;
 
+// A text, to standard output.
 pub fn print(text: &[u8]) {
     io::write_all(1, text);
 }
 
+// A count, in decimal.
 pub fn print_count(n: usize) {
     io::print_decimal(1, n as u64);
 }
@@ -45,6 +47,7 @@ pub fn print_element(e: Ext) {
     print_word(e.c3);
 }
 
+// Numerator, slash, denominator.
 pub fn print_fraction(f: Frac) {
     print_element(f.p);
     print(b"/");

@@ -1,6 +1,7 @@
 // `prove SHEET PROOF`: the proof goes to a file, and rows, rounds and sum are printed.
 use crate::files;
 use crate::inputs;
+use crate::print::print;
 use crate::refusals::print_refusal;
 use prover::Answer;
 use step::Frac;
@@ -19,12 +20,23 @@ fn proof_length(rounds: usize) -> usize {
     gate::proof_bytes(rounds)
 }
 
+// A sum over zero is told, since its numerator says nothing about the rows.
+fn print_swallowed(sum: Frac) {
+    if sum.q.is_zero() {
+        print(
+            b"note: the denominator of the sum is zero, so that the proof says nothing about the rows\n",
+        );
+    }
+}
+
+// The proof goes to its file, and then what it is of is printed.
 fn keep_proof(path: &[u8], proof: &[u8], count: usize, rounds: usize, sum: Frac) {
     let n = files::front(proof_length(rounds), proof);
     if files::replace(path, &proof[..n]) {
         show::print_number(b"rows ", count as u64);
         show::print_number(b"rounds ", rounds as u64);
         show::print_sum(sum);
+        print_swallowed(sum);
     }
 }
 

@@ -136,6 +136,7 @@ fn print_words(r: Report) {
     }
 }
 
+// The line of a refusal.
 pub fn print_refusal(refusal: Refusal) {
     let report = refusal::number_and_fields(refusal);
     print(b"refused ");

@@ -11,6 +11,7 @@ use sheet_text::ListAnswer;
 use sheet_text::list::read_list;
 use stored::SheetAnswer;
 
+// The name of the sheet.
 pub fn show(sheet: &[u8]) {
     let mut rows = [0u32; 8192];
     let given = inputs::read_sheet(sheet, &mut rows);

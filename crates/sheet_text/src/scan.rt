@@ -9,6 +9,7 @@ use crate::Number;
 use crate::Word;
 use field::Ext;
 
+// Whether both hold.
 pub fn both(a: bool, b: bool) -> bool
     ensures { λ r. ⌜ r ≡ (a && b) ⌝ }
 {
@@ -30,6 +31,7 @@ fn grow(v: u64, d: u64) -> u64
     if w < 2013265921 { w } else { 2013265921 }
 }
 
+// The number whose digits begin at a place, and the place after them.
 pub fn number_at(text: &[u8], at: usize) -> Number
     ensures { λ r. ⌜ r ≡ numberAt (now (text .entry)) at ⌝ }
 {

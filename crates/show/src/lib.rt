@@ -42,6 +42,7 @@ pub fn print_refusal(refusal: Refusal) {
     );
 }
 
+// The numerator and the denominator of the sum, on a line.
 pub fn print_sum(sum: Frac) {
     io::write_all(1, b"sum");
     print_ext(sum.p);
