@@ -1,37 +1,35 @@
 -- The loop over the rounds, and round 0 before it.
 -- Assumes nothing.
-use mathlib.Core.Path.{_≡_, refl, sym, _∙_, ap, ap₂, subst}
+use mathlib.Core.Path.{_≡_, refl, _∙_, ap, ap₂, subst}
 use mathlib.Core.Bool.{true}
-use mathlib.Core.List.{List, [], _∷_, map}
-use Prim.Native.Nat.{ℕ, zero, suc, _+_, _*_, _-_, _<_, _≤_}
+use mathlib.Core.List.{List, _∷_, map}
+use Prim.Native.Nat.{ℕ, suc, _+_, _*_, _-_, _<_, _≤_}
 use native.Mathlib.Omega.{arith}
 use lib.ListN.{length, getD, drop}
 use Rattle.field.specs.Ext as E
 use Rattle.field.specs.Extension.{Extension}
 use Rattle.field.specs.declared.Ext.{Ext}
 use Rattle.field.specs.Element.{dec, Canon}
-use Rattle.field.specs.Cells.{Clean}
+use Rattle.field.specs.Cells.{Clean, cells}
 use Rattle.wire.specs.Words.{allCanonical}
 use Rattle.wire.specs.Bytes.{elem}
 use Rattle.stored.specs.declared.LayerClaims.{LayerClaims}
 use Rattle.stored.specs.Shapes.{claimsIn}
-use Rattle.stored.specs.Layout.{claimsWords, cubicsWords, polysWords}
-use Rattle.stored.specs.Parse.{claimsOf, claimsFrom, cubicsFrom, entriesFrom, entriesFit}
-use Rattle.stored.specs.ParseLaws.{claims-step, entries-step, Entry, entry-fits}
+use Rattle.stored.specs.Layout.{cubicsWords}
+use Rattle.stored.specs.Parse.{claimsOf, claimsFrom, cubicsFrom, entriesFrom}
+use Rattle.stored.specs.ParseLaws.{claims-step, entries-step, entry-fits}
 use Rattle.gkr.specs.Count.{layers-cost}
 use Rattle.gkr.specs.Gkr as Gkr
 use Rattle.gkr.specs.Gkr.{accepted}
 use Rattle.transcript.specs.declared.Pos.{Pos}
-use Rattle.transcript.specs.Log.{Supplied, logOf, Steps}
+use Rattle.transcript.specs.Log.{Supplied, logOf}
 use Rattle.refusal.specs.declared.Refusal.{Refusal}
 use Rattle.round.specs.declared.Layer.{Layer}
 use Rattle.round.specs.declared.Advance.{Advance}
 use Rattle.round.specs.declared.Advance.the-variants.{Next, Stopped}
 use Rattle.round.specs.Values.{decCubic, decClaims, columns, CanonClaims}
-use Rattle.round.specs.Points.{segment}
-use Rattle.round.specs.Verdicts.{Model}
-use Rattle.round.specs.Rounds.{Goes, Advances, Stops, Rooted}
-use Rattle.all_rounds.specs.Runs.{entryAt, RoundDone, Readable, Space, going, Accepts, Ends, LayersEnd, Going, RootEnd}
+use Rattle.round.specs.Rounds.{Goes, Advances, Rooted}
+use Rattle.all_rounds.specs.Runs.{entryAt, RoundDone, Readable, Space, going, LayersEnd, Going, RootEnd}
 use Rattle.all_rounds.proofs.Messages.{claim-first, claims-rest, entry-first, entries-rest}
 use Rattle.all_rounds.proofs.StopLaws.{further, stopped-before, ended-before}
 
@@ -102,9 +100,9 @@ going-start bs pt lg ch claims polys n s h r q c x y =
 -- the model's next round is the one at these places
 next-round : (bs pt lg ch : List ℕ) (claims polys h r : ℕ) (s : Layer) → going bs pt lg ch claims polys (suc h) r s
     ≡ Gkr.rounds Extension (Supplied ch) (entryAt bs polys ∷ map (map decCubic) (entriesFrom h (drop (polys + 1 + 48 * getD bs polys 0) bs)))
-    (decClaims (claimsOf (drop claims bs)) ∷ map decClaims (claimsFrom h (drop (claims + 64) bs))) (columns s) (segment pt 0 r) (logOf lg (s .pos))
+    (decClaims (claimsOf (drop claims bs)) ∷ map decClaims (claimsFrom h (drop (claims + 64) bs))) (columns s) (cells pt 0 r) (logOf lg (s .pos))
 next-round bs pt lg ch claims polys h r s =
-    ap₂ (λ mss cs. Gkr.rounds Extension (Supplied ch) (map (map decCubic) mss) (map decClaims cs) (columns s) (segment pt 0 r) (logOf lg (s .pos))) (entries-step h polys bs) (claims-step h claims bs)
+    ap₂ (λ mss cs. Gkr.rounds Extension (Supplied ch) (map (map decCubic) mss) (map decClaims cs) (columns s) (cells pt 0 r) (logOf lg (s .pos))) (entries-step h polys bs) (claims-step h claims bs)
 
 module _ (bs pt₀ pt lg₀ lg ch : List ℕ) (claims₀ claims polys₀ polys n r : ℕ) (s₀ s : Layer) (i : Going bs pt₀ pt lg₀ lg ch claims₀ claims polys₀ polys n r s₀ s) where
   abbrev h : ℕ
@@ -121,7 +119,7 @@ module _ (bs pt₀ pt lg₀ lg ch : List ℕ) (claims₀ claims polys₀ polys n
 
   unfolded : r < n → going bs pt₀ lg₀ ch claims₀ polys₀ (n - 1) 1 s₀
       ≡ Gkr.rounds Extension (Supplied ch) (entryAt bs polys ∷ map (map decCubic) (entriesFrom h (drop (polys + 1 + 48 * getD bs polys 0) bs)))
-      (decClaims (claimsOf (drop claims bs)) ∷ map decClaims (claimsFrom h (drop (claims + 64) bs))) (columns s) (segment pt 0 r) (logOf lg (s .pos))
+      (decClaims (claimsOf (drop claims bs)) ∷ map decClaims (claimsFrom h (drop (claims + 64) bs))) (columns s) (cells pt 0 r) (logOf lg (s .pos))
   unfolded b = i .verdict ∙ ap (λ k. going bs pt lg ch claims polys k r s) (left b) ∙ next-round bs pt lg ch claims polys h r s
 
   module _ (pt' lg' : List ℕ) (a : Advance) (b : r < n) (d : RoundDone bs pt pt' lg lg' ch claims polys r s a) where
@@ -155,9 +153,9 @@ module _ (bs pt₀ pt lg₀ lg ch : List ℕ) (claims₀ claims polys₀ polys n
   going-end b =
       let z : n - r ≡ 0 = omega (arith, i .upto) in
       let e : r ≡ n = omega (arith, i .upto) in
-      let last : going bs pt lg ch claims polys (n - r) r s ≡ accepted (columns s) (segment pt 0 r) (logOf lg (s .pos)) = ap (λ k. going bs pt lg ch claims polys k r s) z in
+      let last : going bs pt lg ch claims polys (n - r) r s ≡ accepted (columns s) (cells pt 0 r) (logOf lg (s .pos)) = ap (λ k. going bs pt lg ch claims polys k r s) z in
       record {
-        verdict = i .verdict ∙ last ∙ ap (λ k. accepted (columns s) (segment pt 0 k) (logOf lg (s .pos))) e;
+        verdict = i .verdict ∙ last ∙ ap (λ k. accepted (columns s) (cells pt 0 k) (logOf lg (s .pos))) e;
         more = i .more;
         room = omega (arith, i .room .put, i .logs);
         rest = i .rest;

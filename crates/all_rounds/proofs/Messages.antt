@@ -1,10 +1,10 @@
 -- Canonical words of the messages, one message after the other.
 -- Assumes nothing.
-use mathlib.Core.Path.{_≡_, refl, sym, _∙_, ap}
+use mathlib.Core.Path.{_≡_, sym, _∙_, ap}
 use mathlib.Core.Bool.{true}
-use mathlib.Core.List.{List, [], _∷_, _++_, map}
-use Prim.Native.Nat.{ℕ, zero, suc, _+_, _*_}
-use lib.ListN.{length, getD, drop}
+use mathlib.Core.List.{List, _++_}
+use Prim.Native.Nat.{ℕ, suc, _+_, _*_}
+use lib.ListN.{getD, drop}
 use Rattle.field.specs.declared.Ext.{Ext}
 use Rattle.wire.specs.Words.{allCanonical, extWords}
 use Rattle.wire.specs.WordLaws.{canonical-left, canonical-right, canonical-elem}

@@ -1,9 +1,9 @@
 -- One round: its sub-rounds are the model's, and a wrong count of them stops it after lambda.
 -- Assumes nothing.
-use mathlib.Core.Path.{_≡_, refl, sym, _∙_, ap, ap₂, subst}
-use mathlib.Core.Bool.{Bool, true, false, cond}
+use mathlib.Core.Path.{_≡_, refl, sym, _∙_, ap, subst}
+use mathlib.Core.Bool.{true, false}
 use mathlib.Core.List.{List, [], _∷_, map}
-use Prim.Native.Nat.{ℕ, zero, suc, _+_, _*_, _-_, _<_, _≤_}
+use Prim.Native.Nat.{ℕ, suc, _+_, _*_, _-_, _≤_}
 use native.Mathlib.Omega.{arith}
 use borrow.Author.Tests.{ne-eqb}
 use lib.Dec.{eqb}
@@ -11,8 +11,9 @@ use lib.ListN.{length, getD, drop}
 use Rattle.field.specs.Ext as E
 use Rattle.field.specs.Extension.{Extension}
 use Rattle.field.specs.declared.Ext.{Ext}
-use Rattle.field.specs.Element.{dec, Canon, Is}
-use Rattle.field.specs.Cells.{cell, Clean}
+use Rattle.field.specs.Element.{dec, Canon}
+use Rattle.field.specs.Cells.{cell, cells}
+use Rattle.field.specs.PointLaws.{cells-length}
 use Rattle.stored.specs.declared.LayerClaims.{LayerClaims}
 use Rattle.stored.specs.Shapes.{claimsIn}
 use Rattle.wire.specs.Words.{allCanonical}
@@ -25,7 +26,7 @@ use Rattle.gkr.specs.Transcripts.{Words}
 use Rattle.gkr.specs.Sumcheck as Sumcheck
 use Rattle.gkr.specs.Gkr as Gkr
 use Rattle.gkr.specs.Gkr.{subround-count}
-use Rattle.transcript.specs.Log.{Supplied, logOf, Steps}
+use Rattle.transcript.specs.Log.{Supplied, logOf}
 use Rattle.transcript.proofs.Logs.{then}
 use Rattle.refusal.specs.declared.Refusal.the-variants.{IncorrectSubroundCount}
 use Rattle.round.specs.declared.Layer.{Layer}
@@ -34,10 +35,9 @@ use Rattle.round.specs.declared.Opened.{Opened}
 use Rattle.round.specs.declared.Advance.{Advance}
 use Rattle.round.specs.declared.Advance.the-variants.{Next, Stopped}
 use Rattle.round.specs.Values.{decCubic, decClaims, columns, CanonClaims}
-use Rattle.round.specs.Points.{segment, ahead}
-use Rattle.round.specs.Verdicts.{Model}
-use Rattle.round.specs.Rounds.{Opens, Came, Closed, Advances, Stops}
-use Rattle.round.proofs.Points.{segment-length, ahead-all}
+use Rattle.round.specs.Points.{ahead}
+use Rattle.round.specs.Rounds.{Opens, Came, Closed}
+use Rattle.round.proofs.Points.{ahead-all}
 use Rattle.round.proofs.Ends.{stops-there}
 use Rattle.all_rounds.specs.Runs.{cubicsAt, entryAt, summing, Summed, RoundDone}
 use Rattle.all_rounds.proofs.StopLaws.{advanced-before}
@@ -60,14 +60,14 @@ pub canon-told : (q r : Ext) → q ≡ r → Canon r → Canon q
 canon-told q r e h = subst Canon (sym e) h
 
 came : (bs pt pt' lg lg₁ lg₂ ch : List ℕ) (polys round : ℕ) (s : Layer) (o : Opened) (last : Sums) → getD bs polys 0 ≡ round → Opens pt lg lg₁ ch s o
-    → Summed bs pt pt' lg₁ lg₂ ch (polys + 1) round (o .first) last → Came pt' lg₂ ch round (o .lambda) last (entryAt bs polys) (columns s) (segment pt 0 round) (logOf lg (s .pos))
+    → Summed bs pt pt' lg₁ lg₂ ch (polys + 1) round (o .first) last → Came pt' lg₂ ch round (o .lambda) last (entryAt bs polys) (columns s) (cells pt 0 round) (logOf lg (s .pos))
 came bs pt pt' lg lg₁ lg₂ ch polys round s o last e a b =
-    let z : segment pt 0 round ≡ ahead (dec (o .first .xi)) pt 0 round = sym (ahead-all pt round) ∙ ap (λ x. ahead x pt 0 round) (sym (a .xi .value)) in
+    let z : cells pt 0 round ≡ ahead (dec (o .first .xi)) pt 0 round = sym (ahead-all pt round) ∙ ap (λ x. ahead x pt 0 round) (sym (a .xi .value)) in
     let here : _ ≡ summing bs pt lg₁ ch (polys + 1) 0 round (o .first) =
     (λ i. Sumcheck.verify-gkr-sumcheck Extension (Supplied ch) (cubicsAt bs (polys + 1) (e i)) (z i) (sym (a .claim .value) i) (sym (a .eq .value) i) (sym (a .steps .log) i)) in
     record {
       counted = entry-count bs polys ∙ e;
-      long = segment-length pt 0 round;
+      long = cells-length pt 0 round;
       drew = sym (a .lambda .value);
       sums = here ∙ (λ i. record { claim = sym (b .claim .value) i; point = sym (b .point) i; eq = sym (b .eq .value) i; log = sym (b .steps .log) i });
     }
@@ -82,7 +82,7 @@ round-closed bs pt pt₁ pt₂ lg lg₁ lg₂ lg₃ ch claims polys round s o la
     record {
       run =
           advanced-before lg lg₂ lg₃ pt₂ ch (s .pos) (last .pos) (round + 1) (4 + 16 * round) (1 + round) 20 1 (16 * round + 24) (round + 2) _ _ r steps l (omega arith) (omega arith)
-          (closed (entryAt bs polys) (columns s) (segment pt 0 round) (logOf lg (s .pos)) (came bs pt pt₁ lg lg₁ lg₂ ch polys round s o last e a b));
+          (closed (entryAt bs polys) (columns s) (cells pt 0 round) (logOf lg (s .pos)) (came bs pt pt₁ lg lg₁ lg₂ ch polys round s o last e a b));
       counted = λ t _. e;
     }
 
@@ -103,6 +103,6 @@ round-stopped bs pt lg lg₁ ch claims polys round count s o e h room a =
     record {
       run = λ mss cs.
           stops-there lg lg₁ ch (s .pos) (o .first .pos) 4 1 _ _ _ _ (a .steps) (omega (arith, a .steps .put))
-          (count-fails ch (entryAt bs polys) (decClaims (claimsOf (drop claims bs))) (columns s) (segment pt 0 round) (logOf lg (s .pos)) mss cs count round (entry-count bs polys ∙ sym e) (segment-length pt 0 round) h) refl refl refl;
+          (count-fails ch (entryAt bs polys) (decClaims (claimsOf (drop claims bs))) (columns s) (cells pt 0 round) (logOf lg (s .pos)) mss cs count round (entry-count bs polys ∙ sym e) (cells-length pt 0 round) h) refl refl refl;
       counted = λ t q. absurd (never (IncorrectSubroundCount round round count) t q);
     }

@@ -2,24 +2,23 @@
 -- Assumes nothing.
 use mathlib.Core.Path.{_≡_, refl, sym, _∙_, ap}
 use mathlib.Core.List.{List}
-use Prim.Native.Nat.{ℕ, _+_, _*_, _-_, _≤_}
+use Prim.Native.Nat.{ℕ, _+_, _-_, _≤_}
 use native.Mathlib.Omega.{arith}
-use lib.ListN.{length, take, drop}
+use lib.ListN.{length, drop}
 use lib.Seq.{drop-drop}
 use Rattle.field.specs.Ext as E
 use Rattle.multilinear.specs.RoundSum.{Claims}
 use Rattle.gkr.specs.Run.{Cubic}
 use Rattle.gkr.specs.Transcripts.{Words}
 use Rattle.transcript.specs.declared.Pos.{Pos}
-use Rattle.transcript.specs.Log.{Supplied, logOf, Steps}
+use Rattle.transcript.specs.Log.{Steps}
 use Rattle.transcript.proofs.Logs.{then, retold}
 use Rattle.refusal.specs.declared.Refusal.{Refusal}
-use Rattle.round.specs.declared.Layer.{Layer}
 use Rattle.round.specs.declared.Advance.{Advance}
 use Rattle.round.specs.declared.Advance.the-variants.{Next, Stopped}
 use Rattle.round.specs.Verdicts.{Model, answerOf, pointOf, loggedBy}
-use Rattle.round.specs.Rounds.{Goes, Stops, Advances}
-use Rattle.all_rounds.specs.Runs.{Accepts, Ends}
+use Rattle.round.specs.Rounds.{Stops, Advances}
+use Rattle.all_rounds.specs.Runs.{Ends}
 
 -- what is as before from a place on is so further on
 pub further : (l m : List ℕ) (p q : ℕ) → p ≤ q → drop p l ≡ drop p m → drop q l ≡ drop q m

@@ -1,16 +1,16 @@
 -- The loop over the sub-rounds of a round.
 -- Assumes nothing.
-use mathlib.Core.Path.{_≡_, refl, sym, _∙_, ap, ap₂, subst}
+use mathlib.Core.Path.{_≡_, refl, sym, _∙_, ap, subst}
 use mathlib.Core.Bool.{true}
 use mathlib.Core.List.{List, [], _∷_, _++_, append-assoc, append-nil, map}
-use Prim.Native.Nat.{ℕ, zero, suc, _+_, _*_, _-_, _<_, _≤_}
+use Prim.Native.Nat.{ℕ, suc, _+_, _*_, _-_, _<_, _≤_}
 use native.Mathlib.Omega.{arith}
 use lib.ListN.{length, drop}
 use Rattle.field.specs.Ext as E
 use Rattle.field.specs.Extension.{Extension}
 use Rattle.field.specs.declared.Ext.{Ext}
-use Rattle.field.specs.Element.{dec, Canon, Is}
-use Rattle.field.specs.Cells.{cell, Clean}
+use Rattle.field.specs.Element.{dec, Canon}
+use Rattle.field.specs.Cells.{cell, Clean, cells}
 use Rattle.wire.specs.Words.{allCanonical}
 use Rattle.stored.specs.declared.SubroundEvals.{SubroundEvals}
 use Rattle.stored.specs.Shapes.{cubicIn}
@@ -19,11 +19,11 @@ use Rattle.stored.specs.Parse.{cubicOf, cubicsFrom}
 use Rattle.stored.specs.ParseLaws.{cubics-step}
 use Rattle.gkr.specs.Run.{Cubic}
 use Rattle.gkr.specs.Sumcheck as Sumcheck
-use Rattle.transcript.specs.Log.{Supplied, logOf, Steps}
+use Rattle.transcript.specs.Log.{Supplied, logOf}
 use Rattle.transcript.proofs.Logs.{then, retold, no-steps}
 use Rattle.round.specs.declared.Sums.{Sums}
 use Rattle.round.specs.Values.{decCubic, CanonCubic, CanonSums}
-use Rattle.round.specs.Points.{segment, ahead}
+use Rattle.round.specs.Points.{ahead}
 use Rattle.round.specs.Rounds.{told, SubRound}
 use Rattle.round.proofs.Points.{ahead-next, grown}
 use Rattle.all_rounds.specs.Runs.{cubicsAt, summing, Summed, Summing}
@@ -68,8 +68,8 @@ one-sub : (bs pt pt' lg lg' ch : List ℕ) (at j n : ℕ) (s r : Sums) → SubRo
 unfolding Sumcheck.verify-gkr-sumcheck
 one-sub bs pt pt' lg lg' ch at j n s r h =
     let x = Supplied ch .draw (told (decCubic (cubicOf (drop at bs))) lg (s .pos)) in
-    let z : segment pt (suc j) n ≡ ahead (dec (r .xi)) pt' (j + 1) n = ahead-next pt pt' j n (dec (r .xi)) x (h .xi .value) (h .rho) in
-    let same : Sumcheck.verify-gkr-sumcheck Extension (Supplied ch) (cubicsAt bs (at + 48) n) (segment pt (suc j) n) _ _ _ ≡ summing bs pt' lg' ch (at + 48) (j + 1) n r =
+    let z : cells pt (suc j) n ≡ ahead (dec (r .xi)) pt' (j + 1) n = ahead-next pt pt' j n (dec (r .xi)) x (h .xi .value) (h .rho) in
+    let same : Sumcheck.verify-gkr-sumcheck Extension (Supplied ch) (cubicsAt bs (at + 48) n) (cells pt (suc j) n) _ _ _ ≡ summing bs pt' lg' ch (at + 48) (j + 1) n r =
     (λ i. Sumcheck.verify-gkr-sumcheck Extension (Supplied ch) (cubicsAt bs (at + 48) n) (z i) (sym (h .claim .value) i) (sym (h .eq .value) i) (sym (h .steps .log) i)) in
     ap (λ ms. Sumcheck.verify-gkr-sumcheck Extension (Supplied ch) (map decCubic ms) (ahead (dec (s .xi)) pt j (suc n)) (dec (s .claim)) (dec (s .eq)) (logOf lg (s .pos))) (cubics-step n at bs)
     ∙ (λ i. record { claim = same i .claim; point = x ∷ same i .point; eq = same i .eq; log = same i .log })
@@ -94,7 +94,7 @@ module _ (bs pt₀ pt lg₀ lg ch : List ℕ) (from at k j : ℕ) (s₀ s : Sums
         eq = sym (ap (λ C. C .eq) o) ∙ i .eq;
         point =
             ap (λ t. t ++ summing bs pt' lg' ch (at + 48) (j + 1) n r .point) (grown pt pt' j x (d .rho))
-            ∙ append-assoc (segment pt 1 j) (x ∷ []) (summing bs pt' lg' ch (at + 48) (j + 1) n r .point) ∙ ap (λ t. segment pt 1 j ++ t) (sym (ap (λ C. C .point) o)) ∙ i .point;
+            ∙ append-assoc (cells pt 1 j) (x ∷ []) (summing bs pt' lg' ch (at + 48) (j + 1) n r .point) ∙ ap (λ t. cells pt 1 j ++ t) (sym (ap (λ C. C .point) o)) ∙ i .point;
         log = sym (ap (λ C. C .log) o) ∙ i .log;
         steps =
             retold lg₀ lg' (s₀ .pos) (r .pos) (16 * j + 16) (j + 1) (16 * (j + 1)) (j + 1) _ _ (omega arith) refl (sym (d .steps .log))
@@ -115,7 +115,7 @@ module _ (bs pt₀ pt lg₀ lg ch : List ℕ) (from at k j : ℕ) (s₀ s : Sums
       record {
         claim = record { canon = i .canon .claim; value = sym (ap (λ C. C .claim) none) ∙ i .claim };
         eq = record { canon = i .canon .eq; value = sym (ap (λ C. C .eq) none) ∙ i .eq };
-        point = ap (segment pt 1) (sym e) ∙ sym (append-nil (segment pt 1 j)) ∙ ap (λ t. segment pt 1 j ++ t) (sym (ap (λ C. C .point) none)) ∙ i .point;
+        point = ap (cells pt 1) (sym e) ∙ sym (append-nil (cells pt 1 j)) ∙ ap (λ t. cells pt 1 j ++ t) (sym (ap (λ C. C .point) none)) ∙ i .point;
         steps =
             retold lg₀ lg (s₀ .pos) (s .pos) (16 * j) j (16 * k) k _ _ (ap (λ n. 16 * n) e) e (sym (ap (λ C. C .log) none) ∙ i .log) (i .steps);
         xi = i .canon .xi;

@@ -4,11 +4,11 @@ use mathlib.Core.Path.{_≡_}
 use mathlib.Core.Bool.{true}
 use mathlib.Core.List.{List, [], _∷_, _++_, map}
 use Prim.Native.Nat.{ℕ, _+_, _*_, _-_, _≤_}
-use lib.ListN.{length, getD, take, drop}
+use lib.ListN.{length, getD, drop}
 use Rattle.field.specs.Ext as E
 use Rattle.field.specs.Extension.{Extension}
 use Rattle.field.specs.Element.{dec, Canon, Is}
-use Rattle.field.specs.Cells.{cell, Clean}
+use Rattle.field.specs.Cells.{cell, Clean, cells}
 use Rattle.wire.specs.Words.{allCanonical}
 use Rattle.wire.specs.Bytes.{elem}
 use Rattle.stored.specs.Layout.{claimsWords, cubicsWords, polysWords}
@@ -26,7 +26,7 @@ use Rattle.round.specs.declared.Sums.{Sums}
 use Rattle.round.specs.declared.Advance.{Advance}
 use Rattle.round.specs.declared.Advance.the-variants.{Next, Stopped}
 use Rattle.round.specs.Values.{decCubic, decClaims, columns, CanonSums}
-use Rattle.round.specs.Points.{segment, ahead}
+use Rattle.round.specs.Points.{ahead}
 use Rattle.round.specs.Verdicts.{Model}
 use Rattle.round.specs.Rounds.{Advances, Stops}
 
@@ -44,7 +44,7 @@ summing bs pt lg ch at j k s = Sumcheck.verify-gkr-sumcheck Extension (Supplied 
 pub record Summed (bs pt pt' lg lg' ch : List ℕ) (from k : ℕ) (s r : Sums) : Type 0 where
   pub claim : Is (r .claim) (summing bs pt lg ch from 0 k s .claim)
   pub eq : Is (r .eq) (summing bs pt lg ch from 0 k s .eq)
-  pub point : segment pt' 1 k ≡ summing bs pt lg ch from 0 k s .point
+  pub point : cells pt' 1 k ≡ summing bs pt lg ch from 0 k s .point
   pub steps : Steps lg lg' (s .pos) (r .pos) (16 * k) k (summing bs pt lg ch from 0 k s .log)
   pub xi : Canon (r .xi)
   pub clean : Clean pt'
@@ -55,7 +55,7 @@ pub record Summing (bs pt₀ pt lg₀ lg ch : List ℕ) (from at k j : ℕ) (s�
   pub place : at ≡ from + 48 * j
   pub claim : summing bs pt lg ch at j (k - j) s .claim ≡ summing bs pt₀ lg₀ ch from 0 k s₀ .claim
   pub eq : summing bs pt lg ch at j (k - j) s .eq ≡ summing bs pt₀ lg₀ ch from 0 k s₀ .eq
-  pub point : segment pt 1 j ++ summing bs pt lg ch at j (k - j) s .point ≡ summing bs pt₀ lg₀ ch from 0 k s₀ .point
+  pub point : cells pt 1 j ++ summing bs pt lg ch at j (k - j) s .point ≡ summing bs pt₀ lg₀ ch from 0 k s₀ .point
   pub log : summing bs pt lg ch at j (k - j) s .log ≡ summing bs pt₀ lg₀ ch from 0 k s₀ .log
   pub steps : Steps lg₀ lg (s₀ .pos) (s .pos) (16 * j) j (logOf lg (s .pos))
   pub canon : CanonSums s
@@ -72,7 +72,7 @@ entryAt bs polys = cubicsAt bs (polys + 1) (getD bs polys 0)
 -- a round takes the model on or stops it, whatever comes after; one that holds has as many sub-rounds as its number
 pub record RoundDone (bs pt pt' lg lg' ch : List ℕ) (claims polys round : ℕ) (s : Layer) (r : Advance) : Type 0 where
   pub run : Advances lg lg' pt' ch (s .pos) (round + 1) (16 * round + 24) (round + 2)
-      (λ mss cs. Gkr.rounds Extension (Supplied ch) (entryAt bs polys ∷ mss) (decClaims (claimsOf (drop claims bs)) ∷ cs) (columns s) (segment pt 0 round) (logOf lg (s .pos))) r
+      (λ mss cs. Gkr.rounds Extension (Supplied ch) (entryAt bs polys ∷ mss) (decClaims (claimsOf (drop claims bs)) ∷ cs) (columns s) (cells pt 0 round) (logOf lg (s .pos))) r
   pub counted : (t : Layer) → r ≡ Next t → getD bs polys 0 ≡ round
 
 -- ALL ROUNDS
@@ -93,11 +93,11 @@ pub record Space (lg ch : List ℕ) (pos : Pos) (h r : ℕ) : Type 0 where
 -- the model over the h rounds from round r on
 abbrev pub going : (bs pt lg ch : List ℕ) (claims polys h r : ℕ) (s : Layer) → Model ch
 going bs pt lg ch claims polys h r s =
-    Gkr.rounds Extension (Supplied ch) (map (map decCubic) (entriesFrom h (drop polys bs))) (map decClaims (claimsFrom h (drop claims bs))) (columns s) (segment pt 0 r) (logOf lg (s .pos))
+    Gkr.rounds Extension (Supplied ch) (map (map decCubic) (entriesFrom h (drop polys bs))) (map decClaims (claimsFrom h (drop claims bs))) (columns s) (cells pt 0 r) (logOf lg (s .pos))
 
 -- a run that accepts: the claims, the point of n coordinates and the log are the verdict's
 pub record Accepts (lg lg' pt' ch : List ℕ) (pos : Pos) (n : ℕ) (v : Model ch) (s : Layer) : Type 0 where
-  pub verdict : v ≡ accepted (columns s) (segment pt' 0 n) (logOf lg' (s .pos))
+  pub verdict : v ≡ accepted (columns s) (cells pt' 0 n) (logOf lg' (s .pos))
   pub more : pos .put ≤ s .pos .put
   pub room : s .pos .put ≤ length lg
   pub rest : drop (s .pos .put) lg' ≡ drop (s .pos .put) lg

@@ -1,8 +1,7 @@
 // All rounds of the verifier over the bytes of a proof whose shape and words are checked already.
 ghost use mathlib.Core.Path.{_≡_};
 ghost use mathlib.Core.Bool.{true};
-ghost use mathlib.Core.List.{List, map};
-ghost use Prim.Native.Nat.{ℕ, _+_, _*_, _-_, _<_, _≤_};
+ghost use Prim.Native.Nat.{_+_, _*_, _-_, _<_, _≤_};
 ghost use lib.ListN.{length, getD, drop};
 ghost use Rattle.field.specs.Element.{dec, Canon};
 ghost use Rattle.field.specs.Cells.{Clean};
@@ -10,7 +9,7 @@ ghost use Rattle.wire.specs.Words.{allCanonical};
 ghost use Rattle.wire.specs.Bytes.{elem};
 ghost use Rattle.stored.specs.Layout.{cubicsWords};
 ghost use Rattle.stored.specs.Parse.{cubicOf, claimsOf, cubicsFrom};
-ghost use Rattle.round.specs.Values.{decCubic, decClaims, CanonCubic, CanonClaims, CanonSums};
+ghost use Rattle.round.specs.Values.{decCubic, CanonCubic, CanonClaims, CanonSums};
 ghost use Rattle.round.specs.Rounds.{SubRound};
 ghost use Rattle.all_rounds.specs.Runs.{Summed, RoundDone, Readable, Space, LayersEnd, RootEnd};
 use refusal::Refusal;

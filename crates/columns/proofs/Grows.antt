@@ -13,14 +13,14 @@ use lib.Dec.{T, ltb, ltb→lt, nltb→le}
 use lib.ListN.{length}
 use Rattle.field.specs.Ext as E
 use Rattle.field.specs.ExtRing.{ExtRing}
-use Rattle.field.specs.Cells.{cell, Clean, Stored}
+use Rattle.field.specs.Cells.{cell, Clean, Stored, cells}
 use Rattle.field.specs.Column.{flat}
 use Rattle.field.specs.ColumnLaws.{flat-cells, flat-cong}
+use Rattle.field.specs.PointLaws.{cells-length, point-snoc}
 use Rattle.multilinear.specs.Table as Table
 use Rattle.multilinear.specs.TableLaws as TableLaws
 use Rattle.step.specs.Values.{minus}
-use Rattle.columns.specs.Passes.{cells, GrownEntry, Grown}
-use Rattle.columns.specs.PointLaws.{cells-length, cells-snoc}
+use Rattle.columns.specs.Passes.{GrownEntry, Grown}
 
 pub grown-entry : (ws ws₁ ws₂ : List ℕ) (size i : ℕ) (x t h d : E.Ext) → i < size → t ≡ cell ws i → h ≡ E.mul t x → d ≡ E.mul t (minus E.one x)
     → Stored ws ws₁ (size + i) h → Stored ws₁ ws₂ i d → GrownEntry ws ws₂ size i x
@@ -93,7 +93,7 @@ pub weights-turn : (ws ws' z : List ℕ) (size j : ℕ) (x : E.Ext) → size ≡
     → Weighs ws size (cells z 0 j) → Grown ws ws' size size x → Weighs ws' (2 * size) (cells z 0 (j + 1))
 weights-turn ws ws' z size j x e d f g =
     subst (Weighs ws' (2 * size))
-    (ap (λ x. cells z 0 j ++ (x ∷ [])) d ∙ sym (cells-snoc z j) ∙ ap (cells z 0) (sym (add-one j)))
+    (ap (λ x. cells z 0 j ++ (x ∷ [])) d ∙ sym (point-snoc z j) ∙ ap (cells z 0) (sym (add-one j)))
     (weights-next ws ws' size (cells z 0 j) x (e ∙ ap (λ k. 2 ^ k) (sym (cells-length z 0 j))) f g)
 
 pub power-turn : (n j : ℕ) → n ≡ 2 ^ j → 2 * n ≡ 2 ^ (j + 1)

@@ -9,13 +9,12 @@ use lib.ListN.{length, take, drop, length-drop}
 use lib.Seq.{take-all}
 use Rattle.field.specs.Ext as E
 use Rattle.field.specs.ExtRing.{ExtRing}
-use Rattle.field.specs.Cells.{cell}
+use Rattle.field.specs.Cells.{cell, cells}
 use Rattle.field.specs.CellLaws.{cell-take, cell-drop}
+use Rattle.field.specs.PointLaws.{cells-length, point-snoc}
 use Rattle.multilinear.specs.Table as Table
 use Rattle.multilinear.specs.TableLaws as TableLaws
 use Rattle.step.specs.Values.{line}
-use Rattle.columns.specs.Passes.{cells}
-use Rattle.columns.specs.PointLaws.{cells-length, cells-snoc}
 
 pub half : (n l : ℕ) → (n ≡ 0 → ⊥) → l ≡ 4 * 2 ^ n → (l / 2 ≡ 4 * 2 ^ (n - 1)) × (l ≡ l / 2 + l / 2)
 half zero l h e = absurd (h refl)
@@ -42,7 +41,7 @@ module _ (k : ℕ) (t x : List ℕ) (len : length t ≡ 4 * 2 ^ suc k) where
       (fun-ext (λ i. cell-drop t (2 ^ k) i ∙ ap (λ m. cell t (2 ^ m + i)) (sym (cells-length x 0 k))))
 
   join : line (cell x k) (Table.value ExtRing (cell (take (4 * 2 ^ k) t)) (cells x 0 k)) (Table.value ExtRing (cell (drop (4 * 2 ^ k) t)) (cells x 0 k)) ≡ Table.value ExtRing (cell t) (cells x 0 (suc k))
-  join = ap₂ (line (cell x k)) low high ∙ sym (TableLaws.value-halves ExtRing (cell t) (cells x 0 k) (cell x k)) ∙ ap (Table.value ExtRing (cell t)) (sym (cells-snoc x k))
+  join = ap₂ (line (cell x k)) low high ∙ sym (TableLaws.value-halves ExtRing (cell t) (cells x 0 k) (cell x k)) ∙ ap (Table.value ExtRing (cell t)) (sym (point-snoc x k))
 
 -- both halves are known
 pub value-step : (n : ℕ) (t x : List ℕ) {a b r : E.Ext} → (n ≡ 0 → ⊥) → length t ≡ 4 * 2 ^ n

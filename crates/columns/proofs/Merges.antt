@@ -11,15 +11,15 @@ use lib.Dec.{T, ltb, ltb→lt, nltb→le}
 use lib.ListN.{length}
 use Rattle.field.specs.Ext as E
 use Rattle.field.specs.ExtRing.{ExtRing}
-use Rattle.field.specs.Cells.{cell, Clean, Stored}
+use Rattle.field.specs.Cells.{cell, Clean, Stored, cells}
 use Rattle.field.specs.Column.{flat}
 use Rattle.field.specs.ColumnLaws.{flat-cells}
+use Rattle.field.specs.PointLaws.{cells-length, point-snoc}
 use Rattle.step.specs.Values.{line}
 use Rattle.multilinear.specs.Table as Table
 use Rattle.columns.specs.Tables as Tables
 use Rattle.columns.specs.TablesLaws as TablesLaws
-use Rattle.columns.specs.Passes.{cells, Merged}
-use Rattle.columns.specs.PointLaws.{cells-length, cells-snoc}
+use Rattle.columns.specs.Passes.{Merged}
 
 pub stored-line : (ws ws' : List ℕ) (i : ℕ) (z : E.Ext) {a b a' b' v : E.Ext} → Stored ws ws' i v → v ≡ line z a b → a ≡ a' → b ≡ b' → Stored ws ws' i (line z a' b')
 stored-line ws ws' i z s e p q = subst (Stored ws ws' i) (e ∙ ap₂ (line z) p q) s
@@ -68,7 +68,7 @@ in-place-end zero ws z t l h = h
 in-place-end (suc k) ws z t l h = absurd (not-suc-le-zero l)
 
 pub in-place-value : (n : ℕ) (x t : List ℕ) → Tables.overwrite ExtRing n (cell x) (cell t) 0 ≡ Table.value ExtRing (cell t) (cells x 0 n)
-in-place-value n x t = TablesLaws.overwrite-value ExtRing (cell x) (cells x 0) (cells-length x 0) refl (cells-snoc x) n (cell t)
+in-place-value n x t = TablesLaws.overwrite-value ExtRing (cell x) (cells x 0) (cells-length x 0) refl (point-snoc x) n (cell t)
 
 pub in-place-table : (n : ℕ) {l : List ℕ} (t : ℕ → E.Ext) → Clean l → length l ≡ 4 * 2 ^ n → cell l ≡ t → l ≡ flat t (2 ^ n)
 in-place-table n {l} t c h e = flat-cells (2 ^ n) c h ∙ ap (λ (f : ℕ → E.Ext). flat f (2 ^ n)) e

@@ -12,13 +12,13 @@ use Rattle.field.specs.Base.{P}
 use Rattle.field.specs.Ext as E
 use Rattle.field.specs.ExtRing.{ExtRing}
 use Rattle.field.specs.Element.{Is}
-use Rattle.field.specs.Cells.{cell}
+use Rattle.field.specs.Cells.{cell, cells}
+use Rattle.field.specs.PointLaws.{cells-length, point-snoc}
 use Rattle.multilinear.specs.Forms as Forms
 use Rattle.multilinear.specs.Table as Table
 use Rattle.columns.specs.Tables as Tables
 use Rattle.columns.specs.TablesLaws as TablesLaws
-use Rattle.columns.specs.Passes.{cells, baseCell}
-use Rattle.columns.specs.PointLaws.{cells-length, cells-snoc}
+use Rattle.columns.specs.Passes.{baseCell}
 
 -- the words that sums start from
 pub zero-is : E.ext 0 0 0 0 ≡ E.nil
@@ -37,7 +37,7 @@ eq-turn x y i e a b {r} he ha hb hr =
     let g : r ≡ E.mul (Table.eq ExtRing (cells x 0 i) (cells y 0 i)) (Forms.agree ExtRing (cell x i) (cell y i)) = cc in
     g
     ∙ sym (TablesLaws.eq-snoc ExtRing (cells x 0 i) (cells y 0 i) (cell x i) (cell y i) (cells-length x 0 i ∙ sym (cells-length y 0 i)))
-    ∙ ap₂ (Table.eq ExtRing) (sym (cells-snoc x i)) (sym (cells-snoc y i))
+    ∙ ap₂ (Table.eq ExtRing) (sym (point-snoc x i)) (sym (point-snoc y i))
     ∙ ap (λ k. Table.eq ExtRing (cells x 0 k) (cells y 0 k)) (sym (add-one i))
 
 -- HORNER'S RULE: the coefficients from i on

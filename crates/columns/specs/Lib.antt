@@ -1,7 +1,6 @@
--- Definitions that the loops over columns promise: Powers, Tables, Passes. Their laws: PowerLaws, TablesLaws, PointLaws.
+-- Definitions that the loops over columns promise: Powers, Tables, Passes. Their laws: PowerLaws, TablesLaws.
 pub mod Powers
 pub mod PowerLaws
 pub mod Tables
 pub mod TablesLaws
 pub mod Passes
-pub mod PointLaws

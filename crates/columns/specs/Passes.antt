@@ -1,8 +1,8 @@
 -- Columns in lists of words, and what the passes over them leave.
 -- Assumes nothing.
 use mathlib.Core.Path.{_≡_}
-use mathlib.Core.List.{List, [], _∷_}
-use Prim.Native.Nat.{ℕ, zero, suc, _+_, _<_, _≤_}
+use mathlib.Core.List.{List}
+use Prim.Native.Nat.{ℕ, _+_, _<_, _≤_}
 use lib.ListN.{length, getD}
 use Rattle.field.specs.Base.{of}
 use Rattle.field.specs.Ext as E
@@ -13,11 +13,6 @@ use Rattle.multilinear.specs.RoundSum as RoundSum
 use Rattle.multilinear.specs.RoundSum.{Claims}
 use Rattle.step.specs.declared.Three.{Three}
 use Rattle.step.specs.Values.{minus, line, two, three, IsThree}
-
--- the n cells from `at` on, as a point
-abbrev pub cells : List ℕ → ℕ → ℕ → List E.Ext
-cells ws at zero = []
-cells ws at (suc n) = cell ws at ∷ cells ws (suc at) n
 
 -- the base element of word i, as an element
 abbrev pub baseCell : List ℕ → ℕ → E.Ext

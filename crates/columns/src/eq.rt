@@ -4,10 +4,10 @@ ghost use Prim.Native.Nat.{_+_, _*_, _^_, _<_, _≤_};
 ghost use lib.ListN.{length, replicate};
 ghost use Rattle.field.specs.ExtRing.{ExtRing};
 ghost use Rattle.field.specs.Element.{dec, Canon, Is};
-ghost use Rattle.field.specs.Cells.{cell, Clean};
+ghost use Rattle.field.specs.Cells.{cell, Clean, cells};
 ghost use Rattle.field.specs.Column.{flat};
 ghost use Rattle.multilinear.specs.Table as Table;
-ghost use Rattle.columns.specs.Passes.{cells, GrownEntry, Grown};
+ghost use Rattle.columns.specs.Passes.{GrownEntry, Grown};
 use field::Ext;
 
 // The product of the agreements of the coordinates.

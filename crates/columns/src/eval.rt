@@ -4,12 +4,12 @@ ghost use Prim.Native.Nat.{_+_, _*_, _^_, _<_, _≤_};
 ghost use lib.ListN.{length};
 ghost use Rattle.field.specs.ExtRing.{ExtRing};
 ghost use Rattle.field.specs.Element.{dec, Canon, Is};
-ghost use Rattle.field.specs.Cells.{cell, Clean, Stored};
+ghost use Rattle.field.specs.Cells.{cell, Clean, Stored, cells};
 ghost use Rattle.field.specs.Column.{flat};
 ghost use Rattle.step.specs.Values.{line};
 ghost use Rattle.multilinear.specs.Table as Table;
 ghost use Rattle.columns.specs.Tables as Tables;
-ghost use Rattle.columns.specs.Passes.{cells, Merged};
+ghost use Rattle.columns.specs.Passes.{Merged};
 use field::Ext;
 
 // Entry i and entry half + i are brought together at z.

@@ -1,8 +1,6 @@
 // A polynomial's value by Horner's rule, from the highest coefficient down.
-ghost use mathlib.Core.Path.{_≡_};
-ghost use Prim.Native.Nat.{_+_, _*_, _<_, _≤_};
-ghost use lib.ListN.{length, getD};
-ghost use Rattle.field.specs.Base.{of};
+ghost use Prim.Native.Nat.{_*_, _<_, _≤_};
+ghost use lib.ListN.{length};
 ghost use Rattle.field.specs.Ext as E;
 ghost use Rattle.field.specs.ExtRing.{ExtRing};
 ghost use Rattle.field.specs.Element.{dec, Canon, Is};

@@ -1,10 +1,10 @@
--- The eq table, built by doubling; and cells as a point.
+-- The eq table, built by doubling.
 -- Assumes nothing.
-use mathlib.Core.Path.{_≡_, refl, sym, _∙_, ap, ap₂, subst}
+use mathlib.Core.Path.{_≡_, refl, sym, _∙_, ap, subst}
 use mathlib.Core.List.{List, [], _∷_, _++_}
 use mathlib.Core.Bool.{Bool, true, false, not}
 use Prim.Native.Nat.{ℕ, zero, suc, _+_, _*_, _-_, _^_, _<_, _≤_}
-use native.Mathlib.Nat.{add-zero, not-suc-le-zero, pow-le-pow-right, pow-succ'}
+use native.Mathlib.Nat.{not-suc-le-zero, pow-le-pow-right, pow-succ'}
 use native.Mathlib.Bridge.{le-by-compare, IsLe}
 use native.Mathlib.Numerals.{add-one}
 use native.Mathlib.Omega.{arith}
@@ -15,28 +15,13 @@ use Rattle.field.specs.Base as B
 use Rattle.field.specs.Ext as E
 use Rattle.field.specs.ExtRing.{ExtRing}
 use Rattle.field.specs.Element.{Is}
-use Rattle.field.specs.Cells.{cell, Clean, Stored}
+use Rattle.field.specs.Cells.{cell, Clean, Stored, cells}
+use Rattle.field.specs.PointLaws.{cells-length, cells-snoc}
 use Rattle.multilinear.specs.Table as Table
 use Rattle.multilinear.specs.TableLaws as TableLaws
 use Rattle.step.specs.Values.{minus}
 use Rattle.tree.specs.Nodes.{Filled}
-use Rattle.layer.specs.Columns.{cells, GrownEntry, Grown}
-
--- CELLS AS A POINT
-
-pub cells-snoc : (ws : List ℕ) (at n : ℕ) → cells ws at (suc n) ≡ cells ws at n ++ (cell ws (at + n) ∷ [])
-cells-snoc ws at zero = ap (λ k. cell ws k ∷ []) (sym (add-zero at))
-cells-snoc ws at (suc n) =
-    let e : suc at + n ≡ at + suc n = omega arith in
-    ap (λ t. cell ws at ∷ t) (cells-snoc ws (suc at) n ∙ ap (λ k. cells ws (suc at) n ++ (cell ws k ∷ [])) e)
-
-pub cells-kept : (ws ws' : List ℕ) (at n : ℕ) → ((i : ℕ) → at ≤ i → i < at + n → cell ws' i ≡ cell ws i) → cells ws' at n ≡ cells ws at n
-cells-kept ws ws' at zero h = refl
-cells-kept ws ws' at (suc n) h = ap₂ (λ x t. x ∷ t) (h at (omega arith) (omega arith)) (cells-kept ws ws' (suc at) n (λ i a b. h i (omega arith) (omega arith)))
-
-pub cells-length : (ws : List ℕ) (at k : ℕ) → length (cells ws at k) ≡ k
-cells-length ws at zero = refl
-cells-length ws at (suc k) = ap suc (cells-length ws (suc at) k)
+use Rattle.layer.specs.Columns.{GrownEntry, Grown}
 
 -- ONE ENTRY BECOMES TWO
 

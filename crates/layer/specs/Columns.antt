@@ -1,8 +1,8 @@
 -- A layer's columns in the workspace: the eq table from cell `at` on, the claims on pairs of nodes from node b on, and what the passes over them leave.
 -- Assumes nothing.
 use mathlib.Core.Path.{_≡_}
-use mathlib.Core.List.{List, [], _∷_}
-use Prim.Native.Nat.{ℕ, zero, suc, _+_, _*_, _<_, _≤_}
+use mathlib.Core.List.{List}
+use Prim.Native.Nat.{ℕ, _+_, _*_, _<_, _≤_}
 use Rattle.field.specs.Ext as E
 use Rattle.field.specs.ExtRing.{ExtRing}
 use Rattle.field.specs.Cells.{cell, Clean}
@@ -12,11 +12,6 @@ use Rattle.multilinear.specs.RoundSum.{Claims}
 use Rattle.gkr.specs.Tree as Tree
 use Rattle.step.specs.Values.{minus, weigh}
 use Rattle.tree.specs.Nodes.{node}
-
--- the n cells from `at` on, as a point
-abbrev pub cells : List ℕ → ℕ → ℕ → List E.Ext
-cells ws at zero = []
-cells ws at (suc n) = cell ws at ∷ cells ws (suc at) n
 
 abbrev pub eqs : List ℕ → ℕ → ℕ → E.Ext
 eqs ws at i = cell ws (at + i)

@@ -9,12 +9,12 @@ use Rattle.field.specs.Ext as E
 use Rattle.field.specs.ExtRing.{ExtRing}
 use Rattle.field.specs.declared.Ext.{Ext}
 use Rattle.field.specs.Element.{dec, enc, canonWords}
-use Rattle.field.specs.Cells.{cell}
+use Rattle.field.specs.Cells.{cell, cells}
 use Rattle.field.specs.Column.{flat}
 use Rattle.wire.specs.Words.{allCanonical}
 use Rattle.multilinear.specs.Table as Table
 use Rattle.columns.specs.Tables as Tables
-use Rattle.columns.specs.Passes.{cells, baseCell}
+use Rattle.columns.specs.Passes.{baseCell}
 use Rattle.poly.specs.declared.Outcome.{Outcome}
 use Rattle.poly.specs.declared.Outcome.the-variants.{Done, Refused}
 use Rattle.poly.specs.declared.Evaluated.{Evaluated}

@@ -11,8 +11,9 @@ use Rattle.field.specs.Ext as E
 use Rattle.field.specs.ExtRing.{ExtRing}
 use Rattle.field.specs.Extension.{Extension}
 use Rattle.field.specs.Element.{dec, words}
-use Rattle.field.specs.Cells.{cell, Clean}
+use Rattle.field.specs.Cells.{cell, Clean, cells}
 use Rattle.field.specs.CellLaws.{words-cell}
+use Rattle.field.specs.PointLaws.{cells-length}
 use Rattle.gkr.specs.Run.{Frac}
 use Rattle.gkr.specs.Transcripts.{Words}
 use Rattle.gkr.specs.Tree as Tree
@@ -21,8 +22,6 @@ use Rattle.transcript.specs.declared.Pos.{Pos}
 use Rattle.transcript.specs.Log.{Supplied, logOf, Steps}
 use Rattle.step.specs.declared.Frac.{Frac as FracW}
 use Rattle.step.specs.Values.{IsFrac}
-use Rattle.layer.specs.Columns.{cells}
-use Rattle.layer.proofs.Weights.{cells-length}
 use Rattle.stored.specs.Layout.{layout}
 use Rattle.stored.specs.Lengths.{proofSize}
 use Rattle.stored.specs.Elements.{encoded}

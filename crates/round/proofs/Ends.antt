@@ -1,20 +1,20 @@
 -- The end of a layer and of layer 0: a check that holds takes the model on, one that fails stops it there.
 -- Assumes nothing.
-use mathlib.Core.Path.{_≡_, refl, sym, _∙_, ap, ap₂, subst}
+use mathlib.Core.Path.{_≡_, refl, sym, _∙_, ap}
 use mathlib.Core.Bool.{Bool, true, false, cond, not}
 use mathlib.Core.List.{List, [], _∷_}
 use Prim.Native.Nat.{ℕ, _+_, _≤_}
 use native.Mathlib.Omega.{arith}
 use borrow.Author.Tests.{eq-eqb, not-true, not-false}
 use lib.Dec.{eqb}
-use lib.ListN.{length, take, drop}
+use lib.ListN.{length}
 use Rattle.field.specs.Ext as E
 use Rattle.field.specs.ExtRing.{ExtRing}
 use Rattle.field.specs.Extension.{Extension}
 use Rattle.field.specs.declared.Ext.{Ext}
 use Rattle.field.specs.Element.{dec, enc, Canon, Is, sameWords}
 use Rattle.field.specs.ElementLaws.{same-is, enc-of-is, zero-is}
-use Rattle.field.specs.Cells.{cell, Clean, Stored}
+use Rattle.field.specs.Cells.{cell, cells}
 use Rattle.multilinear.specs.RoundSum as RoundSum
 use Rattle.multilinear.specs.RoundSum.{Claims}
 use Rattle.gkr.specs.Run.{Frac, Cubic}
@@ -35,7 +35,6 @@ use Rattle.round.specs.declared.Sums.{Sums}
 use Rattle.round.specs.declared.Advance.the-variants.{Next, Stopped}
 use Rattle.round.specs.declared.Verdict.the-variants.{Refused}
 use Rattle.round.specs.Values.{columns}
-use Rattle.round.specs.Points.{segment}
 use Rattle.round.specs.Verdicts.{Model, answerOf, pointOf, loggedBy}
 use Rattle.round.specs.Rounds.{Descended, Goes, Stops, Came, Closed, Rooted}
 use Rattle.round.proofs.Points.{headed}
@@ -51,11 +50,11 @@ onward ch mss cs c z t =
 
 -- past a check that holds: mu sampled
 pub goes-on : (lg lg₁ lg₂ pt pt' ch : List ℕ) (k n m : ℕ) (c : Claims E.Ext) (pos₀ p : Pos) (r : Layer) (t : Words) (v : List (List (Cubic E.Ext)) → List (Claims E.Ext) → Model ch)
-    → ((mss : List (List (Cubic E.Ext))) (cs : List (Claims E.Ext)) → v mss cs ≡ onward ch mss cs c (segment pt 1 k) t) → Steps lg lg₁ pos₀ p n m (after c t)
+    → ((mss : List (List (Cubic E.Ext))) (cs : List (Claims E.Ext)) → v mss cs ≡ onward ch mss cs c (cells pt 1 k) t) → Steps lg lg₁ pos₀ p n m (after c t)
     → Descended pt pt' lg₁ lg₂ ch c p r → Goes lg lg₂ pt' ch pos₀ (k + 1) (n + 4) (m + 1) v r
 goes-on lg lg₁ lg₂ pt pt' ch k n m c pos₀ p r t v e a d =
     let g : logOf lg₁ p ≡ after c t = a .log in
-    let z : segment pt' 0 (k + 1) ≡ Supplied ch .draw (after c t) ∷ segment pt 1 k = headed pt pt' k _ (d .mu) ∙ ap (λ u. Supplied ch .draw u ∷ segment pt 1 k) g in
+    let z : cells pt' 0 (k + 1) ≡ Supplied ch .draw (after c t) ∷ cells pt 1 k = headed pt pt' k _ (d .mu) ∙ ap (λ u. Supplied ch .draw u ∷ cells pt 1 k) g in
     let f : columns r ≡ Tree.reduce-to-single-evaluation ExtRing c (Supplied ch .draw (after c t)) =
     (λ i. record { p = (d .numer .value ∙ ap (λ u. Tree.reduce-to-single-evaluation ExtRing c (Supplied ch .draw u) .p) g) i; q = (d .denom .value ∙ ap (λ u. Tree.reduce-to-single-evaluation ExtRing c (Supplied ch .draw u) .q) g) i }) in
     let u : logOf lg₂ (r .pos) ≡ Supplied ch .drawn (after c t) = d .steps .log ∙ ap (Supplied ch .drawn) g in
@@ -93,7 +92,7 @@ module _ (pt lg ch : List ℕ) (c : Claims E.Ext) (round : ℕ) (lambda : Ext) (
   fails = layer-check round (E.mul (RoundSum.cross ExtRing (dec lambda) c) (dec (s .eq))) (dec (s .claim)) (after c (logOf lg (s .pos)))
 
   closing : Gkr.rounds Extension (Supplied ch) (ms ∷ mss) (c ∷ cs) v z t
-      ≡ cond (E.same (E.mul (RoundSum.cross ExtRing (dec lambda) c) (dec (s .eq))) (dec (s .claim))) (onward ch mss cs c (segment pt 1 round) (logOf lg (s .pos)))
+      ≡ cond (E.same (E.mul (RoundSum.cross ExtRing (dec lambda) c) (dec (s .eq))) (dec (s .claim))) (onward ch mss cs c (cells pt 1 round) (logOf lg (s .pos)))
       fails
   unfolding Gkr.rounds
   closing =
@@ -103,12 +102,12 @@ module _ (pt lg ch : List ℕ) (c : Claims E.Ext) (round : ℕ) (lambda : Ext) (
   same-is-test : sameWords expected (s .claim) ≡ E.same (E.mul (RoundSum.cross ExtRing (dec lambda) c) (dec (s .eq))) (dec (s .claim))
   same-is-test = same-is x (record { canon = k; value = refl })
 
-  layer-holds : {b : Bool} → b ≡ sameWords expected (s .claim) → b ≡ true → Gkr.rounds Extension (Supplied ch) (ms ∷ mss) (c ∷ cs) v z t ≡ onward ch mss cs c (segment pt 1 round) (logOf lg (s .pos))
-  layer-holds e h = closing ∙ ap (λ b. cond b (onward ch mss cs c (segment pt 1 round) (logOf lg (s .pos))) fails) (sym same-is-test ∙ sym e ∙ h)
+  layer-holds : {b : Bool} → b ≡ sameWords expected (s .claim) → b ≡ true → Gkr.rounds Extension (Supplied ch) (ms ∷ mss) (c ∷ cs) v z t ≡ onward ch mss cs c (cells pt 1 round) (logOf lg (s .pos))
+  layer-holds e h = closing ∙ ap (λ b. cond b (onward ch mss cs c (cells pt 1 round) (logOf lg (s .pos))) fails) (sym same-is-test ∙ sym e ∙ h)
 
   layer-fails : {b : Bool} → b ≡ sameWords expected (s .claim) → b ≡ false → Gkr.rounds Extension (Supplied ch) (ms ∷ mss) (c ∷ cs) v z t
       ≡ fails
-  layer-fails e h = closing ∙ ap (λ b. cond b (onward ch mss cs c (segment pt 1 round) (logOf lg (s .pos))) fails) (sym same-is-test ∙ sym e ∙ h)
+  layer-fails e h = closing ∙ ap (λ b. cond b (onward ch mss cs c (cells pt 1 round) (logOf lg (s .pos))) fails) (sym same-is-test ∙ sym e ∙ h)
 
   layer-answer : _≡_ {A = Refusal} (LayerConsistencyCheckFailed round (enc (E.mul (RoundSum.cross ExtRing (dec lambda) c) (dec (s .eq)))) (enc (dec (s .claim)))) (LayerConsistencyCheckFailed round expected (s .claim))
   layer-answer = λ i. LayerConsistencyCheckFailed round (sym (enc-of-is x) i) (sym (enc-of-is (record { canon = k; value = refl })) i)

@@ -2,49 +2,34 @@
 -- Assumes nothing.
 use mathlib.Core.Path.{_≡_, refl, sym, _∙_, ap, ap₂}
 use mathlib.Core.List.{List, [], _∷_, _++_}
-use Prim.Native.Nat.{ℕ, zero, suc, _+_, _<_, _≤_}
-use native.Mathlib.Nat.{add-zero}
+use Prim.Native.Nat.{ℕ, zero, suc, _+_}
 use native.Mathlib.Numerals.{add-one}
 use native.Mathlib.Omega.{arith}
-use lib.ListN.{length}
 use Rattle.field.specs.Ext as E
-use Rattle.field.specs.Cells.{cell, Stored}
-use Rattle.round.specs.Points.{segment, ahead}
-
-pub segment-length : (ws : List ℕ) (i k : ℕ) → length (segment ws i k) ≡ k
-segment-length ws i zero = refl
-segment-length ws i (suc k) = ap suc (segment-length ws (suc i) k)
-
-pub segment-snoc : (ws : List ℕ) (i k : ℕ) → segment ws i (suc k) ≡ segment ws i k ++ (cell ws (i + k) ∷ [])
-segment-snoc ws i zero = ap (λ n. cell ws n ∷ []) (sym (add-zero i))
-segment-snoc ws i (suc k) =
-    let e : suc i + k ≡ i + suc k = omega arith in
-    ap (λ t. cell ws i ∷ t) (segment-snoc ws (suc i) k ∙ ap (λ n. segment ws (suc i) k ++ (cell ws n ∷ [])) e)
-
-pub segment-kept : (ws ws' : List ℕ) (i k : ℕ) → ((j : ℕ) → i ≤ j → j < i + k → cell ws' j ≡ cell ws j) → segment ws' i k ≡ segment ws i k
-segment-kept ws ws' i zero h = refl
-segment-kept ws ws' i (suc k) h = ap₂ (λ x t. x ∷ t) (h i (omega arith) (omega arith)) (segment-kept ws ws' (suc i) k (λ j a b. h j (omega arith) (omega arith)))
+use Rattle.field.specs.Cells.{cell, Stored, cells}
+use Rattle.field.specs.PointLaws.{cells-snoc, cells-kept}
+use Rattle.round.specs.Points.{ahead}
 
 -- the whole old point, as it stands before the first sub-round
-pub ahead-all : (ws : List ℕ) (k : ℕ) → ahead (cell ws 0) ws 0 k ≡ segment ws 0 k
+pub ahead-all : (ws : List ℕ) (k : ℕ) → ahead (cell ws 0) ws 0 k ≡ cells ws 0 k
 ahead-all ws zero = refl
 ahead-all ws (suc k) = refl
 
 -- what is left of it after one more, whose cell is overwritten
-pub ahead-next : (ws ws' : List ℕ) (i k : ℕ) (x r : E.Ext) → x ≡ cell ws (i + 1) → Stored ws ws' (i + 1) r → segment ws (suc i) k ≡ ahead x ws' (i + 1) k
+pub ahead-next : (ws ws' : List ℕ) (i k : ℕ) (x r : E.Ext) → x ≡ cell ws (i + 1) → Stored ws ws' (i + 1) r → cells ws (suc i) k ≡ ahead x ws' (i + 1) k
 ahead-next ws ws' i zero x r e h = refl
 ahead-next ws ws' i (suc k) x r e h =
     let q : suc (suc i) ≡ suc (i + 1) = omega arith in
     ap₂ (λ y t. y ∷ t) (ap (cell ws) (sym (add-one i)) ∙ sym e)
-    (ap (λ n. segment ws n k) q ∙ sym (segment-kept ws ws' (suc (i + 1)) k (λ j a b. h .rest j (λ c. omega arith))))
+    (ap (λ n. cells ws n k) q ∙ sym (cells-kept ws ws' (suc (i + 1)) k (λ j a b. h .rest j (λ c. omega arith))))
 
 -- one more coordinate of the new point, which begins in cell 1
-pub grown : (ws ws' : List ℕ) (j : ℕ) (r : E.Ext) → Stored ws ws' (j + 1) r → segment ws' 1 (j + 1) ≡ segment ws 1 j ++ (r ∷ [])
+pub grown : (ws ws' : List ℕ) (j : ℕ) (r : E.Ext) → Stored ws ws' (j + 1) r → cells ws' 1 (j + 1) ≡ cells ws 1 j ++ (r ∷ [])
 grown ws ws' j r h =
     let e : 1 + j ≡ j + 1 = omega arith in
-    ap (segment ws' 1) (add-one j) ∙ segment-snoc ws' 1 j
-    ∙ ap₂ (λ a x. a ++ (x ∷ [])) (segment-kept ws ws' 1 j (λ i a b. h .rest i (λ q. omega arith))) (ap (cell ws') e ∙ h .here)
+    ap (cells ws' 1) (add-one j) ∙ cells-snoc ws' 1 j
+    ∙ ap₂ (λ a x. a ++ (x ∷ [])) (cells-kept ws ws' 1 j (λ i a b. h .rest i (λ q. omega arith))) (ap (cell ws') e ∙ h .here)
 
 -- cell 0 put before the coordinates from cell 1 on
-pub headed : (ws ws' : List ℕ) (k : ℕ) (r : E.Ext) → Stored ws ws' 0 r → segment ws' 0 (k + 1) ≡ r ∷ segment ws 1 k
-headed ws ws' k r h = ap (segment ws' 0) (add-one k) ∙ ap₂ (λ x t. x ∷ t) (h .here) (segment-kept ws ws' 1 k (λ j a b. h .rest j (λ q. omega arith)))
+pub headed : (ws ws' : List ℕ) (k : ℕ) (r : E.Ext) → Stored ws ws' 0 r → cells ws' 0 (k + 1) ≡ r ∷ cells ws 1 k
+headed ws ws' k r h = ap (cells ws' 0) (add-one k) ∙ ap₂ (λ x t. x ∷ t) (h .here) (cells-kept ws ws' 1 k (λ j a b. h .rest j (λ q. omega arith)))

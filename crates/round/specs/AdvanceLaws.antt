@@ -10,6 +10,7 @@ use Rattle.field.specs.Ext as E
 use Rattle.field.specs.Element.{dec, Canon}
 use Rattle.field.specs.ElementLaws.{is-unique}
 use Rattle.field.specs.declared.Ext.{Ext}
+use Rattle.field.specs.Cells.{cells}
 use Rattle.multilinear.specs.RoundSum.{Claims}
 use Rattle.gkr.specs.Run.{Frac, Cubic}
 use Rattle.gkr.specs.Transcripts.{Words}
@@ -24,7 +25,6 @@ use Rattle.round.specs.declared.Advance.{Advance}
 use Rattle.round.specs.declared.Advance.the-variants.{Next, Stopped}
 use Rattle.round.specs.declared.Verdict.the-variants.{Accepted, Refused}
 use Rattle.round.specs.Values.{columns}
-use Rattle.round.specs.Points.{segment}
 use Rattle.round.specs.Verdicts.{Model, answerOf, loggedBy}
 use Rattle.round.specs.Rounds.{Goes, Stops, Advances}
 
@@ -50,11 +50,11 @@ stops-unique {e = e} {e' = e'} q q' h k =
     (cc, stops-buffer q h ∙ sym (stops-buffer q' k))
 
 module _ (lg ch : List ℕ) (pos : Pos) (k n m : ℕ) (v : List (List (Cubic E.Ext)) → List (Claims E.Ext) → Model ch) where
-  ends-in : {p l : List ℕ} {s : Layer} → Goes lg l p ch pos k n m v s → v [] [] ≡ accepted (columns s) (segment p 0 k) (logOf l (s .pos))
+  ends-in : {p l : List ℕ} {s : Layer} → Goes lg l p ch pos k n m v s → v [] [] ≡ accepted (columns s) (cells p 0 k) (logOf l (s .pos))
   unfolding Gkr.rounds
   ends-in h = h .verdict [] []
 
-  goes-unique : {lg' lg″ pt' pt″ : List ℕ} {a b : Layer} → Goes lg lg' pt' ch pos k n m v a → Goes lg lg″ pt″ ch pos k n m v b → (a ≡ b) × (segment pt' 0 k ≡ segment pt″ 0 k) × (lg' ≡ lg″)
+  goes-unique : {lg' lg″ pt' pt″ : List ℕ} {a b : Layer} → Goes lg lg' pt' ch pos k n m v a → Goes lg lg″ pt″ ch pos k n m v b → (a ≡ b) × (cells pt' 0 k ≡ cells pt″ 0 k) × (lg' ≡ lg″)
   goes-unique {a = a} {b = b} h h' =
       let e = accepted-parts ch (sym (ends-in h) ∙ ends-in h') in
       let l = log-unique lg (h .steps .put ∙ sym (h' .steps .put)) (e .2) (h .steps .rest) (h' .steps .rest) in (

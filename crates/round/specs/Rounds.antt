@@ -2,14 +2,14 @@
 -- Assumes nothing.
 use mathlib.Core.Path.{_≡_}
 use mathlib.Core.List.{List, [], _∷_}
-use Prim.Native.Nat.{ℕ, _+_, _*_, _≤_}
+use Prim.Native.Nat.{ℕ, _+_, _≤_}
 use lib.ListN.{length, take, drop}
 use Rattle.field.specs.Ext as E
 use Rattle.field.specs.ExtRing.{ExtRing}
 use Rattle.field.specs.Extension.{Extension}
 use Rattle.field.specs.declared.Ext.{Ext}
 use Rattle.field.specs.Element.{dec, Canon, Is}
-use Rattle.field.specs.Cells.{cell, Clean, Stored}
+use Rattle.field.specs.Cells.{cell, Clean, Stored, cells}
 use Rattle.multilinear.specs.Forms as Forms
 use Rattle.multilinear.specs.Interpolate as Interpolate
 use Rattle.multilinear.specs.RoundSum.{Claims}
@@ -29,7 +29,6 @@ use Rattle.round.specs.declared.Advance.{Advance}
 use Rattle.round.specs.declared.Advance.the-variants.{Next, Stopped}
 use Rattle.round.specs.declared.Verdict.the-variants.{Refused}
 use Rattle.round.specs.Values.{columns}
-use Rattle.round.specs.Points.{segment}
 use Rattle.round.specs.Verdicts.{Model, answerOf, pointOf, loggedBy}
 
 -- lambda is sampled and batches the claims, eq is one, and the old point's first coordinate is at hand
@@ -61,7 +60,7 @@ pub record Descended (pt pt' lg lg' ch : List ℕ) (c : Claims E.Ext) (pos : Pos
 
 -- A layer that holds: whatever layers come after it, the model goes on from here, at a point of k coordinates.
 pub record Goes (lg lg' pt' ch : List ℕ) (pos : Pos) (k n m : ℕ) (v : List (List (Cubic E.Ext)) → List (Claims E.Ext) → Model ch) (s : Layer) : Type 0 where
-  pub verdict : (mss : List (List (Cubic E.Ext))) (cs : List (Claims E.Ext)) → v mss cs ≡ Gkr.rounds Extension (Supplied ch) mss cs (columns s) (segment pt' 0 k) (logOf lg' (s .pos))
+  pub verdict : (mss : List (List (Cubic E.Ext))) (cs : List (Claims E.Ext)) → v mss cs ≡ Gkr.rounds Extension (Supplied ch) mss cs (columns s) (cells pt' 0 k) (logOf lg' (s .pos))
   pub steps : Steps lg lg' pos (s .pos) n m (logOf lg' (s .pos))
   pub numer : Canon (s .numer)
   pub denom : Canon (s .denom)
@@ -87,7 +86,7 @@ pub record Came (pt lg ch : List ℕ) (round : ℕ) (lambda : Ext) (s : Sums) (m
   pub counted : length ms ≡ round
   pub long : length z ≡ round
   pub drew : Supplied ch .draw t ≡ dec lambda
-  pub sums : Sumcheck.verify-gkr-sumcheck Extension (Supplied ch) ms z (E.add (v .p) (E.mul (Supplied ch .draw t) (v .q))) E.one (Supplied ch .drawn t) ≡ record { claim = dec (s .claim); point = segment pt 1 round; eq = dec (s .eq); log = logOf lg (s .pos) }
+  pub sums : Sumcheck.verify-gkr-sumcheck Extension (Supplied ch) ms z (E.add (v .p) (E.mul (Supplied ch .draw t) (v .q))) E.one (Supplied ch .drawn t) ≡ record { claim = dec (s .claim); point = cells pt 1 round; eq = dec (s .eq); log = logOf lg (s .pos) }
 
 -- the end of a layer, whatever its sub-rounds were
 abbrev pub Closed : (pt pt' lg lg' ch : List ℕ) (c : Claims E.Ext) (round : ℕ) (lambda : Ext) (s : Sums) (r : Advance) → Type 0

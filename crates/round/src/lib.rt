@@ -1,14 +1,13 @@
 // One round of the verifier, step by step, over messages that are read already: what is observed and sampled, how claims go on, what is checked.
 // All of these take canonical words.
-ghost use mathlib.Core.Path.{_≡_};
-ghost use mathlib.Core.List.{List, []};
-ghost use Prim.Native.Nat.{ℕ, _+_, _*_, _<_, _≤_};
+ghost use mathlib.Core.List.{[]};
+ghost use Prim.Native.Nat.{_+_, _*_, _<_, _≤_};
 ghost use lib.ListN.{length};
 ghost use Rattle.field.specs.Ext as E;
 ghost use Rattle.field.specs.ExtRing.{ExtRing};
 ghost use Rattle.field.specs.Extension.{Extension};
 ghost use Rattle.field.specs.Element.{dec, Canon, Is};
-ghost use Rattle.field.specs.Cells.{cell, Clean};
+ghost use Rattle.field.specs.Cells.{Clean};
 ghost use Rattle.multilinear.specs.Interpolate as Interpolate;
 ghost use Rattle.multilinear.specs.RoundSum as RoundSum;
 ghost use Rattle.gkr.specs.Tree as Tree;

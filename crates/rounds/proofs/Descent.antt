@@ -13,7 +13,8 @@ use Rattle.field.specs.Ext as E
 use Rattle.field.specs.ExtRing.{ExtRing}
 use Rattle.field.specs.Extension.{Extension}
 use Rattle.field.specs.Element.{dec, Is}
-use Rattle.field.specs.Cells.{cell, Clean, Stored}
+use Rattle.field.specs.Cells.{cell, Clean, Stored, cells}
+use Rattle.field.specs.PointLaws.{cells-kept, cells-length}
 use Rattle.multilinear.specs.Table as Table
 use Rattle.gkr.specs.Run.{Frac}
 use Rattle.gkr.specs.Transcripts.{Words}
@@ -28,8 +29,7 @@ use Rattle.step.specs.declared.Frac.{Frac as FracW}
 use Rattle.step.specs.Values.{IsFrac, decFrac}
 use Rattle.tree.specs.Nodes.{node, Filled}
 use Rattle.tree.proofs.Memory.{frac-path}
-use Rattle.layer.specs.Columns.{cells, eqs, claims}
-use Rattle.layer.proofs.Weights.{cells-kept, cells-length}
+use Rattle.layer.specs.Columns.{eqs, claims}
 use Rattle.layer.proofs.Entries.{claims-kept}
 use Rattle.layer.proofs.Agree.{send-same}
 use Rattle.rounds.specs.SubRounds.{sends, SubRounds}

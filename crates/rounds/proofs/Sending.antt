@@ -10,7 +10,8 @@ use Rattle.field.specs.Ext as E
 use Rattle.field.specs.ExtRing.{ExtRing}
 use Rattle.field.specs.Extension.{Extension}
 use Rattle.field.specs.Element.{dec, Is}
-use Rattle.field.specs.Cells.{cell, Clean, Stored}
+use Rattle.field.specs.Cells.{cell, Clean, Stored, cells}
+use Rattle.field.specs.PointLaws.{cells-snoc, cells-kept}
 use Rattle.multilinear.specs.Table as Table
 use Rattle.multilinear.specs.RoundSum as RoundSum
 use Rattle.gkr.specs.Run.{Cubic}
@@ -22,8 +23,7 @@ use Rattle.transcript.specs.Log.{Supplied, logOf, Steps}
 use Rattle.transcript.proofs.Logs.{then, retold, no-steps}
 use Rattle.step.specs.declared.Three.{Three}
 use Rattle.step.specs.Values.{IsThree, two, three}
-use Rattle.layer.specs.Columns.{cells, eqs, claims, summand, Folded}
-use Rattle.layer.proofs.Weights.{cells-snoc, cells-kept}
+use Rattle.layer.specs.Columns.{eqs, claims, summand, Folded}
 use Rattle.layer.proofs.Agree.{send-same}
 use Rattle.rounds.specs.SubRounds.{observedThree, told, SubRound, sends, Going, SubRounds}
 

@@ -6,10 +6,10 @@ use Prim.Native.Nat.{ℕ}
 use lib.ListN.{drop}
 use Rattle.field.specs.Ext as E
 use Rattle.field.specs.CellLaws.{stored-unique}
+use Rattle.field.specs.Cells.{cells}
 use Rattle.gkr.specs.Run.{Frac}
 use Rattle.transcript.specs.declared.Pos.{Pos}
 use Rattle.transcript.specs.LogLaws.{log-unique, steps-unique}
-use Rattle.layer.specs.Columns.{cells}
 use Rattle.rounds.specs.Layers.{Closed, AllLayers}
 
 pub closed-unique : {ws pt pt' pt″ lg lg' lg″ ch : List ℕ} {b : ℕ} {pos r s : Pos} → Closed ws pt pt' lg lg' ch b pos r → Closed ws pt pt″ lg lg″ ch b pos s → (r ≡ s) × (pt' ≡ pt″) × (lg' ≡ lg″)

@@ -7,7 +7,7 @@ use lib.ListN.{drop}
 use Rattle.field.specs.Ext as E
 use Rattle.field.specs.ExtRing.{ExtRing}
 use Rattle.field.specs.Extension.{Extension}
-use Rattle.field.specs.Cells.{cell, Clean, Stored}
+use Rattle.field.specs.Cells.{cell, Clean, Stored, cells}
 use Rattle.multilinear.specs.Table as Table
 use Rattle.multilinear.specs.RoundSum.{Claims}
 use Rattle.gkr.specs.Run.{Frac}
@@ -18,7 +18,7 @@ use Rattle.gkr.specs.Gkr as Gkr
 use Rattle.transcript.specs.declared.Pos.{Pos}
 use Rattle.transcript.specs.Log.{Supplied, logOf, Steps}
 use Rattle.tree.specs.Nodes.{node}
-use Rattle.layer.specs.Columns.{cells, claims}
+use Rattle.layer.specs.Columns.{claims}
 
 -- a fraction in the log
 abbrev pub observedFrac : Frac E.Ext → Words → Words

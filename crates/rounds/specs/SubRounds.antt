@@ -6,13 +6,13 @@ use Prim.Native.Nat.{ℕ, _+_, _*_, _<_, _≤_}
 use Rattle.field.specs.Ext as E
 use Rattle.field.specs.Extension.{Extension}
 use Rattle.field.specs.Element.{dec}
-use Rattle.field.specs.Cells.{cell, Clean, Stored}
+use Rattle.field.specs.Cells.{cell, Clean, Stored, cells}
 use Rattle.gkr.specs.Transcripts.{Words}
 use Rattle.gkr.specs.Sumcheck as Sumcheck
 use Rattle.transcript.specs.declared.Pos.{Pos}
 use Rattle.transcript.specs.Log.{Supplied, logOf, Steps}
 use Rattle.step.specs.declared.Three.{Three}
-use Rattle.layer.specs.Columns.{cells, eqs, claims, Folded}
+use Rattle.layer.specs.Columns.{eqs, claims, Folded}
 
 abbrev pub observedThree : Three → Words → Words
 observedThree s t = Sumcheck.observe-cubic Extension (Supplied []) (record { at1 = dec (s .s1); at2 = dec (s .s2); at3 = dec (s .s3) }) t

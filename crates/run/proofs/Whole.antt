@@ -16,13 +16,14 @@ use Rattle.gkr.specs.Transcripts.{Words}
 use Rattle.gkr.specs.Tree as Tree
 use Rattle.gkr.specs.Gkr as Gkr
 use Rattle.field.specs.declared.Ext.{Ext}
+use Rattle.field.specs.Cells.{cells}
 use Rattle.transcript.specs.declared.Pos.{Pos}
 use Rattle.transcript.specs.Log.{Supplied, logOf, Steps}
 use Rattle.transcript.proofs.Logs.{no-steps}
 use Rattle.step.specs.declared.Frac.{Frac as FracW}
 use Rattle.step.specs.Values.{IsFrac}
 use Rattle.tree.specs.Nodes.{node, Built}
-use Rattle.layer.specs.Columns.{cells, claims}
+use Rattle.layer.specs.Columns.{claims}
 use Rattle.rounds.specs.Layers.{observedClaims, Closed, Levels, logUpTo, usedUpTo, runs, AllLayers}
 use Rattle.run.specs.Runs.{Planted, origin, begun, RunOf}
 

@@ -4,12 +4,12 @@ use mathlib.Core.Path.{_≡_, sym, _∙_}
 use mathlib.Core.List.{List}
 use Prim.Native.Nat.{ℕ, suc, _^_}
 use Rattle.field.specs.Ext as E
+use Rattle.field.specs.Cells.{cells}
 use Rattle.gkr.specs.Run.{Frac}
 use Rattle.transcript.specs.declared.Pos.{Pos}
 use Rattle.transcript.specs.LogLaws.{log-unique}
 use Rattle.step.specs.declared.Frac.{Frac as FracW}
 use Rattle.step.specs.ValueLaws.{frac-unique}
-use Rattle.layer.specs.Columns.{cells}
 use Rattle.run.specs.Runs.{Planted, RunOf}
 
 -- the sum of two or more rows

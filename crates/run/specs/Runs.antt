@@ -8,7 +8,7 @@ use lib.ListN.{drop}
 use Rattle.field.specs.Ext as E
 use Rattle.field.specs.ExtRing.{ExtRing}
 use Rattle.field.specs.Extension.{Extension}
-use Rattle.field.specs.Cells.{Clean}
+use Rattle.field.specs.Cells.{Clean, cells}
 use Rattle.gkr.specs.Run.{Frac}
 use Rattle.gkr.specs.Transcripts.{Words}
 use Rattle.gkr.specs.Tree as Tree
@@ -18,7 +18,6 @@ use Rattle.transcript.specs.Log.{Supplied, logOf}
 use Rattle.step.specs.declared.Frac.{Frac as FracW}
 use Rattle.step.specs.Values.{IsFrac}
 use Rattle.tree.specs.Nodes.{node}
-use Rattle.layer.specs.Columns.{cells}
 use Rattle.rounds.specs.Layers.{Levels}
 
 -- the tree over the rows stands in the workspace, and its root is told

@@ -1,21 +1,20 @@
 -- The two counts, and what the run asks once they are right.
 -- Assumes nothing.
 use mathlib.Core.Path.{_≡_, refl, sym, _∙_, ap, ap₂, subst}
-use mathlib.Core.Bool.{true, false, cond}
+use mathlib.Core.Bool.{true, false}
 use mathlib.Core.List.{List, [], _∷_, _++_, map}
-use Prim.Native.Nat.{ℕ, zero, suc, _+_, _*_, _-_, _<_, _≤_}
+use Prim.Native.Nat.{ℕ, suc, _+_, _*_, _-_, _≤_}
 use native.Mathlib.Omega.{arith}
 use borrow.Author.Tests.{eq-eqb, ne-eqb}
 use lib.Dec.{eqb}
-use lib.ListN.{length, getD, take, drop}
+use lib.ListN.{length, drop}
 use Rattle.field.specs.Ext as E
 use Rattle.field.specs.Extension.{Extension}
 use Rattle.field.specs.Element.{dec, Canon}
-use Rattle.field.specs.Cells.{Clean}
 use Rattle.multilinear.specs.RoundSum.{Claims}
 use Rattle.gkr.specs.Run.{Cubic, Proof}
 use Rattle.gkr.specs.Transcripts.{Words}
-use Rattle.gkr.specs.Count.{layers-cost, run-cost, words, draws}
+use Rattle.gkr.specs.Count.{run-cost, words, draws}
 use Rattle.gkr.specs.Sizes.{challenges, log-words}
 use Rattle.gkr.specs.Gkr as Gkr
 use Rattle.gkr.specs.Gkr.{layer-count, poly-count}
@@ -27,11 +26,11 @@ use Rattle.wire.specs.Bytes.{elem}
 use Rattle.wire.specs.Words.{allCanonical, extWords}
 use Rattle.wire.specs.WordLaws.{canonical-left, canonical-right, canonical-elem}
 use Rattle.stored.specs.declared.Outline.{Outline}
-use Rattle.stored.specs.Layout.{claimsWords, polysWords, proofWords}
+use Rattle.stored.specs.Layout.{claimsWords, polysWords}
 use Rattle.stored.specs.Parse.{claimsOf, claimsFrom, entriesFrom, entriesFit, layerCount, entryCount, polysAt, proofOf}
 use Rattle.stored.specs.ParseLaws.{Shaped, claims-count, entries-count, claims-step}
 use Rattle.round.specs.declared.Advance.{Advance}
-use Rattle.round.specs.declared.Advance.the-variants.{Next, Stopped}
+use Rattle.round.specs.declared.Advance.the-variants.{Stopped}
 use Rattle.round.specs.declared.Verdict.the-variants.{Refused}
 use Rattle.round.specs.Values.{decClaims, decCubic, CanonClaims}
 use Rattle.round.specs.Verdicts.{Model, answerOf, pointOf, loggedBy}

@@ -1,19 +1,18 @@
 -- The end: what the run left is the definition's outcome; no second one fits, and what the buffers held before does not matter.
 -- Assumes nothing.
 use mathlib.Core.Path.{_≡_, refl, sym, _∙_, ap, ap₂, subst}
-use mathlib.Core.List.{List, [], _∷_, _++_}
-use Prim.Native.Nat.{ℕ, zero, suc, _+_, _*_, _<_, _≤_}
+use mathlib.Core.List.{List, [], _++_}
+use Prim.Native.Nat.{ℕ, zero, suc, _+_, _*_, _≤_}
 use native.Mathlib.Omega.{arith}
 use lib.ListN.{length, take, drop, take-append-drop}
 use lib.Seq.{take-add, drop-drop, length-take-le}
 use Rattle.field.specs.Ext as E
 use Rattle.field.specs.Element.{dec, enc, words}
 use Rattle.field.specs.ElementLaws.{enc-dec}
-use Rattle.field.specs.Cells.{cell, Clean}
+use Rattle.field.specs.Cells.{cell, Clean, cells}
 use Rattle.field.specs.CellLaws.{words-cell}
 use Rattle.gkr.specs.Gkr.{accepted}
 use Rattle.gkr.specs.Sizes.{challenges}
-use Rattle.transcript.specs.declared.Pos.{Pos}
 use Rattle.transcript.specs.Log.{logOf}
 use Rattle.refusal.specs.Limits.{maxRounds}
 use Rattle.wire.specs.Words.{allCanonical}
@@ -21,23 +20,20 @@ use Rattle.wire.specs.WordLaws.{canonical-below}
 use Rattle.refusal.specs.declared.Refusal.{Refusal}
 use Rattle.stored.specs.declared.Outline.{Outline}
 use Rattle.stored.specs.Parse.{proofOf}
-use Rattle.round.specs.declared.Layer.{Layer}
 use Rattle.round.specs.declared.Advance.{Advance}
 use Rattle.round.specs.declared.Advance.the-variants.{Next, Stopped}
 use Rattle.round.specs.declared.Verdict.{Verdict}
 use Rattle.round.specs.declared.Verdict.the-variants.{Accepted, Refused}
 use Rattle.round.specs.Values.{columns}
-use Rattle.round.specs.Points.{segment}
 use Rattle.round.specs.Verdicts.{Model, answerOf, pointOf, loggedBy, pointWords}
-use Rattle.round.specs.Rounds.{Stops}
-use Rattle.all_rounds.specs.Runs.{Accepts, Ends}
+use Rattle.all_rounds.specs.Runs.{Ends}
 use Rattle.verifier.specs.Verified.{Outcome, outcome, written, needed, verdict, ended, Way, refuse, proceed, firstRefusal, follow, verified}
 use Rattle.verifier.specs.declared.Gate.{Gate}
 use Rattle.verifier.specs.declared.Gate.the-variants.{Open, Shut}
 use Rattle.verifier.specs.Gates.{Opened, Gated, Ready, pointLeft, answered}
 
 -- a clean point's words are those of its coordinates
-pub point-is : (ws : List ℕ) (i k : ℕ) → Clean ws → 4 * i + 4 * k ≤ length ws → pointWords (segment ws i k) ≡ take (4 * k) (drop (4 * i) ws)
+pub point-is : (ws : List ℕ) (i k : ℕ) → Clean ws → 4 * i + 4 * k ≤ length ws → pointWords (cells ws i k) ≡ take (4 * k) (drop (4 * i) ws)
 point-is ws i zero c h = refl
 point-is ws i (suc k) c h =
     let e : 4 * suc k ≡ 4 + 4 * k = omega arith in
@@ -61,12 +57,12 @@ module _ (p lg lg' ch : List ℕ) (v : Model ch) (l : length lg' ≡ length lg) 
       let c : lg' ≡ written (loggedBy ch v) lg = front lg lg' (s .end) (loggedBy ch v) (omega (arith, s .room, l)) (s .log) (s .rest) in
       λ i. outcome (a i) (b i) (c i)
   ended-is n pt' p' (Next s) x a h q y =
-      let w : take (4 * n) pt' ≡ pointWords (segment pt' 0 n) = sym (point-is pt' 0 n (a .clean) (omega arith)) in
-      let len : 4 * n ≡ length (pointWords (segment pt' 0 n)) = sym (length-take-le (4 * n) pt' h) ∙ ap length w in
-      let e : p' ≡ written (pointWords (segment pt' 0 n)) p = q ∙ ap₂ _++_ w (ap (λ k. drop k p) len) in
+      let w : take (4 * n) pt' ≡ pointWords (cells pt' 0 n) = sym (point-is pt' 0 n (a .clean) (omega arith)) in
+      let len : 4 * n ≡ length (pointWords (cells pt' 0 n)) = sym (length-take-le (4 * n) pt' h) ∙ ap length w in
+      let e : p' ≡ written (pointWords (cells pt' 0 n)) p = q ∙ ap₂ _++_ w (ap (λ k. drop k p) len) in
       let f : lg' ≡ written (take (s .pos .put) lg') lg = front lg lg' (s .pos .put) _ (omega (arith, a .room, l)) refl (a .rest) in
       let g : x ≡ Accepted (enc (dec (s .numer))) (enc (dec (s .denom))) = y ∙ (λ i. Accepted (sym (enc-dec (a .numer)) i) (sym (enc-dec (a .denom)) i)) in
-      let z : outcome x p' lg' ≡ ended ch (accepted (columns s) (segment pt' 0 n) (logOf lg' (s .pos))) p lg = (λ i. outcome (g i) (e i) (f i)) in
+      let z : outcome x p' lg' ≡ ended ch (accepted (columns s) (cells pt' 0 n) (logOf lg' (s .pos))) p lg = (λ i. outcome (g i) (e i) (f i)) in
       z ∙ ap (λ u. ended ch u p lg) (sym (a .verdict))
 
 -- what the checks told, case by case

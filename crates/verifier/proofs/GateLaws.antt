@@ -3,7 +3,7 @@
 use mathlib.Core.Path.{_≡_, refl, sym, _∙_, ap, subst}
 use mathlib.Core.Bool.{Bool, true, false, cond, not}
 use mathlib.Core.List.{List}
-use Prim.Native.Nat.{ℕ, _+_, _*_, _<_, _≤_}
+use Prim.Native.Nat.{ℕ, _*_, _<_, _≤_}
 use native.Mathlib.Omega.{arith}
 use borrow.Author.Tests.{lt-ltb, le-ltb, eq-eqb, ne-eqb, not-true, not-false}
 use lib.Dec.{eqb, ltb}
@@ -23,7 +23,7 @@ use Rattle.stored.specs.ParseLaws.{Shaped, good-shape, reads-parse}
 use Rattle.verifier.specs.declared.Gate.{Gate}
 use Rattle.verifier.specs.declared.Gate.the-variants.{Open, Shut}
 use Rattle.verifier.specs.Verified.{needed, Way, refuse, proceed, readWay, firstRefusal}
-use Rattle.verifier.specs.Gates.{wordsGate, Opened, Gated}
+use Rattle.verifier.specs.Gates.{wordsGate, Gated}
 
 -- ---- the words
 pub words-shut : (bs : List ℕ) (o : Outline) (needs : List ℕ) (b : Bool) → b ≡ allCanonical (proofWords (proofOf bs)) → not b ≡ true → Shut BadWord ≡ wordsGate bs o needs

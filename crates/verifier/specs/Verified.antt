@@ -1,6 +1,6 @@
 -- What verify_gkr answers, and what it leaves in point and log, for every proof, rounds, challenges and room.
 -- Assumes nothing.
-use mathlib.Core.Bool.{Bool, true, cond}
+use mathlib.Core.Bool.{true, cond}
 use mathlib.Core.List.{List, [], _++_, map}
 use Prim.Native.Nat.{ℕ, _*_}
 use lib.Dec.{eqb, ltb}

@@ -1,5 +1,4 @@
 use Rattle.all_rounds.proofs.SubLaws.{cubic-told, told-again}
-use native.Mathlib.Omega.{arith}
 use borrow.Author.Needs.{needs}
 use Rattle.all_rounds.proofs.sub_round_at.Statement.{statement}
 use Rattle.all_rounds.proofs.sub_round_at.Tie as tie

@@ -1,5 +1,4 @@
 use Rattle.layer.proofs.Entries.{sums-added}
-use native.Mathlib.Omega.{arith}
 use borrow.Author.Needs.{needs}
 use Rattle.layer.proofs.add_summands.Statement.{statement}
 use Rattle.layer.proofs.add_summands.Tie as tie

@@ -5,7 +5,6 @@ use lib.Pow.{pow-pos}
 use Rattle.field.specs.ExtRing.{ExtRing}
 use Rattle.multilinear.specs.Table as Table
 use Rattle.tree.specs.Nodes.{Filled}
-use Rattle.layer.specs.Columns.{cells}
 use Rattle.layer.proofs.Weights.{one-is, weights-start, eq-next, pow-next, double-le, fill-after}
 use borrow.Author.Needs.{needs}
 use native.Mathlib.Omega.{arith}
@@ -15,6 +14,7 @@ use Rattle.layer.proofs.evals_eq_hypercube.Reads as reads
 use Rattle.layer.proofs.evals_eq_hypercube.Lts as lts
 use Rattle.field.proofs.load.Reads as load-reads
 use Rattle.field.proofs.store.Reads as store-reads
+use Rattle.field.specs.Cells.{cells}
 use Rattle.layer.proofs.grow.Reads as grow-reads
 
 abbrev Inv-loop : tie.InvT-loop

@@ -1,5 +1,4 @@
 use Rattle.layer.proofs.Weights.{grown-entry}
-use native.Mathlib.Omega.{arith}
 use borrow.Author.Needs.{needs}
 use Rattle.layer.proofs.grow_entry.Statement.{statement}
 use Rattle.layer.proofs.grow_entry.Tie as tie

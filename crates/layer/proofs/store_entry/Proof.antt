@@ -1,5 +1,4 @@
 use Rattle.layer.proofs.Entries.{entry-stored}
-use native.Mathlib.Omega.{arith}
 use borrow.Author.Needs.{needs}
 use Rattle.layer.proofs.store_entry.Statement.{statement}
 use Rattle.layer.proofs.store_entry.Tie as tie

@@ -1,7 +1,6 @@
 use Rattle.field.specs.Ext as E
 use Rattle.field.specs.Element.{dec}
 use Rattle.prover.proofs.Answering.{deny-asserted, deny-open}
-use native.Mathlib.Omega.{arith}
 use borrow.Author.Needs.{needs}
 use Rattle.prover.proofs.contradicts.Statement.{statement}
 use Rattle.prover.proofs.contradicts.Tie as tie

@@ -1,7 +1,6 @@
 use mathlib.Core.Path.{sym, _∙_}
 use Rattle.prover.proofs.Opening.{gate-opens}
 use Rattle.prover.proofs.Answering.{proved-shut, proved-open}
-use native.Mathlib.Omega.{arith}
 use borrow.Author.Needs.{needs}
 use Rattle.prover.proofs.fractional_sumcheck.Statement.{statement}
 use Rattle.prover.proofs.fractional_sumcheck.Tie as tie

@@ -1,6 +1,5 @@
 use mathlib.Core.Path.{sym, _∙_, ap}
 use Rattle.prover.specs.Report.{answerReport}
-use native.Mathlib.Omega.{arith}
 use borrow.Author.Needs.{needs}
 use Rattle.prover.proofs.number_and_values.Statement.{statement}
 use Rattle.prover.proofs.number_and_values.Tie as tie

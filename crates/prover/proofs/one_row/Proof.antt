@@ -1,5 +1,4 @@
 use Rattle.prover.proofs.Answering.{one-refused, one-single}
-use native.Mathlib.Omega.{arith}
 use borrow.Author.Needs.{needs}
 use Rattle.prover.proofs.one_row.Statement.{statement}
 use Rattle.prover.proofs.one_row.Tie as tie

@@ -1,7 +1,6 @@
-use Rattle.stored.specs.Shapes.{claimsIn, cubicIn}
+use Rattle.stored.specs.Shapes.{claimsIn}
 use Rattle.round.specs.Values.{decClaims}
 use Rattle.round.proofs.Ends.{closed-go, closed-stop}
-use native.Mathlib.Omega.{arith}
 use borrow.Author.Needs.{needs}
 use Rattle.round.proofs.close_layer.Statement.{statement}
 use Rattle.round.proofs.close_layer.Tie as tie

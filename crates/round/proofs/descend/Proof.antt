@@ -1,7 +1,6 @@
-use Rattle.stored.specs.Shapes.{claimsIn, cubicIn}
+use Rattle.stored.specs.Shapes.{claimsIn}
 use Rattle.round.specs.Values.{decClaims}
 use Rattle.round.proofs.Observed.{descended}
-use native.Mathlib.Omega.{arith}
 use borrow.Author.Needs.{needs}
 use Rattle.round.proofs.descend.Statement.{statement}
 use Rattle.round.proofs.descend.Tie as tie

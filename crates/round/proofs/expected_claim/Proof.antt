@@ -1,7 +1,6 @@
-use Rattle.stored.specs.Shapes.{claimsIn, cubicIn}
+use Rattle.stored.specs.Shapes.{claimsIn}
 use Rattle.round.proofs.Arithmetic.{expected-is}
 use Rattle.round.specs.Values.{decClaims}
-use native.Mathlib.Omega.{arith}
 use borrow.Author.Needs.{needs}
 use Rattle.round.proofs.expected_claim.Statement.{statement}
 use Rattle.round.proofs.expected_claim.Tie as tie

@@ -1,5 +1,4 @@
 use Rattle.round.proofs.Arithmetic.{claim-on}
-use native.Mathlib.Omega.{arith}
 use borrow.Author.Needs.{needs}
 use Rattle.round.proofs.next_claim.Statement.{statement}
 use Rattle.round.proofs.next_claim.Tie as tie

@@ -1,7 +1,6 @@
-use Rattle.stored.specs.Shapes.{claimsIn, cubicIn}
+use Rattle.stored.specs.Shapes.{cubicIn}
 use Rattle.round.specs.Values.{decCubic}
 use Rattle.round.proofs.Observed.{three-observed}
-use native.Mathlib.Omega.{arith}
 use borrow.Author.Needs.{needs}
 use Rattle.round.proofs.observe_cubic.Statement.{statement}
 use Rattle.round.proofs.observe_cubic.Tie as tie

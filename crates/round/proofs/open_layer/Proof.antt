@@ -1,5 +1,4 @@
 use Rattle.round.proofs.Observed.{opened}
-use native.Mathlib.Omega.{arith}
 use borrow.Author.Needs.{needs}
 use Rattle.round.proofs.open_layer.Statement.{statement}
 use Rattle.round.proofs.open_layer.Tie as tie

@@ -1,4 +1,4 @@
-use Rattle.stored.specs.Shapes.{claimsIn, cubicIn}
+use Rattle.stored.specs.Shapes.{cubicIn}
 use Rattle.round.specs.Values.{decCubic}
 use Rattle.round.proofs.Observed.{sub-done}
 use native.Mathlib.Omega.{arith}

@@ -1,4 +1,4 @@
-use Rattle.stored.specs.Shapes.{claimsIn, cubicIn}
+use Rattle.stored.specs.Shapes.{claimsIn}
 use Rattle.round.specs.Values.{decClaims}
 use Rattle.round.proofs.Ends.{root-zero, root-differs, root-go}
 use native.Mathlib.Omega.{arith}

@@ -1,5 +1,4 @@
 use Rattle.rounds.proofs.Descent.{node-observed}
-use native.Mathlib.Omega.{arith}
 use borrow.Author.Needs.{needs}
 use Rattle.rounds.proofs.observe_fraction.Statement.{statement}
 use Rattle.rounds.proofs.observe_fraction.Tie as tie

@@ -1,5 +1,4 @@
 use Rattle.rounds.proofs.Sending.{three-observed}
-use native.Mathlib.Omega.{arith}
 use borrow.Author.Needs.{needs}
 use Rattle.rounds.proofs.observe_round_poly.Statement.{statement}
 use Rattle.rounds.proofs.observe_round_poly.Tie as tie

@@ -1,5 +1,4 @@
 use Rattle.rounds.proofs.Sending.{sub-done}
-use native.Mathlib.Omega.{arith}
 use borrow.Author.Needs.{needs}
 use Rattle.rounds.proofs.sub_round.Statement.{statement}
 use Rattle.rounds.proofs.sub_round.Tie as tie

@@ -1,5 +1,4 @@
 use Rattle.run.proofs.Whole.{begun-asserted, begun-open}
-use native.Mathlib.Omega.{arith}
 use borrow.Author.Needs.{needs}
 use Rattle.run.proofs.begin.Statement.{statement}
 use Rattle.run.proofs.begin.Tie as tie

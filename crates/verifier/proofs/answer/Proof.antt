@@ -1,7 +1,6 @@
 use mathlib.Core.Path.{sym, _∙_, ap}
 use Rattle.verifier.specs.Gates.{answered}
 use borrow.Author.Needs.{needs}
-use native.Mathlib.Omega.{arith}
 use Rattle.verifier.proofs.answer.Statement.{statement}
 use Rattle.verifier.proofs.answer.Tie as tie
 use Rattle.verifier.proofs.answer.Reads as reads

@@ -1,7 +1,6 @@
 use mathlib.Core.Path.{sym}
 use lib.Seq.{length-take-le}
 use Rattle.verifier.proofs.GateLaws.{way-10, way-11, way-4, way-5, way-5-log, way-12-13, way-6, shaped-by}
-use native.Mathlib.Omega.{arith}
 use borrow.Author.Needs.{needs}
 use Rattle.verifier.proofs.check.Statement.{statement}
 use Rattle.verifier.proofs.check.Tie as tie

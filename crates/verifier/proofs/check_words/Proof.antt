@@ -1,5 +1,4 @@
 use Rattle.verifier.proofs.GateLaws.{words-shut, needs-shut, words-open}
-use native.Mathlib.Omega.{arith}
 use borrow.Author.Needs.{needs}
 use Rattle.verifier.proofs.check_words.Statement.{statement}
 use Rattle.verifier.proofs.check_words.Tie as tie

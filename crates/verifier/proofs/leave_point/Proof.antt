@@ -1,6 +1,5 @@
 use mathlib.Core.Path.{sym, _∙_, ap}
 use Rattle.verifier.specs.Gates.{pointLeft}
-use native.Mathlib.Omega.{arith}
 use borrow.Author.Needs.{needs}
 use Rattle.verifier.proofs.leave_point.Statement.{statement}
 use Rattle.verifier.proofs.leave_point.Tie as tie

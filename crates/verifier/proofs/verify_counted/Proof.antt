@@ -1,6 +1,5 @@
 use Rattle.verifier.proofs.CountLaws.{layers-stop, polys-stop, root-counted, ready-there, ready-read, ready-space, ready-q0, ready-claims}
 use mathlib.Core.Path.{refl}
-use native.Mathlib.Omega.{arith}
 use borrow.Author.Needs.{needs}
 use Rattle.verifier.proofs.verify_counted.Statement.{statement}
 use Rattle.verifier.proofs.verify_counted.Tie as tie

@@ -1,6 +1,5 @@
 use Rattle.verifier.proofs.EndLaws.{opened-of, shut-of, shut-is, open-is}
 use lib.ListN.{length}
-use native.Mathlib.Omega.{arith}
 use borrow.Author.Needs.{needs}
 use Rattle.verifier.proofs.verify_gkr.Statement.{statement}
 use Rattle.verifier.proofs.verify_gkr.Tie as tie

@@ -3,7 +3,6 @@ use Prim.Native.Nat.{_-_, _≤_}
 use Rattle.field.specs.Element.{dec, Is}
 use Rattle.field.specs.ExtRing.{ExtRing}
 use Rattle.multilinear.specs.Table as Table
-use Rattle.columns.specs.Passes.{cells}
 use Rattle.columns.proofs.Turns.{eq-none, eq-turn}
 use Rattle.step.proofs.Algebra.{one-is}
 use borrow.Author.Needs.{needs}
@@ -13,6 +12,7 @@ use Rattle.columns.proofs.eq.eq_points.Tie as tie
 use Rattle.columns.proofs.eq.eq_points.Reads as reads
 use Rattle.columns.proofs.eq.eq_points.Lts as lts
 use Rattle.field.proofs.load.Reads as load-reads
+use Rattle.field.specs.Cells.{cells}
 use Rattle.step.proofs.eq.eq_step.Reads as eq-step-reads
 
 abbrev Inv-loop : tie.InvT-loop

@@ -1,9 +1,8 @@
 use mathlib.Core.Path.{_≡_, _∙_}
 use Prim.Native.Nat.{_-_, _^_, _≤_}
 use lib.ListN.{length}
-use Rattle.field.specs.Cells.{Clean}
+use Rattle.field.specs.Cells.{Clean, cells}
 use Rattle.field.specs.CellLaws.{clean-zeros}
-use Rattle.columns.specs.Passes.{cells}
 use Rattle.step.proofs.Algebra.{one-is}
 use Rattle.columns.specs.PowerLaws.{power-le}
 use Rattle.columns.proofs.Grows.{Weighs, double-le, weights-start, weights-turn, power-turn, weights-all}

@@ -3,8 +3,8 @@ use Prim.Native.Nat.{_/_}
 use lib.ListN.{length}
 use Rattle.field.specs.ExtRing.{ExtRing}
 use Rattle.field.specs.ElementLaws.{is-eq}
+use Rattle.field.specs.Cells.{cells}
 use Rattle.multilinear.specs.Table as Table
-use Rattle.columns.specs.Passes.{cells}
 use Rattle.poly.specs.declared.Outcome.the-variants.{Done}
 use Rattle.poly.specs.Evaluations.{point, eqRefusal}
 use Rattle.poly.proofs.Gates.{eq-open}
