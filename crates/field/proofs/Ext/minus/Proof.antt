@@ -1,4 +1,5 @@
 use Rattle.field.specs.Ext as E
+use Rattle.field.proofs.Residues.{is-four}
 use borrow.Author.Needs.{needs}
 use Rattle.field.proofs.Ext.minus.Statement.{statement}
 use Rattle.field.proofs.Ext.minus.Tie as tie
@@ -17,7 +18,7 @@ sub-word-requires-4 c κs = search needs
 
 returns : tie.Need-returns
 unfolding E.ext E.add E.neg
-returns c = record { canon = search needs; value = cc }
+returns c = is-four (c .before .before .before .sub-word .ensures) (c .before .before .sub-word2 .ensures) (c .before .sub-word3 .ensures) (c .sub-word4 .ensures)
 
 pub minus-spec : {M : Type 1} → statement M
 minus-spec =

@@ -1,4 +1,5 @@
 use Rattle.field.specs.Ext as E
+use Rattle.field.proofs.Residues.{is-four}
 use borrow.Author.Needs.{needs}
 use Rattle.field.proofs.Ext.plus.Statement.{statement}
 use Rattle.field.proofs.Ext.plus.Tie as tie
@@ -17,7 +18,7 @@ add-word-requires-4 c κs = search needs
 
 returns : tie.Need-returns
 unfolding E.ext E.add E.neg
-returns c = record { canon = search needs; value = cc }
+returns c = is-four (c .before .before .before .add-word .ensures) (c .before .before .add-word2 .ensures) (c .before .add-word3 .ensures) (c .add-word4 .ensures)
 
 pub plus-spec : {M : Type 1} → statement M
 plus-spec =

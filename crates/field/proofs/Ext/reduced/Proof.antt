@@ -1,4 +1,5 @@
 use Rattle.field.specs.Ext as E
+use Rattle.field.proofs.Residues.{is-four}
 use borrow.Author.Needs.{needs}
 use Rattle.field.proofs.Ext.reduced.Statement.{statement}
 use Rattle.field.proofs.Ext.reduced.Tie as tie
@@ -17,7 +18,7 @@ rest-word-requires-4 c κs = search needs
 
 returns : tie.Need-returns
 unfolding E.ext
-returns c = record { canon = search needs; value = cc }
+returns c = is-four (c .before .before .before .rest-word .ensures) (c .before .before .rest-word2 .ensures) (c .before .rest-word3 .ensures) (c .rest-word4 .ensures)
 
 pub reduced-spec : {M : Type 1} → statement M
 reduced-spec =
