@@ -1,6 +1,6 @@
 -- The identities behind the fast forms.
 -- Assumes nothing.
-use mathlib.Core.Path.{_≡_, refl}
+use mathlib.Core.Path.{_≡_, refl, _∙_}
 use mathlib.Core.List.{List, [], _∷_}
 use Rattle.ring.specs.Quote.{ring, quote}
 use Rattle.field.specs.Base as B
@@ -81,3 +81,18 @@ agree-fast x y = ring ExtRing (x ∷ y ∷ []) (search quote depth 20 fits 9999)
 pub one-is : E.ext 1 0 0 0 ≡ one
 unfolding one E.emb E.ext B.one B.nil
 one-is = refl
+
+-- the same, one operation of the code after another
+pub agree-steps : (x y : Ext) {b p u m n q : Ext} → b ≡ mul x y → p ≡ add b b → u ≡ one → m ≡ minus u x → n ≡ minus m y → q ≡ add p n → q ≡ Forms.agree ExtRing x y
+agree-steps x y eb ep eu em en eq = cc (agree-fast x y)
+
+pub thrice-steps : (s1 s2 d : Ext) {p q : Ext} → d ≡ minus s2 s1 → p ≡ add d d → q ≡ add p d → q ≡ mul (minus s2 s1) three
+thrice-steps s1 s2 d ed ep eq = cc (thrice d)
+
+pub quadratic-steps : (e0 e1 e2 x : Ext) {s1 s2 m p q h r : Ext} → s1 ≡ minus e1 e0 → s2 ≡ minus e2 e1 → m ≡ minus s2 s1 → p ≡ mul m (E.emb (of 1006632961)) → q ≡ minus s1 p → h ≡ add (mul p x) q → r ≡ add (mul h x) e0 → r ≡ Interpolate.quadratic Extension e0 e1 e2 x
+quadratic-steps e0 e1 e2 x {m = m} ea eb em ep eq eh er = cc (quadratic-is e0 e1 e2 x, by-half m)
+
+pub cubic-at-steps : (e0 e1 e2 e3 x : Ext) {s1 s2 s3 d r : Ext} → s1 ≡ minus e1 e0 → s2 ≡ minus e2 e0 → s3 ≡ minus e3 e0 → d ≡ minus s3 (mul (minus s2 s1) three) → r ≡ cubicFrom s1 s2 d e0 x → r ≡ Interpolate.cubic Extension e0 e1 e2 e3 x
+cubic-at-steps e0 e1 e2 e3 x ea eb ec ed er =
+    let e : _ ≡ minus (minus e3 e0) (mul (minus (minus e2 e0) (minus e1 e0)) three) = ed ∙ (λ i. minus (ec i) (mul (minus (eb i) (ea i)) three)) in
+    er ∙ (λ i. cubicFrom (ea i) (eb i) (e i) e0 x) ∙ cubic-is e0 e1 e2 e3 x

@@ -1,5 +1,8 @@
+use mathlib.Core.Path.{ap}
+use Rattle.field.specs.Ext as E
+use Rattle.field.specs.ElementLaws.{is-eq}
 use Rattle.field.specs.Element.{dec}
-use Rattle.step.proofs.Algebra.{agree-fast, one-is}
+use Rattle.step.proofs.Algebra.{agree-steps, one-is}
 use native.Mathlib.Omega.{arith}
 use borrow.Author.Needs.{needs}
 use Rattle.step.proofs.eq.eq_step.Statement.{statement}
@@ -31,7 +34,9 @@ times-requires-2 c κs = search needs
 returns : tie.Need-returns
 returns c =
     let a = c .before .before .before .before .before .before .args in
-    record { canon = search needs; value = cc (agree-fast (dec (a .x)) (dec (a .y)), one-is) }
+    is-eq (c .times2 .ensures)
+    (ap (λ (t : E.Ext). E.mul (dec (a .eq)) t)
+    (agree-steps (dec (a .x)) (dec (a .y)) (c .before .before .before .before .before .times .ensures .value) (c .before .before .before .before .plus .ensures .value) one-is (c .before .before .before .minus .ensures .value) (c .before .before .minus2 .ensures .value) (c .before .plus2 .ensures .value)))
 
 pub eq-step-spec : {M : Type 1} → statement M
 eq-step-spec =

@@ -1,5 +1,5 @@
 use Rattle.field.specs.Element.{dec}
-use Rattle.step.proofs.Algebra.{cubic-is}
+use Rattle.step.proofs.Algebra.{cubic-at-steps}
 use native.Mathlib.Omega.{arith}
 use borrow.Author.Needs.{needs}
 use Rattle.step.proofs.interpolate.cubic_at.Statement.{statement}
@@ -28,7 +28,7 @@ cubic-from-requires c κs = search needs
 returns : tie.Need-returns
 returns c =
     let a = c .before .before .before .before .before .args in
-    record { canon = search needs; value = cc (cubic-is (dec (a .e0)) (dec (a .e1)) (dec (a .e2)) (dec (a .e3)) (dec (a .x))) }
+    record { canon = c .cubic-from .ensures .canon; value = cubic-at-steps (dec (a .e0)) (dec (a .e1)) (dec (a .e2)) (dec (a .e3)) (dec (a .x)) (c .before .before .before .before .minus .ensures .value) (c .before .before .before .minus2 .ensures .value) (c .before .before .minus3 .ensures .value) (c .before .third-difference .ensures .value) (c .cubic-from .ensures .value) }
 
 pub cubic-at-spec : {M : Type 1} → statement M
 cubic-at-spec =

@@ -1,5 +1,5 @@
 use Rattle.field.specs.Element.{dec}
-use Rattle.step.proofs.Algebra.{by-half, quadratic-is}
+use Rattle.step.proofs.Algebra.{quadratic-steps}
 use native.Mathlib.Omega.{arith}
 use borrow.Author.Needs.{needs}
 use Rattle.step.proofs.interpolate.quadratic_at.Statement.{statement}
@@ -34,8 +34,7 @@ horner-step-requires-2 c κs = search needs
 returns : tie.Need-returns
 returns c =
     let a = c .before .before .before .before .before .before .before .args in
-    let m = c .before .before .before .before .minus3 .result in
-    record { canon = search needs; value = cc (quadratic-is (dec (a .e0)) (dec (a .e1)) (dec (a .e2)) (dec (a .x)), by-half (dec m)) }
+    record { canon = c .horner-step2 .ensures .canon; value = quadratic-steps (dec (a .e0)) (dec (a .e1)) (dec (a .e2)) (dec (a .x)) (c .before .before .before .before .before .before .minus .ensures .value) (c .before .before .before .before .before .minus2 .ensures .value) (c .before .before .before .before .minus3 .ensures .value) (c .before .before .before .times-word .ensures .value) (c .before .before .minus4 .ensures .value) (c .before .horner-step .ensures .value) (c .horner-step2 .ensures .value) }
 
 pub quadratic-at-spec : {M : Type 1} → statement M
 quadratic-at-spec =

@@ -1,5 +1,9 @@
+use mathlib.Core.Path.{ap}
+use Rattle.field.specs.ElementLaws.{is-eq}
+use Rattle.step.specs.Values.{minus}
+use Rattle.field.specs.Ext as E
 use Rattle.field.specs.Element.{dec}
-use Rattle.step.proofs.Algebra.{thrice}
+use Rattle.step.proofs.Algebra.{thrice-steps}
 use native.Mathlib.Omega.{arith}
 use borrow.Author.Needs.{needs}
 use Rattle.step.proofs.interpolate.third_difference.Statement.{statement}
@@ -23,8 +27,9 @@ minus-requires-2 c κs = search needs
 
 returns : tie.Need-returns
 returns c =
-    let d = c .before .before .before .minus .result in
-    record { canon = search needs; value = cc (thrice (dec d)) }
+    let a = c .before .before .before .before .args in
+    let d = c .before .before .before .minus in
+    is-eq (c .minus2 .ensures) (ap (λ (t : E.Ext). minus (dec (a .s3)) t) (thrice-steps (dec (a .s1)) (dec (a .s2)) (dec (d .result)) (d .ensures .value) (c .before .before .plus .ensures .value) (c .before .plus2 .ensures .value)))
 
 pub third-difference-spec : {M : Type 1} → statement M
 third-difference-spec =
