@@ -1,4 +1,4 @@
-"""Makes cases: random and damaged ones from a seed, and short ones exhaustively. Sizes stay within LARGEST."""
+"""Makes random and damaged cases from a seed. Sizes stay within LARGEST."""
 
 import ask
 import model as m
