@@ -4,7 +4,8 @@ use mathlib.Core.Path.{_≡_, ap, _∙_}
 use Prim.Native.Nat.{ℕ}
 use mathlib.Core.List.{[], _∷_, _++_}
 use Rattle.refusal.specs.declared.Report.{Report}
-use Rattle.accudrina.specs.Answer.{Told, tells, fieldWord, extWords, answerWords}
+use Rattle.wire.specs.Words.{extWords}
+use Rattle.accudrina.specs.Answer.{Told, tells, fieldWord, answerWords}
 use Rattle.accudrina.specs.Calls.{Returned}
 
 pub returned : {B : Type 0} {t : Told} {r r′ : Report} {b b′ : B} → t ≡ tells r → r ≡ r′ → b ≡ b′ → _≡_ {A = Returned B} (record { told = t; buffers = b }) (record { told = tells r′; buffers = b′ })

@@ -2,15 +2,12 @@
 -- Assumes nothing.
 use mathlib.Core.List.{List, [], _∷_, _++_}
 use Prim.Native.Nat.{ℕ, _%_}
-use Rattle.field.specs.declared.Ext.{Ext}
+use Rattle.wire.specs.Words.{extWords}
 use Rattle.refusal.specs.declared.Report.{Report}
 
 -- a plain field in a word: every count, row and round is far below 2 ^ 32
 abbrev pub fieldWord : ℕ → ℕ
 fieldWord x = x % 4294967296
-
-abbrev pub extWords : Ext → List ℕ
-extWords e = e .c0 ∷ e .c1 ∷ e .c2 ∷ e .c3 ∷ []
 
 unfoldable pub answerWords : Report → List ℕ
 answerWords r =
