@@ -97,7 +97,7 @@ folds-next ws₀ ws ws' at b n half r u h f s =
 -- WEIGHING
 
 pub weighs-none : (ws : List ℕ) (b : ℕ) (l : E.Ext) → Clean ws → Weighed ws ws b 0 l
-weighs-none ws b l h = record { clean = h; nodes = λ y u. absurd (not-suc-le-zero u); above = λ j u. refl }
+weighs-none ws b l h = record { clean = h; nodes = λ y u. absurd (not-suc-le-zero u); below = λ j u. refl; above = λ j u. refl }
 
 pub weighs-next : (ws₀ ws ws' : List ℕ) (b n : ℕ) (l : E.Ext) → Weighed ws₀ ws b n l
     → Stored ws ws' (2 * (b + (2 * n + 1))) (E.add (E.mul (cell ws (2 * (b + (2 * n + 1)) + 1)) l) (cell ws (2 * (b + (2 * n + 1)))))
@@ -113,6 +113,7 @@ weighs-next ws₀ ws ws' b n l f s =
             p1 = (s .here ∙ ap₂ (λ q p. E.add (E.mul q l) p) (f .above (2 * (b + (2 * n + 1)) + 1) (omega arith)) (f .above (2 * (b + (2 * n + 1))) (omega arith))) i;
             q1 = (s .rest (2 * (b + (2 * n + 1)) + 1) (λ e. omega arith) ∙ f .above (2 * (b + (2 * n + 1)) + 1) (omega arith)) i;
           });
+      below = λ j u. s .rest j (λ e. omega arith) ∙ f .below j u;
       above = λ j u. s .rest j (λ e. omega arith) ∙ f .above j (omega arith);
     }
 

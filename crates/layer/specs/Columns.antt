@@ -40,10 +40,11 @@ pub record Grown (ws ws' : List ℕ) (at size n : ℕ) (x : E.Ext) : Type 0 wher
   pub between : (j : ℕ) → at + n ≤ j → j < at + size → cell ws' j ≡ cell ws j
   pub above : (j : ℕ) → at + size + n ≤ j → cell ws' j ≡ cell ws j
 
--- the claims of the first n entries are weighed by lambda, and all cells behind them are as before
+-- the claims of the first n entries are weighed by lambda, and all other cells are as before
 pub record Weighed (ws ws' : List ℕ) (b n : ℕ) (lambda : E.Ext) : Type 0 where
   pub clean : Clean ws'
   pub nodes : (y : ℕ) → y < n → claims ws' b y ≡ weigh lambda (claims ws b y)
+  pub below : (j : ℕ) → j < 2 * b → cell ws' j ≡ cell ws j
   pub above : (j : ℕ) → 2 * b + 4 * n ≤ j → cell ws' j ≡ cell ws j
 
 -- x and c are put into entry y
