@@ -11,8 +11,11 @@
  *         [12] to [15] zero. A field that an answer does not have is zero.
  * Memory. Nothing is allocated or kept between calls: there is no state, and any number of threads may call at once, each with its
  *         own buffers. Each pointer is aligned and not NULL, also with length 0, and what a call writes overlaps nothing else that
- *         it is given. A buffer may be longer than is asked for; of what it held nothing is read, and what is not said to be written
- *         stays as it was. */
+ *         it is given. A buffer that is written may be longer than is asked for; of what it held nothing is read, and what is not said to
+ *         be written stays as it was. Challenges may be longer too. A proof or a sheet that is read may not: pass its exact bytes
+ *         (13 otherwise).
+ * Meaning. A verdict of 0 is not yet a result: docs/WHAT-A-PROOF-SAYS.md has what it says and what it does not. With challenges that
+ *         are supplied, whoever knows them can make a proof of a false sum that is accepted. */
 #ifndef ACCUDRINA_H
 #define ACCUDRINA_H
 
@@ -89,9 +92,12 @@ uint32_t accudrina_prove(const uint32_t *rows, size_t rows_len,
                          uint32_t *work, size_t work_len,
                          uint32_t answer[ACCUDRINA_ANSWER_WORDS]);
 
-/* Verifies a proof that the sum of 2^rounds rows is zero.
- * Done, accepted: the claims in [4] to [7] and [8] to [11], the values at the point of the columns p and q of the sheet; the caller
- * compares them with the sheet. The point and the log stand at the front of their buffers, and equal the prover's.
+/* Verifies a proof that the sum of 2^rounds rows is zero. proof_len is the proof's exact length.
+ * Done, accepted: two claims in [4] to [7] and [8] to [11]; the point and the log stand at the front of their buffers. Of every accepted
+ * proof that is all: the sheet was not seen, and the caller compares the claims with the values of its columns p and q at the point.
+ * Of a proof that accudrina_prove wrote with assert_zero, given the same challenges, it is proved that it is accepted, that the claims are
+ * these values, and that point and log equal the prover's.
+ * A proof whose q0 is 0 is accepted too, and says nothing about the rows: q0 is the first element, in the proof's bytes 5 to 20.
  * Refused as the first that fits of 10, 11, 4, 5, 12, 13, 6, 14, 15, then 16 to 19 as the run meets them: the point is as it was; so
  * is the log, but for 16 to 19, which leave what the run observed and sampled until then. */
 uint32_t accudrina_verify(const uint8_t *proof, size_t proof_len,

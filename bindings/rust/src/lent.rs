@@ -34,7 +34,7 @@ pub struct Done {
     pub sum: Fraction,
 }
 
-/// What an accepted proof claims of the sheet: the values of both columns at the point.
+/// What an accepted proof claims: values of a sheet's columns p and q at the point. Whether they are your sheet's is for you to compare.
 #[derive(Clone, Copy, Debug, PartialEq, Eq)]
 pub struct Claims {
     pub numer: Element,
@@ -85,7 +85,7 @@ pub fn prove_into(rows: &[u32], mode: Mode, sum: Sum, challenges: &[u32], rooms:
     }
 }
 
-/// Verifies a proof of so many rounds.
+/// Verifies a proof of so many rounds, by its exact bytes.
 pub fn verify_into(proof: &[u8], rounds: usize, challenges: &[u32], point: &mut [u32], log: &mut [u32]) -> Result<Claims, Refusal> {
     let mut answer = [0; 16];
     // Safe: as in `read_sheet_into`.

@@ -4,7 +4,9 @@
 //! must be. Every call ends with an answer for all bytes, words and lengths; what is refused says why. Calls share no state, so any
 //! number of threads may call at once.
 //!
-//! What an accepted proof says and does not say stands in the repository's README: read it before you file one.
+//! A verdict is not yet a result. The challenges are supplied, and whoever knows them can make a proof of a false sum that is
+//! accepted; and a proof whose `q0` is zero is accepted and says nothing about the rows. What an accepted proof says, and what it does
+//! not, stands in the repository's `docs/WHAT-A-PROOF-SAYS.md`: read it before you file one.
 
 mod element;
 mod ffi;

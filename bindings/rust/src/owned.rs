@@ -33,7 +33,7 @@ pub fn read_sheet(sheet: &[u8]) -> Result<Vec<Fraction>, Refusal> {
     Ok(elements.chunks_exact(2).map(|e| Fraction::new(e[0], e[1])).collect())
 }
 
-/// A proof of the rows.
+/// A proof of the rows. A sum whose q is zero is proved too, and says nothing about the rows: look at [`Proved::sum`].
 pub fn prove(rows: &[Fraction], mode: Mode, sum: Sum, challenges: &[Element]) -> Result<Proved, Refusal> {
     let n = rooms::rounds(rows.len());
     let mut proof = vec![0; rooms::proof_bytes(n)];
@@ -45,7 +45,10 @@ pub fn prove(rows: &[Fraction], mode: Mode, sum: Sum, challenges: &[Element]) ->
     Ok(Proved { rounds: done.rounds, sum: done.sum, proof, point: elements_of(&point), log })
 }
 
-/// The claims of a proof of so many rounds, if it is accepted.
+/// The claims of a proof of so many rounds, if it is accepted. The proof's exact bytes are asked for.
+///
+/// The sheet is not seen: compare the claims with its own values at the point. Of a proof that [`prove`] made with
+/// [`Sum::AssertZero`] and the same challenges it is proved that they are these values, and that point and log are the prover's.
 pub fn verify(proof: &[u8], rounds: usize, challenges: &[Element]) -> Result<Accepted, Refusal> {
     let mut point = vec![0; rooms::point_words(rounds)];
     let mut log = vec![0; rooms::log_words(rounds, true)];
