@@ -1,6 +1,6 @@
 -- Demand 3 for a caller who asked: what was lent is room enough for both.
 -- Assumes nothing.
-use mathlib.Core.Path.{_≡_, refl, sym, _∙_, ap, subst}
+use mathlib.Core.Path.{_≡_, _∙_, ap, subst}
 use mathlib.Core.Bool.{true, false}
 use Prim.Native.Nat.{ℕ, _+_, _*_, _^_, _≤_}
 use native.Mathlib.Omega.{arith}
@@ -8,11 +8,11 @@ use borrow.Author.Tests.{ne-eqb}
 use lib.Dec.{eqb}
 use lib.ListN.{length}
 use Rattle.gkr.specs.Tests.{pass}
-use Rattle.gkr.specs.Sizes.{challenges, proof-bytes, point-words, log-words, workspace-words}
+use Rattle.gkr.specs.Sizes.{challenges, proof-bytes, point-words, log-words}
 use Rattle.refusal.specs.Limits.{maxRounds}
 use Rattle.gate.specs.Refusals.{Call, roundsOf, isSize, logRoom, workRoom}
 use Rattle.prover.specs.Proved.{Buffers}
-use Rattle.agreement.specs.Demand3.{Lent, Taken, Room}
+use Rattle.agreement.specs.Demand3.{Lent}
 use Rattle.agreement.proofs.Sizing.{rounds-taken, size-taken, counted}
 use Rattle.accudrina.specs.Calls.{Spaces}
 use Rattle.accudrina.specs.Rooms.{logWords, rounds}
@@ -44,7 +44,7 @@ module _ (c : Call) (n : ℕ) (b : Buffers) (v : Lent) (s : Sheet c n) where
     premises =
         record {
           taken = record {
-            some = s .some;
+            some = omega (arith, s .some);
             few = few;
             rows = s .rows;
             enough = fits n (4 * challenges n) _ few (h .challenges);

@@ -14,7 +14,7 @@ use Rattle.tree.specs.Nodes.{node}
 use Rattle.prover.specs.Report.{answerReport}
 use Rattle.agreement.specs.Demand3.{root}
 use Rattle.agreement.proofs.Agreeing.{demand-3}
-use Rattle.accudrina.specs.Answer.{tells, fieldWord, answerWords}
+use Rattle.accudrina.specs.Answer.{tells, answerWords}
 use Rattle.accudrina.specs.Reports.{verdictReport}
 use Rattle.exported.specs.Exported.{done, Demand3Exported}
 
