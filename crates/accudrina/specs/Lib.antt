@@ -3,4 +3,3 @@ pub mod Answer
 pub mod Reports
 pub mod Calls
 pub mod Rooms
-pub mod Enough

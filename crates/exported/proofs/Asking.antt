@@ -1,0 +1,71 @@
+-- Demand 3 for a caller who asked: what was lent is room enough for both.
+-- Assumes nothing.
+use mathlib.Core.Path.{_≡_, _∙_, ap, subst}
+use mathlib.Core.Bool.{true, false}
+use Prim.Native.Nat.{ℕ, _+_, _*_, _^_, _≤_}
+use native.Mathlib.Omega.{arith}
+use borrow.Author.Tests.{ne-eqb}
+use lib.Dec.{eqb}
+use lib.ListN.{length}
+use Rattle.gkr.specs.Tests.{pass}
+use Rattle.gkr.specs.Sizes.{challenges, proof-bytes, point-words, log-words}
+use Rattle.refusal.specs.Limits.{maxRounds}
+use Rattle.gate.specs.Refusals.{Call, roundsOf, isSize, logRoom, workRoom}
+use Rattle.prover.specs.Proved.{Buffers}
+use Rattle.agreement.specs.Demand3.{Lent}
+use Rattle.agreement.proofs.Sizing.{rounds-taken, size-taken, counted}
+use Rattle.accudrina.specs.Calls.{Spaces}
+use Rattle.accudrina.specs.Rooms.{logWords, rounds}
+use Rattle.exported.specs.Exported.{Premises}
+use Rattle.exported.specs.Asked.{asked, ForProver, ForVerifier, Sheet, Demand3Asked}
+use Rattle.exported.proofs.Lending.{fits, log-room, work-room}
+use Rattle.exported.proofs.Exporting.{demand-3-exported}
+
+module _ (c : Call) (n : ℕ) (b : Buffers) (v : Lent) (s : Sheet c n) where
+  abbrev again : Spaces
+  again = record { point = v .point; log = v .log }
+
+  -- the question about the rows answers n
+  answers-n : asked c ≡ n
+  answers-n =
+      ap rounds (counted (c .rows) n (s .rows)) ∙ pass (isSize (2 ^ n)) (roundsOf (2 ^ n)) (maxRounds + 1) (size-taken n (s .few)) ∙ rounds-taken n (s .few)
+
+  one-or-more : eqb n 0 ≡ false
+  one-or-more = ne-eqb n 0 (λ e. omega (arith, s .some))
+
+  module _ (h : ForProver n c b) (k : ForVerifier n (c .challenges) again) where
+    few : n ≤ maxRounds
+    few = s .few
+
+    log-fits : {have : ℕ} → logWords n true ≤ have → log-words true n ≤ have
+    log-fits {have} h = subst (λ (w : ℕ). w ≤ have) (log-room n one-or-more) (fits n (logRoom true n) have few h)
+
+    pub premises : Premises c n b v
+    premises =
+        record {
+          taken = record {
+            some = omega (arith, s .some);
+            few = few;
+            rows = s .rows;
+            enough = fits n (4 * challenges n) _ few (h .challenges);
+            valid-rows = s .valid-rows;
+            valid-challenges = s .valid-challenges;
+            checked = s .checked;
+          };
+          asserted = s .asserted;
+          zero-sum = s .zero-sum;
+          room = record {
+            proof = fits n (proof-bytes n) _ few (h .proof);
+            point = fits n (point-words n) _ few (h .point);
+            log = log-fits (subst (λ a. logWords n a ≤ length (b .log)) (s .asserted) (h .log));
+            work = subst (λ (w : ℕ). w ≤ length (b .work)) (work-room n one-or-more) (fits n (workRoom n) _ few (h .work));
+            point-again = fits n (point-words n) _ few (k .point);
+            log-again = log-fits (k .log);
+          };
+        }
+
+-- THE THEOREM
+pub demand-3-asked : Demand3Asked
+demand-3-asked c n b v s h k =
+    let e = answers-n c n b v s in
+    demand-3-exported c n b v (premises c n b v s (subst (λ j. ForProver j c b) e h) (subst (λ j. ForVerifier j (c .challenges) (again c n b v s)) e k))

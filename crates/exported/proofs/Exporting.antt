@@ -1,0 +1,41 @@
+-- Demand 3 over the exported calls, from demand 3: each call tells the inner call's answer in words.
+-- Assumes nothing.
+use mathlib.Core.Path.{_≡_, _∙_, ap}
+use Prim.Native.Nat.{ℕ, _<_}
+use native.Mathlib.Nat.{mod-eq-of-lt}
+use native.Mathlib.Omega.{arith}
+use Rattle.field.specs.Ext as E
+use Rattle.field.specs.ExtRing.{ExtRing}
+use Rattle.field.specs.Element.{enc}
+use Rattle.gkr.specs.Run.{Frac}
+use Rattle.gkr.specs.Tree as Tree
+use Rattle.refusal.specs.Numbers.{elements}
+use Rattle.tree.specs.Nodes.{node}
+use Rattle.prover.specs.Report.{answerReport}
+use Rattle.agreement.specs.Demand3.{root}
+use Rattle.agreement.proofs.Agreeing.{demand-3}
+use Rattle.accudrina.specs.Answer.{tells, answerWords}
+use Rattle.accudrina.specs.Reports.{verdictReport}
+use Rattle.exported.specs.Exported.{done, Demand3Exported}
+
+-- a plain field that fits a word, and two elements
+telling : (field : ℕ) (f : Frac E.Ext) → field < 4294967296 → tells (elements 0 field (enc (f .p)) (enc (f .q))) ≡ done field f
+unfolding answerWords
+telling field f h = ap (λ (w : ℕ). done w f) (mod-eq-of-lt h)
+
+-- THE THEOREM
+pub demand-3-exported : Demand3Exported
+demand-3-exported c n b v h =
+    let A = demand-3 c n b v (h .taken) (h .asserted) (h .zero-sum) (h .room) in
+    record {
+      point = A .point;
+      logged = A .logged;
+      proved = ap (λ a. tells (answerReport a)) (A .done) ∙ telling n (root c n) (omega (arith, h .taken .few));
+      accepted = ap (λ a. tells (verdictReport a)) (A .accepted) ∙ telling 0 (Tree.value ExtRing (node (c .rows)) (A .point)) (omega arith);
+      coordinates = A .coordinates;
+      proved-point = A .proved-point;
+      verified-point = A .verified-point;
+      size = A .size;
+      proved-log = A .proved-log;
+      verified-log = A .verified-log;
+    }

@@ -1,0 +1,36 @@
+-- Rooms that the questions answer are the needed ones, for rounds that are taken; and numbers other than 4 and 5.
+-- Assumes nothing.
+use mathlib.Core.Path.{_≡_, refl, sym, _∙_, subst}
+use mathlib.Core.Bool.{Bool, true, false}
+use Prim.Native.Nat.{ℕ, zero, suc, _≤_}
+use native.Mathlib.Omega.{arith}
+use borrow.Author.Tests.{le-ltb, eqb-false}
+use lib.Dec.{eqb, ltb}
+use Rattle.gkr.specs.Sizes.{log-words, workspace-words}
+use Rattle.refusal.specs.Limits.{maxRounds}
+use Rattle.gate.specs.Refusals.{logRoom, workRoom}
+use Rattle.accudrina.specs.Rooms.{taken}
+use Rattle.accudrina.proofs.RoomLaws.{within}
+use Rattle.exported.specs.Asked.{NotShort}
+
+-- a test that fails does not pass
+pub never : {X : Type 0} {t : Bool} → t ≡ false → t ≡ true → X
+never {t = t} e h = let z : _≡_ {A = Bool} true false = sym h ∙ e in let y : _≡_ {A = ℕ} 0 1 = cc in absurd (omega arith)
+
+pub fits : (n room have : ℕ) → n ≤ maxRounds → taken n room ≤ have → room ≤ have
+fits n room have few h = subst (λ (k : ℕ). k ≤ have) (within n room few) h
+
+pub lent : (n room have : ℕ) → n ≤ maxRounds → taken n room ≤ have → ltb have room ≡ false
+lent n room have few h = le-ltb have room (fits n room have few h)
+
+-- one round or more
+pub log-room : (n : ℕ) → eqb n 0 ≡ false → logRoom true n ≡ log-words true n
+log-room zero h = never h refl
+log-room (suc m) h = refl
+
+pub work-room : (n : ℕ) → eqb n 0 ≡ false → workRoom n ≡ workspace-words n
+work-room zero h = never h refl
+work-room (suc m) h = refl
+
+pub other : (k : ℕ) → eqb k 4 ≡ false → eqb k 5 ≡ false → NotShort k
+other k h l = record { challenges = eqb-false k 4 h; room = eqb-false k 5 l }

@@ -1,0 +1,7 @@
+-- The proofs about the exported calls.
+pub mod Exporting
+pub mod Lending
+pub mod ProverLent
+pub mod VerifierLent
+pub mod Asking
+pub mod Witnessing

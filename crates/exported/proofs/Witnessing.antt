@@ -1,0 +1,91 @@
+-- K3 meets the premises, by computation; so both calls return 0, with what document 01 says.
+-- Assumes nothing.
+use mathlib.Core.Path.{_≡_, refl, _∙_, ap}
+use mathlib.Core.Bool.{Bool, true, false}
+use Prim.Native.Nat.{ℕ, zero, suc, _<_}
+use native.Mathlib.Omega.{arith}
+use borrow.Author.Tests.{leb-true}
+use Rattle.field.specs.ExtRing.{arithmetic}
+use Rattle.field.specs.Cells.{cell}
+use Rattle.gkr.specs.Compute.{model, el, minus, frac}
+use Rattle.wire.specs.Words.{allCanonical}
+use Rattle.wire.specs.Bytes.{bytesOf, word}
+use Rattle.stored.specs.Layout.{claimsWords, cubicsWords, polysWords, entriesBytes, layout}
+use Rattle.stored.specs.Parse.{claimsFrom, cubicsFrom, entriesFrom, entriesFit, fits, parse}
+use Rattle.tree.specs.Nodes.{node}
+use Rattle.gate.specs.Refusals.{roundsFrom, isSize, shortRoom, degenerate, checkRows, firstRefusal}
+use Rattle.prover.specs.Proved as Prover
+use Rattle.verifier.specs.Verified as Verifier
+use Rattle.agreement.specs.Demand3.{root}
+use Rattle.agreement.specs.Companions.{in-mode}
+use Rattle.agreement.specs.KTable.{K3, room, room-again}
+use Rattle.accudrina.specs.Answer.{answerWords}
+use Rattle.accudrina.specs.Calls.{proving}
+use Rattle.exported.specs.Exported.{done, handed}
+use Rattle.exported.specs.Asked.{Sheet, ForProver, ForVerifier}
+use Rattle.exported.specs.Witness.{n, K3Met, K3Accepted}
+use Rattle.exported.proofs.Exporting.{demand-3-exported}
+use Rattle.exported.proofs.Asking.{premises}
+
+-- no row is over zero
+sound : (i : ℕ) → i < 4 → degenerate (node (K3 .rows) i) ≡ false
+unfolding arithmetic cell model degenerate
+sound zero h = refl
+sound (suc zero) h = refl
+sound (suc (suc zero)) h = refl
+sound (suc (suc (suc zero))) h = refl
+sound (suc (suc (suc (suc i)))) h = absurd (omega arith)
+
+sheet : (live : Bool) → Sheet (in-mode live K3) n
+unfolding model arithmetic cell allCanonical Prover.pointWords
+sheet live =
+    record {
+      some = leb-true _ _ refl;
+      few = leb-true _ _ refl;
+      rows = refl;
+      valid-rows = refl;
+      valid-challenges = refl;
+      checked = λ e. sound;
+      asserted = refl;
+      zero-sum = refl;
+    }
+
+-- buffers of zeros, and K3's own challenges
+for-prover : (live : Bool) → ForProver n (in-mode live K3) (room n)
+unfolding Prover.pointWords
+for-prover live =
+    record {
+      proof = leb-true _ _ refl;
+      point = leb-true _ _ refl;
+      log = leb-true _ _ refl;
+      work = leb-true _ _ refl;
+      challenges = leb-true _ _ refl;
+    }
+
+for-verifier : ForVerifier n (K3 .challenges) (record { point = room-again n .point; log = room-again n .log })
+unfolding Prover.pointWords
+for-verifier = record { point = leb-true _ _ refl; log = leb-true _ _ refl; challenges = leb-true _ _ refl }
+
+pub K3-met : K3Met
+unfolding roundsFrom isSize
+K3-met live =
+    record {
+      premises = premises (in-mode live K3) n (room n) (room-again n) (sheet live) (for-prover live) for-verifier;
+      sheet = sheet live;
+      for-prover = for-prover live;
+      for-verifier = for-verifier;
+    }
+
+claims : (live : Bool) → handed (in-mode live K3) n (proving (in-mode live K3) (room n)) (room-again n) .told ≡ done 0 (frac (minus 25) (el 1))
+unfolding model arithmetic cell allCanonical bytesOf word claimsWords cubicsWords polysWords entriesBytes layout claimsFrom cubicsFrom entriesFrom entriesFit fits parse roundsFrom isSize shortRoom degenerate checkRows firstRefusal Prover.pointWords Prover.proved Verifier.firstRefusal Verifier.verified answerWords
+claims true = refl
+claims false = refl
+
+sum : root K3 n ≡ frac (el 0) (el 1)
+unfolding model arithmetic cell
+sum = refl
+
+pub K3-accepted : K3Accepted
+K3-accepted live =
+    let e = demand-3-exported (in-mode live K3) n (room n) (room-again n) (K3-met live .premises) in
+    record { exchanged = e; proved = e .proved ∙ ap (done n) sum; accepted = claims live }

@@ -1,0 +1,54 @@
+-- Demand 3 over the exported calls: the numbers that they return, the answer's words that they write, and what the buffers hold.
+-- Assumes nothing.
+use mathlib.Core.Path.{_≡_}
+use mathlib.Core.Bool.{true}
+use mathlib.Core.List.{List, [], _∷_, _++_}
+use Prim.Native.Nat.{ℕ}
+use lib.ListN.{length, take}
+use Rattle.field.specs.Ext as E
+use Rattle.field.specs.ExtRing.{ExtRing}
+use Rattle.field.specs.Element.{words}
+use Rattle.gkr.specs.Run.{Frac}
+use Rattle.gkr.specs.Sizes.{proof-bytes, log-words}
+use Rattle.gkr.specs.Tree as Tree
+use Rattle.tree.specs.Nodes.{node}
+use Rattle.gate.specs.Refusals.{Call}
+use Rattle.prover.specs.Proved.{Buffers, over, pointWords}
+use Rattle.agreement.specs.Demand3.{Lent, Taken, root, Room}
+use Rattle.accudrina.specs.Answer.{Told}
+use Rattle.accudrina.specs.Calls.{Returned, Spaces, proving, verifying}
+
+-- done: the number 0 is returned, and the sixteen words are 0, a plain field, two zeros, two elements, four zeros
+abbrev pub done : (field : ℕ) → Frac E.Ext → Told
+done field f = record { number = 0; words = 0 ∷ field ∷ 0 ∷ 0 ∷ (words (f .p) ++ (words (f .q) ++ (0 ∷ 0 ∷ 0 ∷ 0 ∷ []))) }
+
+-- the verifier's call: the first bytes of the buffer with the proof, n and the same challenges
+abbrev pub handed : (c : Call) (n : ℕ) (P : Returned Buffers) (v : Lent) → Returned Spaces
+handed c n P v = verifying (take (proof-bytes n) (P .buffers .proof)) n (c .challenges) (record { point = v .point; log = v .log })
+
+-- DEMAND 3'S PREMISES: a sheet that is taken, zero asserted, the root numerator zero, every buffer long enough
+pub record Premises (c : Call) (n : ℕ) (b : Buffers) (v : Lent) : Type 0 where
+  pub taken : Taken c n
+  pub asserted : c .asserted ≡ true
+  pub zero-sum : root c n .p ≡ E.nil
+  pub room : Room true n b v
+
+-- THE AGREEMENT of what the prover's call returns over the buffers b and the verifier's over the buffers v
+pub record Exchanged (c : Call) (n : ℕ) (b : Buffers) (v : Lent) (P : Returned Buffers) (Q : Returned Spaces) : Type 0 where
+  pub point : List E.Ext
+  pub logged : List ℕ
+  -- the prover's call tells n and the sum of all rows
+  pub proved : P .told ≡ done n (root c n)
+  -- the verifier's tells the values of both columns at the point, the plain sums over all rows
+  pub accepted : Q .told ≡ done 0 (Tree.value ExtRing (node (c .rows)) point)
+  -- the point is one, and so is the log, at the fronts of the buffers; the rest is as before
+  pub coordinates : length point ≡ n
+  pub proved-point : P .buffers .point ≡ over (pointWords point) (b .point)
+  pub verified-point : Q .buffers .point ≡ over (pointWords point) (v .point)
+  pub size : length logged ≡ log-words true n
+  pub proved-log : P .buffers .log ≡ over logged (b .log)
+  pub verified-log : Q .buffers .log ≡ over logged (v .log)
+
+-- THE DEMAND
+abbrev pub Demand3Exported : Type 0
+Demand3Exported = (c : Call) (n : ℕ) (b : Buffers) (v : Lent) → Premises c n b v → let P = proving c b in Exchanged c n b v P (handed c n P v)

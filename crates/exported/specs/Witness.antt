@@ -1,0 +1,35 @@
+-- The premises can be met, in both modes: document 01's K3. It is proved and accepted through the exported calls.
+-- Assumes nothing.
+use mathlib.Core.Path.{_≡_}
+use mathlib.Core.Bool.{Bool}
+use Prim.Native.Nat.{ℕ}
+use Rattle.gkr.specs.Compute.{el, minus, frac}
+use Rattle.gate.specs.Refusals.{Call}
+use Rattle.agreement.specs.Companions.{in-mode}
+use Rattle.agreement.specs.KTable.{K3, room, room-again}
+use Rattle.accudrina.specs.Calls.{proving}
+use Rattle.exported.specs.Exported.{Premises, Exchanged, done, handed}
+use Rattle.exported.specs.Asked.{asked, Sheet, ForProver, ForVerifier}
+
+-- its rounds
+abbrev pub n : ℕ
+n = 2
+
+-- demand 3's premises, and those of a caller who asks
+pub record Met (c : Call) : Type 0 where
+  pub premises : Premises c n (room n) (room-again n)
+  pub sheet : Sheet c n
+  pub for-prover : ForProver (asked c) c (room n)
+  pub for-verifier : ForVerifier (asked c) (c .challenges) (record { point = room-again n .point; log = room-again n .log })
+
+-- both calls return 0; the prover's words say two rounds and the sum 0/1, the verifier's the claims −25 and 1
+pub record Accepted (c : Call) : Type 0 where
+  pub exchanged : let P = proving c (room n) in Exchanged c n (room n) (room-again n) P (handed c n P (room-again n))
+  pub proved : proving c (room n) .told ≡ done n (frac (el 0) (el 1))
+  pub accepted : handed c n (proving c (room n)) (room-again n) .told ≡ done 0 (frac (minus 25) (el 1))
+
+abbrev pub K3Met : Type 0
+K3Met = (live : Bool) → Met (in-mode live K3)
+
+abbrev pub K3Accepted : Type 0
+K3Accepted = (live : Bool) → Accepted (in-mode live K3)
