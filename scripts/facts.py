@@ -14,7 +14,7 @@ DIFFER = [re.compile(p, re.S) for p in (
     r"the two (?:types|sides) (?:first )?differ (?:only )?where one has " + TERM + r" \(\w+\).*?and the other has " + TERM,
     r"computed as far as they go, the two types are " + TERM + r" \(\w+\) and " + TERM,
     r"expected type " + TERM + r",? but this has type " + TERM,
-    r"error: [^ ]+: " + TERM + r" ≟ " + TERM + r" does not hold")]
+    r"error: [^ ]+: " + TERM + r" ≟ " + TERM + r":? does not hold")]
 # A goal of numbers that fails at some, and what a rewriting leaves and is not so.
 FAILS = [re.compile(p, re.S) for p in (r"`omega`: the goal does not follow.*?(the goal fails, at .*?)\. It read", r"what it leaves must be a path whose two ends are equal, and (.*?) is none")]
 # What a first line says that is no fact, whatever follows: nothing was found, or a name is missing.
