@@ -10,16 +10,20 @@ ROOT = os.path.join(os.path.dirname(os.path.abspath(__file__)), "..")
 TERM = r"`([^`]*)`"
 # Two terms that differ; of several, the form that comes first here is told.
 DIFFER = [re.compile(p, re.S) for p in (
-    r"computed as far as they go, the two (?:types|sides) (?:first )?differ (?:only )?where one has " + TERM + r" \(\w+\).*?and the other has " + TERM,
-    r"the two (?:types|sides) (?:first )?differ (?:only )?where one has " + TERM + r" \(\w+\).*?and the other has " + TERM,
-    r"computed as far as they go, the two types are " + TERM + r" \(\w+\) and " + TERM,
+    r"computed as far as they go, the two (?:types|sides|values) (?:first )?differ (?:only )?where one has " + TERM + r" \((\w+)\).*?and the other has " + TERM,
+    r"the two (?:types|sides|values) (?:first )?differ (?:only )?where one has " + TERM + r" \((\w+)\).*?and the other has " + TERM,
+    r"computed as far as they go, the two (?:types|values) are " + TERM + r" \((\w+)\) and " + TERM,
     r"expected type " + TERM + r",? but this has type " + TERM,
+    r"body (is) " + TERM + r" but the extension \(path\) type requires " + TERM,
     r"error: [^ ]+: " + TERM + r" ≟ " + TERM + r":? does not hold")]
 # A goal of numbers that fails at some, and what a rewriting leaves and is not so.
 FAILS = [re.compile(p, re.S) for p in (r"`omega`: the goal does not follow.*?(the goal fails, at .*?)\. It read", r"what it leaves must be a path whose two ends are equal, and (.*?) is none")]
+# The ring solver computes what is left of an equation's two sides: (a - b) times a monomial, and more (ring/specs/Expression.antt).
+RING = re.compile(r"the right one begins `[^`]*Expression\.Left›? (\d+) (\d+) ")
 # What a first line says that is no fact, whatever follows: nothing was found, or a name is missing.
 NONE = re.compile(r"`(?:search|cc|simp)`: |`rw`: no occurrence|list the missing equation|has no |in scope|not declared")
 CONSEQUENCE = "was not admitted"
+LABELS = ("expected", "found", "required", "left", "right", "is")
 
 
 def blocks(text):
@@ -63,10 +67,14 @@ def fact(log):
     said = re.sub(r"^.*?: error: |^note: (?:\S+:\d+:\d+: )?", "", first)
     wanted = re.search(r"expected type " + TERM, first)
     if not NONE.search(lines[0]) and not (wanted and is_type(wanted.group(1))):
+        left = RING.search(first)
+        if left:
+            return place(first), "the two sides of a ring equation differ: (%s − %s) times a monomial is left" % left.groups(), True
         for form in DIFFER:
             m = form.search(first)
             if m:
-                return place(first), "expected %s, found %s" % tuple("`%s`" % short(t) for t in m.groups()), True
+                terms = ["`%s`" % short(t) for t in m.groups() if t not in LABELS]
+                return place(first), "expected %s, found %s" % tuple(terms[::-1] if {"found", "is"} & set(m.groups()) else terms), True
         for form in FAILS:
             m = form.search(first)
             if m:
