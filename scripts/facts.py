@@ -21,7 +21,7 @@ FAILS = [re.compile(p, re.S) for p in (r"`omega`: the goal does not follow.*?(th
 # The ring solver computes what is left of an equation's two sides: (a - b) times a monomial, and more (ring/specs/Expression.antt).
 RING = re.compile(r"the right one begins `[^`]*Expression\.Left›? (\d+) (\d+) ")
 # What a first line says that is no fact, whatever follows: nothing was found, or a name is missing.
-NONE = re.compile(r"`(?:search|cc|simp)`: |`rw`: no occurrence|list the missing equation|has no |in scope|not declared")
+NONE = re.compile(r"`(?:search|cc|simp)`: |`rw`: no occurrence|list the missing equation|(?:record|module) \S+ has no |not in scope|not declared")
 CONSEQUENCE = "was not admitted"
 LABELS = ("expected", "found", "required", "left", "right", "is")
 
