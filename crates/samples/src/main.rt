@@ -23,6 +23,7 @@ fn main() {
     show_file(b"k3.sheet");
     show_file(b"zero64.sheet");
     show_file(b"degenerate.sheet");
+    show_file(b"over_zero.sheet");
     show_file(b"nonzero.sheet");
     show_file(b"one.sheet");
     show_file(b"none.sheet");
@@ -31,5 +32,6 @@ fn main() {
     show_file(b"short.sheet");
     show_file(b"version.sheet");
     show_file(b"empty.sheet");
+    show_file(b"more.sheet");
     show_file(b"long.sheet");
 }

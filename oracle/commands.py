@@ -1,0 +1,152 @@
+"""The commands of `sheetproof` over a folder of files, by document 01's model: what each prints, and the files that it writes.
+
+Written from README.md's words on the commands and docs/, with the model for every number; nothing of the crates is used.
+"""
+import re
+
+import model as m
+
+WORDS = {
+    1: "RaggedRows: the words of the rows are no multiple of eight",
+    2: "TooManyRows: more than 1024 rows",
+    3: "NotPowerOfTwo: the number of rows is neither 0 nor a power of two (rows 0/1 can be added, they leave the sum as it is)",
+    4: "ShortChallenges: there are fewer challenges than the rounds need",
+    5: "ShortRoom: a buffer is too short for what it has to hold",
+    6: "BadWord: a word is not below the prime 2013265921",
+    7: "ZeroDenominator: row %s, counted from 0, has a denominator of zero and a numerator that is not (live mode)",
+    8: "NonZeroRootSum: the numerator of the sum is not zero, and zero was asserted",
+    9: "SingleRow: a sheet of one row has no round to prove",
+    10: "ZeroRounds: a proof of 0 rounds is not verified",
+    11: "TooManyRounds: more than 10 rounds",
+    12: "BadVersion: the first byte is missing, or is not 1",
+    13: "BadLength: a stored length or count disagrees with the bytes that are there",
+    14: "IncorrectLayerCount: the number of layers in the proof: expected %s, actual %s",
+    15: "IncorrectSumcheckPolyCount: the number of polynomial entries in the proof: expected %s, actual %s",
+    16: "ZeroCheckFailed: the numerator of the sum: expected 0, actual %s",
+    17: "RootConsistencyCheckFailed: the denominator of the sum, as stated and as layer 0 has it: expected %s, actual %s",
+    18: "IncorrectSubroundCount: the number of sub-rounds in round %s: expected %s, actual %s",
+    19: "LayerConsistencyCheckFailed: the claim of round %s, as its layer has it and as its sub-rounds reach it: expected %s, actual %s",
+}
+SHEET, PROOF, TEXT = 3 + 32 * m.ROWS, 65536, 262144
+WORD = r"-?[0-9]+"
+ELEMENT = r"(%s(?:,%s){3}|%s)" % (WORD, WORD, WORD)
+LINE = re.compile(r"[ \t\r]*%s(?:(?:[ \t\r]*/[ \t\r]*|[ \t\r]+)%s)?[ \t\r]*" % (ELEMENT, ELEMENT))
+
+
+class Refused(Exception):
+    """The line that is printed."""
+
+
+def refusal(o):
+    return "refused %d %s" % (o.no, WORDS[o.no] % (*o.plain, *map(short, o.elements)))
+
+
+def signed(w):
+    return w - m.P if w > m.P // 2 else w
+
+
+def short(e):
+    """An element of the base is one number, any other its four words; above half the prime by what is missing to it."""
+    return ",".join(str(signed(w)) for w in (e if any(e[1:]) else e[:1]))
+
+
+def long(e):
+    return ",".join(map(str, e))
+
+
+def element(text):
+    """The element, or None where a word is not below the prime."""
+    words = [int(w) for w in text.split(",")]
+    return tuple(w % m.P for w in words + [0] * (4 - len(words))) if all(abs(w) < m.P for w in words) else None
+
+
+def read_list(name, text, size, room, kind):
+    """Lines of so many elements each, as many as there is room for; and whether there were more."""
+    rows = []
+    for number, line in enumerate(text.decode("latin-1").split("\n"), 1):
+        if re.fullmatch(r"[ \t\r]*(#.*)?", line, re.S):
+            continue
+        found = LINE.fullmatch(line)
+        row = [element(e) for e in found.groups() if e] if found else []
+        if len(row) != size or None in row:
+            raise Refused("refused: line %d of %s is not %s" % (number, name, kind))
+        if len(rows) == room:
+            return rows, True
+        rows.append(row)
+    return rows, False
+
+
+def rows_of(files, name):
+    data = files[name]
+    o = m.Outcome(2) if len(data) > SHEET else m.read_sheet(data, 8 * m.ROWS)
+    if o.no:
+        raise Refused(refusal(o))
+    return o.fronts[0]
+
+
+def challenges_of(files, name):
+    if name is None:
+        return m.flat(m.const(k) for k in range(1, 65))
+    return [w for row in read_list(name, files[name][:65536], 1, 64, "an element")[0] for e in row for w in e]
+
+
+def make(files, text, sheet):
+    if len(files[text]) > TEXT:
+        raise Refused("refused: %s has more than %d bytes" % (text, TEXT))
+    rows, more = read_list(text, files[text], 2, m.ROWS, "a fraction p/q of elements")
+    no = 2 if more else 3 if rows and not m.power_of_two(len(rows)) else 0
+    if no:
+        raise Refused(refusal(m.Outcome(no)))
+    files[sheet] = bytes([1, *len(rows).to_bytes(2, "big")] + [b for row in rows for b in m.flat_bytes(row)])
+    return ["rows %d" % len(rows)]
+
+
+def show(files, sheet):
+    es = m.elements(rows_of(files, sheet))
+    level, size, lines = list(zip(es[::2], es[1::2])), 1, []
+    if not level:
+        return ["rows:", "sum: 0/1"]
+    while True:
+        text = "".join(" %s/%s" % (short(p), short(q)) for p, q in level)
+        lines += (["rows:" + text] if size == 1 else []) + (["sum:" + text] if len(level) == 1 else ["sums of %d rows:%s" % (size, text)] if size > 1 else [])
+        if len(level) == 1:
+            return lines
+        level, size = [m.fraction_sum(a, b) for a, b in zip(level[::2], level[1::2])], 2 * size
+
+
+def prove(files, sheet, proof, live, asserted, challenges):
+    rows = rows_of(files, sheet)
+    o = m.outcome(40, [live, asserted, rows, challenges_of(files, challenges), 2832, 40, 964, 32768, 0])
+    if o.no:
+        raise Refused(refusal(o))
+    files[proof] = bytes(o.fronts[0])
+    note = "note: the denominator of the sum is zero, so that the proof says nothing about the rows"
+    return ["rows %d" % (len(rows) // 8), "rounds %d" % o.plain[0], "sum " + " ".join(map(long, o.elements))] + ([note] if o.elements[1] == m.ZERO else [])
+
+
+def verify(files, proof, rounds, challenges):
+    if len(files[proof]) > PROOF:
+        raise Refused("refused: %s has more than %d bytes, and a proof of 10 rounds has 2832" % (proof, PROOF))
+    o = m.outcome(50, [rounds, files[proof], challenges_of(files, challenges), 40, 960, 0])
+    if o.no:
+        raise Refused(refusal(o))
+    point = " ".join(long(e) for e in m.elements(o.fronts[0]))
+    return ["verdict 0", "numer " + long(o.elements[0]), "denom " + long(o.elements[1]), "point " + point]
+
+
+def run(files, line):
+    """What a command line of known words prints; `size NAME` tells the bytes of a file."""
+    name, *args = line.split(" ")
+    named = args[args.index("--challenges") + 1] if "--challenges" in args else None
+    try:
+        if name == "size":
+            return ["bytes %d" % len(files[args[0]]) if args[0] in files else "no such file"]
+        if name == "make":
+            return make(files, *args)
+        if name == "show":
+            return show(files, *args)
+        if name == "prove":
+            return prove(files, args[0], args[1], "--live" in args, "--no-assert" not in args, named)
+        return verify(files, args[0], int(args[1]), named)
+    except Refused as said:
+        return [str(said)]
