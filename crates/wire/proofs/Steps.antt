@@ -3,7 +3,7 @@
 use mathlib.Core.Path.{_≡_, refl, sym, _∙_, ap}
 use mathlib.Core.Bool.{Bool, true, false}
 use mathlib.Core.List.{List, [], _∷_}
-use Prim.Native.Nat.{ℕ, zero, suc, _+_, _*_, _-_, _<_, _≤_}
+use Prim.Native.Nat.{ℕ, zero, suc, _+_, _*_, _-_, _/_, _%_, _<_, _≤_}
 use native.Mathlib.Numerals.{add-one}
 use native.Mathlib.Omega.{arith}
 use borrow.Author.Tests.{lt-ltb, le-ltb}
@@ -11,8 +11,10 @@ use lib.ListN.{length, getD, drop, set, drop-of-length-le}
 use lib.Seq.{drop-cons, drop-drop, getD-drop, sets}
 use Rattle.field.specs.Base.{P}
 use Rattle.field.specs.declared.Ext.{Ext}
-use Rattle.wire.specs.Bytes.{word, wordsFrom, elem}
+use Rattle.wire.specs.Bytes.{be4, word, wordsFrom, elem}
 use Rattle.wire.specs.Words.{allCanonical, firstBad}
+use Rattle.wire.specs.Written.{Wrote}
+use Rattle.wire.specs.WrittenLaws.{sets-written}
 
 next : (s : List ℕ) (i : ℕ) → i < length s → drop i s ≡ getD s i 0 ∷ drop (i + 1) s
 next s i h = rw (add-one, drop-cons s i 0)
@@ -98,5 +100,10 @@ pub elem-read : (s : List ℕ) (at a b c d : ℕ) → a ≡ word (drop at s) →
 elem-read s at a b c d p q r t = rw (drop-drop 4 at s, drop-drop 8 at s, drop-drop 12 at s, p, q, r, t)
 
 -- four stores one by one
-pub four-sets : (l : List ℕ) (at a b c d : ℕ) → set (set (set (set l at a) (at + 1) b) (at + 2) c) (at + 3) d ≡ sets l at (a ∷ b ∷ c ∷ d ∷ [])
+four-sets : (l : List ℕ) (at a b c d : ℕ) → set (set (set (set l at a) (at + 1) b) (at + 2) c) (at + 3) d ≡ sets l at (a ∷ b ∷ c ∷ d ∷ [])
 four-sets l at a b c d = let e : at + 1 ≡ suc at = omega arith in let f : at + 2 ≡ suc (suc at) = omega arith in let g : at + 3 ≡ suc (suc (suc at)) = omega arith in rw (e, f, g)
+
+-- the bytes of a word, stored one by one
+pub word-written : (l : List ℕ) (at w : ℕ) → at + 4 ≤ length l
+    → Wrote l (set (set (set (set l at (w / 16777216)) (at + 1) (w / 65536 % 256)) (at + 2) (w / 256 % 256)) (at + 3) (w % 256)) at (at + 4) (be4 w)
+word-written l at w h = rw (four-sets l at (w / 16777216) (w / 65536 % 256) (w / 256 % 256) (w % 256)) (sets-written (be4 w) l at (at + 4) h refl)

@@ -17,7 +17,7 @@ abbrev μ-loop : tie.MeasureT-loop
 μ-loop words₀ i₀ i-end words i = i-end - i
 
 loop-holds : tie.Need-loop-holds Inv-loop μ-loop
-loop-holds c = (search needs, search needs, search needs, λ k h. absurd (not-suc-le-zero h))
+loop-holds c = (omega arith, search needs, search needs, λ k h. absurd (not-suc-le-zero h))
 
 mul-words : tie.Need-mul-words Inv-loop μ-loop
 mul-words c = search needs

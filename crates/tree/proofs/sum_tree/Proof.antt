@@ -38,7 +38,7 @@ same-length : tie.Need-same-length Inv-loop μ-loop
 same-length c = search needs
 
 returns : tie.Need-returns Inv-loop μ-loop
-returns c = sum-all _ _ (c .before .loop .node-idx) _ (search needs) (c .before .loop .inv .2)
+returns c = sum-all _ _ (c .before .loop .node-idx) _ (omega arith) (c .before .loop .inv .2)
 
 pub sum-tree-spec : {M : Type 1} → statement M
 sum-tree-spec =

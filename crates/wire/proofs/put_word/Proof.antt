@@ -1,12 +1,5 @@
-use mathlib.Core.Path.{_≡_, refl, sym, _∙_, ap}
-use Prim.Native.Nat.{ℕ, _+_, _*_, _-_, _/_, _%_, _≤_, _<_}
-use lib.ListN.{length, getD, drop, length-set}
-use Rattle.wire.specs.Bytes.{word, wordsFrom}
-use Rattle.wire.specs.Words.{allCanonical, firstBad}
-use Rattle.wire.proofs.Steps.{four-sets}
-use mathlib.Core.List.{[], _∷_}
-use Rattle.wire.specs.WrittenLaws.{sets-written}
-use Rattle.wire.specs.Bytes.{be4}
+use lib.ListN.{length-set}
+use Rattle.wire.proofs.Steps.{word-written}
 use native.Mathlib.Omega.{arith}
 use borrow.Author.Needs.{needs}
 use Rattle.wire.proofs.put_word.Statement.{statement}
@@ -54,7 +47,7 @@ same-length : tie.Need-same-length
 same-length c = search needs
 
 returns : tie.Need-returns
-returns c = rw (four-sets (c .args .out .now) (c .args .at) (c .args .w / 16777216) (c .args .w / 65536 % 256) (c .args .w / 256 % 256) (c .args .w % 256)) (sets-written (be4 (c .args .w)) (c .args .out .now) (c .args .at) (c .args .at + 4) (omega arith) refl)
+returns c = word-written (c .args .out .now) (c .args .at) (c .args .w) (omega arith)
 
 pub put-word-spec : {M : Type 1} → statement M
 put-word-spec =

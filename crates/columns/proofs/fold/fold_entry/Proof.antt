@@ -1,4 +1,8 @@
 use Rattle.multilinear.specs.Table as Table
+use mathlib.Core.Path.{ap₂}
+use Rattle.field.specs.Element.{dec}
+use Rattle.field.specs.ElementLaws.{is-eq}
+use Rattle.step.specs.Values.{line}
 use borrow.Author.Needs.{needs}
 use Rattle.columns.proofs.fold.fold_entry.Statement.{statement}
 use Rattle.columns.proofs.fold.fold_entry.Tie as tie
@@ -27,7 +31,9 @@ line-at-requires c κs = search needs
 
 returns : tie.Need-returns
 unfolding Table.fold
-returns c = record { canon = search needs; value = cc }
+returns c =
+    let a = c .before .before .before .before .args in
+    is-eq (c .line-at .ensures) (ap₂ (line (dec (a .r))) (c .before .before .load .ensures .value) (c .before .load2 .ensures .value))
 
 pub fold-entry-spec : {M : Type 1} → statement M
 fold-entry-spec =
