@@ -12,6 +12,11 @@ use crate::words::rest_word;
 use crate::words::sub_word;
 
 impl Base {
+    // The prime, in both widths that words are reduced in.
+    pub const ORDER_U32: u32 = 2013265921;
+
+    pub const ORDER_U64: u64 = 2013265921;
+
     pub const ZERO: Base = Base { value: 0 };
 
     pub const ONE: Base = Base { value: 1 };
@@ -91,7 +96,7 @@ impl Base {
         ensures { λ r. ⌜ r ≡ enc (B.mul (dec self) B.half) ⌝ }
     {
         Base {
-            value: mul_word(self.value, 1006632961),
+            value: mul_word(self.value, Base::HALF.value),
         }
     }
 
@@ -122,6 +127,6 @@ impl Base {
     pub fn is_canonical(self) -> bool
         ensures { λ r. ⌜ r ≡ ltb (self .value) P ⌝ }
     {
-        self.value < 2013265921
+        self.value < Base::ORDER_U32
     }
 }

@@ -104,7 +104,7 @@ impl Ext {
     pub fn halve(self) -> Ext
         ensures { λ r. ⌜ r ≡ enc (E.mul (dec self) E.half) ⌝ }
     {
-        self.times_word(1006632961)
+        self.times_word(Base::HALF.value)
     }
 
     // The product with itself.

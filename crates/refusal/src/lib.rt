@@ -1,5 +1,7 @@
 // The refusals of every call, by document 01's names, and the number and fields of each; and the limits on sizes.
 ghost use mathlib.Core.Path.{_≡_};
+ghost use Prim.Native.Nat.{_^_};
+ghost use Rattle.refusal.specs.Limits.{maxRounds, maxRows};
 ghost use Rattle.refusal.specs.Numbers.{plain, elements, reportOf};
 ghost use Rattle.refusal.specs.Powers.{powerOfTwo};
 use field::Ext;
@@ -8,6 +10,19 @@ use field::Ext;
 pub const MAX_ROUNDS: usize = 10;
 
 pub const MAX_ROWS: usize = 1024;
+
+// The constants are the limits of the definitions, of which the second is 2 to the power of the first.
+pub fn most_rounds() -> usize
+    ensures { λ r. ⌜ r ≡ maxRounds ⌝ }
+{
+    MAX_ROUNDS
+}
+
+pub fn most_rows() -> usize
+    ensures { λ r. ⌜ (r ≡ maxRows) × (r ≡ 2 ^ maxRounds) ⌝ }
+{
+    MAX_ROWS
+}
 
 pub enum Refusal {
     RaggedRows,
