@@ -1,4 +1,5 @@
--- Document 01's worked examples K1, K2, K3, K4, K6 and K10, computed by the model over the extension.
+-- Small runs, computed by the model over the extension. They stand here so that a wrong line of the model is refused in this crate, at once;
+-- the table of document 01's worked examples is agreement/specs/KTable, over what the contracts cite.
 -- Assumes nothing.
 use mathlib.Core.Path.{_≡_, refl}
 use mathlib.Core.Bool.{true, false}
@@ -13,108 +14,102 @@ use Rattle.gkr.specs.Transcripts.{Event, observed, sampled, supplied, le
 use Rattle.gkr.specs.Gkr
 use Rattle.gkr.specs.Gkr.{done, non-zero-root-sum, accepted, zero-check, root-check}
 
--- K2, K4, K6, K10: two rows, challenge 5
-
+-- challenge 5
 abbrev pub five : Transcript Ext
 five = supplied (el 5 ∷ []) (el 0)
 
--- K1: no rows
-pub k1 : Gkr.no-rows Extension five [] .sum ≡ frac (el 0) (el 1)
-unfolding arithmetic
-k1 = refl
+-- two rows
+abbrev pub opposites : ℕ → Frac Ext
+opposites = rows (frac (el 1) (el 2) ∷ frac (minus 1) (el 2) ∷ [])
 
-abbrev pub K2 : ℕ → Frac Ext
-K2 = rows (frac (el 1) (el 2) ∷ frac (minus 1) (el 2) ∷ [])
-
-abbrev pub K2·proof : Proof Ext
-K2·proof = record { q0 = el 4; claims = claims (el 1) (el 2) (minus 1) (el 2) ∷ []; polys = [] }
+abbrev pub opposites·proof : Proof Ext
+opposites·proof = record { q0 = el 4; claims = claims (el 1) (el 2) (minus 1) (el 2) ∷ []; polys = [] }
 
 -- root q, then the claims, then the challenge; root p is not observed
-abbrev pub K2·log : List (Event Ext)
-K2·log = sampled (el 5) ∷ observed (el 2) ∷ observed (minus 1) ∷ observed (el 2) ∷ observed (el 1) ∷ observed (el 4) ∷ []
+abbrev pub opposites·log : List (Event Ext)
+opposites·log = sampled (el 5) ∷ observed (el 2) ∷ observed (minus 1) ∷ observed (el 2) ∷ observed (el 1) ∷ observed (el 4) ∷ []
 
-pub k2 : Gkr.fractional-sumcheck Extension five true 0 K2 [] ≡ done (record { sum = frac (el 0) (el 4); proof = K2·proof; point = el 5 ∷ []; log = K2·log })
+pub opposites-run : Gkr.fractional-sumcheck Extension five true 0 opposites [] ≡ done (record { sum = frac (el 0) (el 4); proof = opposites·proof; point = el 5 ∷ []; log = opposites·log })
 unfolding model arithmetic
-k2 = refl
+opposites-run = refl
 
-pub k2·verdict : Gkr.verify-gkr Extension five 1 K2·proof [] ≡ accepted (frac (minus 9) (el 2)) (el 5 ∷ []) K2·log
+pub opposites-run·verdict : Gkr.verify-gkr Extension five 1 opposites·proof [] ≡ accepted (frac (minus 9) (el 2)) (el 5 ∷ []) opposites·log
 unfolding model arithmetic
-k2·verdict = refl
+opposites-run·verdict = refl
 
 -- the same log in words
 abbrev pub fives : Transcript Ext
 fives = lent (λ x. x .c0 .val ∷ x .c1 .val ∷ x .c2 .val ∷ x .c3 .val ∷ []) (λ _. el 5)
 
-pub k2·words : Gkr.run Extension fives 0 K2 (record { log = []; used = 0 }) .log
+pub opposites-run·words : Gkr.run Extension fives 0 opposites (record { log = []; used = 0 }) .log
     ≡ record { log = 4 ∷ 0 ∷ 0 ∷ 0 ∷ 1 ∷ 0 ∷ 0 ∷ 0 ∷ 2 ∷ 0 ∷ 0 ∷ 0 ∷ 2013265920 ∷ 0 ∷ 0 ∷ 0 ∷ 2 ∷ 0 ∷ 0 ∷ 0 ∷ 2147483653 ∷ 2147483648 ∷ 2147483648 ∷ 2147483648 ∷ []; used = 1 }
 unfolding model arithmetic
-k2·words = refl
+opposites-run·words = refl
 
-abbrev pub K4 : ℕ → Frac Ext
-K4 = rows (frac (el 0) (el 0) ∷ frac (el 0) (el 0) ∷ [])
+abbrev pub zeros : ℕ → Frac Ext
+zeros = rows (frac (el 0) (el 0) ∷ frac (el 0) (el 0) ∷ [])
 
-pub k4 : Gkr.run Extension five 0 K4 [] .sum ≡ frac (el 0) (el 0)
+pub zeros-run : Gkr.run Extension five 0 zeros [] .sum ≡ frac (el 0) (el 0)
 unfolding model arithmetic
-k4 = refl
+zeros-run = refl
 
-pub k4·verdict : Gkr.verify-gkr Extension five 1 (Gkr.run Extension five 0 K4 [] .proof) []
-    ≡ accepted (frac (el 0) (el 0)) (el 5 ∷ []) (Gkr.run Extension five 0 K4 [] .log)
+pub zeros-run·verdict : Gkr.verify-gkr Extension five 1 (Gkr.run Extension five 0 zeros [] .proof) []
+    ≡ accepted (frac (el 0) (el 0)) (el 5 ∷ []) (Gkr.run Extension five 0 zeros [] .log)
 unfolding model arithmetic
-k4·verdict = refl
+zeros-run·verdict = refl
 
-abbrev pub K6 : ℕ → Frac Ext
-K6 = rows (frac (el 1) (el 1) ∷ frac (el 1) (el 1) ∷ [])
+abbrev pub ones : ℕ → Frac Ext
+ones = rows (frac (el 1) (el 1) ∷ frac (el 1) (el 1) ∷ [])
 
-abbrev pub K6·proof : Proof Ext
-K6·proof = record { q0 = el 1; claims = claims (el 1) (el 1) (el 1) (el 1) ∷ []; polys = [] }
+abbrev pub ones·proof : Proof Ext
+ones·proof = record { q0 = el 1; claims = claims (el 1) (el 1) (el 1) (el 1) ∷ []; polys = [] }
 
-pub k6 : Gkr.fractional-sumcheck Extension five true 0 K6 [] ≡ non-zero-root-sum
+pub ones-run : Gkr.fractional-sumcheck Extension five true 0 ones [] ≡ non-zero-root-sum
 unfolding model arithmetic
-k6 = refl
+ones-run = refl
 
 -- not asserted: root p is observed first
-pub k6·sum : Gkr.fractional-sumcheck Extension five false 0 K6 []
-    ≡ done (record { sum = frac (el 2) (el 1); proof = K6·proof; point = el 5 ∷ []; log = sampled (el 5) ∷ observed (el 1) ∷ observed (el 1) ∷ observed (el 1) ∷ observed (el 1) ∷ observed (el 1) ∷ observed (el 2) ∷ [] })
+pub ones-run·sum : Gkr.fractional-sumcheck Extension five false 0 ones []
+    ≡ done (record { sum = frac (el 2) (el 1); proof = ones·proof; point = el 5 ∷ []; log = sampled (el 5) ∷ observed (el 1) ∷ observed (el 1) ∷ observed (el 1) ∷ observed (el 1) ∷ observed (el 1) ∷ observed (el 2) ∷ [] })
 unfolding model arithmetic
-k6·sum = refl
+ones-run·sum = refl
 
-pub k6·verdict : Gkr.verify-gkr Extension five 1 K6·proof []
+pub ones-run·verdict : Gkr.verify-gkr Extension five 1 ones·proof []
     ≡ zero-check (el 2) (observed (el 1) ∷ observed (el 1) ∷ observed (el 1) ∷ observed (el 1) ∷ observed (el 1) ∷ [])
 unfolding model arithmetic
-k6·verdict = refl
+ones-run·verdict = refl
 
--- K2's proof with q0 = 5
-pub k10 : Gkr.verify-gkr Extension five 1 (record { q0 = el 5; claims = K2·proof .claims; polys = [] }) []
+-- the proof of the opposites with another q0
+pub q0-off : Gkr.verify-gkr Extension five 1 (record { q0 = el 5; claims = opposites·proof .claims; polys = [] }) []
     ≡ root-check (el 5) (el 4) (observed (el 2) ∷ observed (minus 1) ∷ observed (el 2) ∷ observed (el 1) ∷ observed (el 5) ∷ [])
 unfolding model arithmetic
-k10 = refl
+q0-off = refl
 
--- K3: four rows, challenges 2, 1, 3, 4
+-- four rows, challenges 2, 1, 3, 4
+abbrev pub four : ℕ → Frac Ext
+four = rows (frac (el 1) (el 1) ∷ frac (el 2) (el 1) ∷ frac (minus 1) (el 1) ∷ frac (minus 2) (el 1) ∷ [])
 
-abbrev pub K3 : ℕ → Frac Ext
-K3 = rows (frac (el 1) (el 1) ∷ frac (el 2) (el 1) ∷ frac (minus 1) (el 1) ∷ frac (minus 2) (el 1) ∷ [])
+abbrev pub four·S : Transcript Ext
+four·S = supplied (el 2 ∷ el 1 ∷ el 3 ∷ el 4 ∷ []) (el 0)
 
-abbrev pub K3·S : Transcript Ext
-K3·S = supplied (el 2 ∷ el 1 ∷ el 3 ∷ el 4 ∷ []) (el 0)
-
-abbrev pub K3·proof : Proof Ext
-K3·proof = record {
+abbrev pub four·proof : Proof Ext
+four·proof = record {
   q0 = el 1;
   claims = claims (el 3) (el 1) (minus 3) (el 1) ∷ claims (minus 5) (el 1) (minus 10) (el 1) ∷ [];
   polys = (cubic (minus 4) (minus 40) (minus 112) ∷ []) ∷ [];
 }
 
 -- the log after lambda = 1, and all of it
-abbrev pub K3·begun : List (Event Ext)
-K3·begun = sampled (el 1) ∷ sampled (el 2) ∷ observed (el 1) ∷ observed (minus 3) ∷ observed (el 1) ∷ observed (el 3) ∷ observed (el 1) ∷ []
+abbrev pub four·begun : List (Event Ext)
+four·begun = sampled (el 1) ∷ sampled (el 2) ∷ observed (el 1) ∷ observed (minus 3) ∷ observed (el 1) ∷ observed (el 3) ∷ observed (el 1) ∷ []
 
-abbrev pub K3·log : List (Event Ext)
-K3·log = sampled (el 4) ∷ observed (el 1) ∷ observed (minus 10) ∷ observed (el 1) ∷ observed (minus 5) ∷ sampled (el 3) ∷ observed (minus 112) ∷ observed (minus 40) ∷ observed (minus 4) ∷ K3·begun
+abbrev pub four·log : List (Event Ext)
+four·log = sampled (el 4) ∷ observed (el 1) ∷ observed (minus 10) ∷ observed (el 1) ∷ observed (minus 5) ∷ sampled (el 3) ∷ observed (minus 112) ∷ observed (minus 40) ∷ observed (minus 4) ∷ four·begun
 
-pub k3 : Gkr.fractional-sumcheck Extension K3·S true 1 K3 [] ≡ done (record { sum = frac (el 0) (el 1); proof = K3·proof; point = el 4 ∷ el 3 ∷ []; log = K3·log })
+pub four-run : Gkr.fractional-sumcheck Extension four·S true 1 four [] ≡ done (record { sum = frac (el 0) (el 1); proof = four·proof; point = el 4 ∷ el 3 ∷ []; log = four·log })
 unfolding model arithmetic
-k3 = refl
+four-run = refl
 
-pub k3·verdict : Gkr.verify-gkr Extension K3·S 2 K3·proof [] ≡ accepted (frac (minus 25) (el 1)) (el 4 ∷ el 3 ∷ []) K3·log
+pub four-run·verdict : Gkr.verify-gkr Extension four·S 2 four·proof [] ≡ accepted (frac (minus 25) (el 1)) (el 4 ∷ el 3 ∷ []) four·log
 unfolding model arithmetic
-k3·verdict = refl
+four-run·verdict = refl

@@ -29,7 +29,11 @@ fn grow(v: u64, d: u64) -> u64
     ensures { λ r. ⌜ r ≡ grown v d ⌝ }
 {
     let w = 10 * v + d;
-    if w < Base::ORDER_U64 { w } else { Base::ORDER_U64 }
+    if w < Base::ORDER_U64 {
+        w
+    } else {
+        Base::ORDER_U64
+    }
 }
 
 // The number whose digits begin at a place, and the place after them.
@@ -101,7 +105,11 @@ fn signed(minus: bool, v: u64) -> u32
 fn is_word(from: usize, at: usize, v: u64) -> bool
     ensures { λ r. ⌜ r ≡ isWord from at v ⌝ }
 {
-    if from < at { v < Base::ORDER_U64 } else { false }
+    if from < at {
+        v < Base::ORDER_U64
+    } else {
+        false
+    }
 }
 
 // A word: digits of a number below the prime, after a minus or none.
