@@ -1,10 +1,12 @@
 // The values of both columns of a sheet at a point, with what is refused before; only reads.
 ghost use mathlib.Core.Path.{_≡_};
+ghost use Rattle.evaluation.specs.declared.Evaluation.the-variants.{Done};
 ghost use Rattle.evaluation.specs.Evaluated.{evaluated};
 ghost use Rattle.evaluation.specs.Report.{evaluationReport};
 use field::Ext;
 use refusal::Refusal;
 use refusal::Report;
+use step::Frac;
 
 pub mod halves; // both values, by halves of the rows
 
@@ -16,6 +18,19 @@ pub enum Evaluation {
         denom: Ext,
     },
     Refused(Refusal),
+}
+
+// n, and both values.
+fn done(rounds: usize, value: Frac) -> Evaluation
+    ensures { λ r. ⌜ r ≡ Done rounds (value .p) (value .q) ⌝ }
+{
+    let numer = value.p;
+    let denom = value.q;
+    Evaluation::Done {
+        rounds,
+        numer,
+        denom,
+    }
 }
 
 // Both columns of the rows at the point: row words, eight a row, and the point's words, four a round.
@@ -49,14 +64,7 @@ pub fn evaluate(rows: &[u32], point: &[u32]) -> Evaluation
             denom: Ext::ONE,
         };
     }
-    let value = halves::eval_rows_by_halves(rows, point, n);
-    let numer = value.p;
-    let denom = value.q;
-    Evaluation::Done {
-        rounds: n,
-        numer,
-        denom,
-    }
+    done(n, halves::eval_rows_by_halves(rows, point, n))
 }
 
 // The answer as document 01 has it: its number, and its values.

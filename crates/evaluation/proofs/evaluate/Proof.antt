@@ -76,15 +76,18 @@ eval-rows-by-halves-requires c κs =
       ),
     )
 
+done-requires : tie.Need-done-requires
+done-requires c κs = search needs
+
 returns-8 : tie.Need-returns-8
 returns-8 c =
-    let v = c .before .before in
+    let v = c .before in
     let e = v .before in
     let p = e .before .before in
     let r = p .before .before in
     let n = r .before .before in
     let s = n .before .before in
-    done-some _ _ (s .before .before .if1 .left) (s .before .if2 .left) (s .is-size .ensures) (not-false _ (n .before .if3 .left)) (n .least-size .ensures .0) (r .before .if4 .left) (r .canonical-words .ensures) (not-false _ (p .before .if5 .left)) (p .canonical-words2 .ensures) (not-false _ (e .before .if6 .left)) (e .if7 .left) (v .eval-rows-by-halves .ensures)
+    c .done .ensures ∙ done-some _ _ (s .before .before .if1 .left) (s .before .if2 .left) (s .is-size .ensures) (not-false _ (n .before .if3 .left)) (n .least-size .ensures .0) (r .before .if4 .left) (r .canonical-words .ensures) (not-false _ (p .before .if5 .left)) (p .canonical-words2 .ensures) (not-false _ (e .before .if6 .left)) (e .if7 .left) (v .eval-rows-by-halves .ensures)
 
 pub evaluate-spec : {M : Type 1} → statement M
 evaluate-spec =
@@ -103,4 +106,5 @@ evaluate-spec =
     returns-6
     returns-7
     eval-rows-by-halves-requires
+    done-requires
     returns-8)
