@@ -42,7 +42,7 @@ enum accudrina_result {
     ACCUDRINA_ZERO_ROUNDS = 10,                      /* the verifier was given 0 rounds */
     ACCUDRINA_TOO_MANY_ROUNDS = 11,                  /* more than 10 */
     ACCUDRINA_BAD_VERSION = 12,                      /* no first byte, or not 1 */
-    ACCUDRINA_BAD_LENGTH = 13,                       /* a stored length or count disagrees with the bytes */
+    ACCUDRINA_BAD_LENGTH = 13,                       /* a stored length or count disagrees with the bytes, or a point with the rows */
     ACCUDRINA_INCORRECT_LAYER_COUNT = 14,            /* plain: expected, actual */
     ACCUDRINA_INCORRECT_SUMCHECK_POLY_COUNT = 15,    /* plain: expected, actual */
     ACCUDRINA_ZERO_CHECK_FAILED = 16,                /* elements: the numerator that should be 0 */
@@ -91,7 +91,7 @@ uint32_t accudrina_prove(const uint32_t *rows, size_t rows_len,
 
 /* Verifies a proof that the sum of 2^rounds rows is zero.
  * Done, accepted: the claims in [4] to [7] and [8] to [11], the values at the point of the columns p and q of the sheet; the caller
- * compares them with the sheet. The point and the log stand at the front of their buffers, and equal the prover's.
+ * compares them with the sheet, by accudrina_evaluate. The point and the log stand at the front of their buffers, and equal the prover's.
  * Refused as the first that fits of 10, 11, 4, 5, 12, 13, 6, 14, 15, then 16 to 19 as the run meets them: the point is as it was; so
  * is the log, but for 16 to 19, which leave what the run observed and sampled until then. */
 uint32_t accudrina_verify(const uint8_t *proof, size_t proof_len,
@@ -100,6 +100,14 @@ uint32_t accudrina_verify(const uint8_t *proof, size_t proof_len,
                           uint32_t *point, size_t point_len,
                           uint32_t *log, size_t log_len,
                           uint32_t answer[ACCUDRINA_ANSWER_WORDS]);
+
+/* Evaluates a sheet at a point: the values of the columns p and q that an accepted proof claims. It only reads, and is there to
+ * compare the two claims of accudrina_verify with the sheet, at the point that it wrote.
+ * Done: the rounds n in [1], the value of the column p in [4] to [7] and of q in [8] to [11]. No rows: 0 and 1; one row: its p and q.
+ * Refused as the first that fits of 1, 2, 3, 13 (the point has not accudrina_point_words(n) words), 6 (in the rows, then in the point). */
+uint32_t accudrina_evaluate(const uint32_t *rows, size_t rows_len,
+                            const uint32_t *point, size_t point_len,
+                            uint32_t answer[ACCUDRINA_ANSWER_WORDS]);
 
 #ifdef __cplusplus
 }
