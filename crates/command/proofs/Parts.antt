@@ -10,11 +10,11 @@ use Rattle.field.specs.Cells.{Clean}
 use Rattle.io.specs.Counts.{Counts}
 use Rattle.wire.specs.WordLaws.{canonical-below}
 use Rattle.wire.specs.ByteLaws.{words-length}
-use Rattle.stored.specs.declared.SheetAnswer.{SheetAnswer}
-use Rattle.stored.specs.declared.SheetAnswer.the-variants.{Done, Refused}
-use Rattle.stored.specs.Sheet.{rowCount, rowWords}
-use Rattle.stored.specs.SheetReads.{SheetEnd, ended, readAnswer, sheetRead}
-use Rattle.stored.specs.SheetLaws.{read-done}
+use Rattle.stored_sheet.specs.declared.SheetAnswer.{SheetAnswer}
+use Rattle.stored_sheet.specs.declared.SheetAnswer.the-variants.{Done, Refused}
+use Rattle.stored_sheet.specs.Sheet.{rowCount, rowWords}
+use Rattle.stored_sheet.specs.SheetReads.{SheetEnd, ended, readAnswer, sheetRead}
+use Rattle.stored_sheet.specs.SheetLaws.{read-done}
 use Rattle.sheet_text.specs.declared.ListAnswer.{ListAnswer}
 use Rattle.sheet_text.specs.declared.ListAnswer.the-variants as Ends
 use Rattle.sheet_text.specs.Reading.{Within}

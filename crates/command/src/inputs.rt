@@ -8,7 +8,7 @@ use crate::refusals::print_refusal;
 use refusal::Refusal;
 use sheet_text::ListAnswer;
 use sheet_text::list::read_list;
-use stored::SheetAnswer;
+use stored_sheet::SheetAnswer;
 
 // How many words there are, and whether they are good.
 pub struct Given {
@@ -19,7 +19,7 @@ pub struct Given {
 fn rows_of(sheet: &[u8], rows: &mut [u32]) -> Given
     ensures { λ r. ⌜ Rows (r .count) (now (rows .exit)) ⌝ }
 {
-    match stored::sheet::read_sheet(sheet, rows) {
+    match stored_sheet::read_sheet(sheet, rows) {
         SheetAnswer::Done(count) => Given {
             count: 8 * count,
             good: true,

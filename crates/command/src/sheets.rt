@@ -9,7 +9,7 @@ use crate::refusals::print_refusal;
 use refusal::Refusal;
 use sheet_text::ListAnswer;
 use sheet_text::list::read_list;
-use stored::SheetAnswer;
+use stored_sheet::SheetAnswer;
 
 // The name of the sheet.
 pub fn show(sheet: &[u8]) {
@@ -23,7 +23,7 @@ pub fn show(sheet: &[u8]) {
 
 fn keep_sheet(rows: &[u32], path: &[u8]) {
     let mut sheet = [0u8; 32771];
-    match stored::sheet::write_sheet(rows, &mut sheet) {
+    match stored_sheet::write_sheet(rows, &mut sheet) {
         SheetAnswer::Done(bytes) => {
             let n = files::front(bytes, &sheet);
             if files::replace(path, &sheet[..n]) {

@@ -8,7 +8,7 @@ use field::Ext;
 use refusal::Refusal;
 use round::Verdict;
 use step::Frac;
-use stored::SheetAnswer;
+use stored_sheet::SheetAnswer;
 
 // A name and a number, on a line.
 pub fn print_number(name: &[u8], n: u64) {
@@ -138,7 +138,7 @@ fn show_rows(rows: &[u32], count: usize) {
 // A sheet of at most 64 rows.
 pub fn show_sheet(sheet: &[u8]) {
     let mut rows = [0u32; 512];
-    match stored::sheet::read_sheet(sheet, &mut rows) {
+    match stored_sheet::read_sheet(sheet, &mut rows) {
         SheetAnswer::Done(count) => {
             let k = 8 * count;
             show_rows(&rows[..k], count);
