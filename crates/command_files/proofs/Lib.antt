@@ -1,2 +1,2 @@
--- The laws of the commands.
+-- The laws of what is read.
 pub mod Parts

@@ -1,4 +1,4 @@
--- `show::print_point` is safe and ends.
+-- `answers::print_point` is safe and ends.
 -- Assumes nothing.
 use Prim.Native.Nat.{_≤_, _-_}
 use borrow.Author.Needs.{needs}

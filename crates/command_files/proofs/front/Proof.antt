@@ -1,4 +1,4 @@
--- `command::files::front` meets its contract.
+-- `command_files::front` meets its contract.
 -- Assumes nothing.
 use Rattle.command_files.proofs.Parts.{counts}
 use native.Mathlib.Omega.{arith}

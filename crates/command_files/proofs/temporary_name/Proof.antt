@@ -1,4 +1,4 @@
--- `command::files::temporary_name` meets its contract.
+-- `command_files::temporary_name` meets its contract.
 -- Assumes nothing.
 use mathlib.Core.Path.{_≡_, refl}
 use Prim.Native.Nat.{_≤_, _-_}

@@ -1,4 +1,4 @@
--- `command::sheets::make_rows` meets its contract.
+-- `command_sheets::make_rows` meets its contract.
 -- Assumes nothing.
 use Rattle.command_files.proofs.Parts.{list-counts}
 use borrow.Author.Needs.{needs}

@@ -1,4 +1,4 @@
--- `show::count_up` meets its contract.
+-- `answers::counting::count_up` meets its contract.
 -- Assumes nothing.
 use mathlib.Core.Path.{_≡_, refl}
 use Prim.Native.Nat.{_≤_, _-_, _/_}

@@ -1,4 +1,4 @@
--- `command::inputs::elements_of` meets its contract.
+-- `command_files::inputs::elements_of` meets its contract.
 -- Assumes nothing.
 use Rattle.command_files.proofs.Parts.{counts, list-counts}
 use borrow.Author.Needs.{needs}

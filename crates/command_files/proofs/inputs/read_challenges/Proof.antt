@@ -1,4 +1,4 @@
--- `command::inputs::read_challenges` meets its contract.
+-- `command_files::inputs::read_challenges` meets its contract.
 -- Assumes nothing.
 use Rattle.command_files.proofs.Parts.{counts}
 use borrow.Author.Needs.{needs}

@@ -1,4 +1,4 @@
--- `command::inputs::rows_of` meets its contract.
+-- `command_files::inputs::rows_of` meets its contract.
 -- Assumes nothing.
 use Rattle.command_files.proofs.Parts.{read-few, read-rows, no-rows}
 use native.Mathlib.Omega.{arith}

@@ -1,4 +1,4 @@
--- `command::levels::print_levels` meets its contract.
+-- `command_sheets::levels::print_levels` meets its contract.
 -- Assumes nothing.
 use Prim.Native.Nat.{_≤_, _-_}
 use borrow.Author.Needs.{needs}

@@ -1,4 +1,4 @@
--- `command::levels::print_nodes` meets its contract.
+-- `command_sheets::levels::print_nodes` meets its contract.
 -- Assumes nothing.
 use Prim.Native.Nat.{_-_}
 use borrow.Author.Needs.{needs}
