@@ -2,7 +2,7 @@
 -- Assumes nothing.
 use mathlib.Core.List.{List}
 use Prim.Native.Nat.{ℕ}
-use Rattle.stored.specs.SheetReads.{sheetRead}
+use Rattle.stored_sheet.specs.SheetReads.{sheetRead}
 use Rattle.gate.specs.Refusals.{Call}
 use Rattle.evaluation.specs.Evaluated.{evaluated}
 use Rattle.evaluation.specs.Report.{evaluationReport}

@@ -15,7 +15,7 @@ pub extern "C" fn accudrina_read_sheet(
 ) -> u32
     ensures { λ r. ⌜ record { told = record { number = r; words = now (answer .exit) }; buffers = now (rows .exit) } ≡ reading (now (sheet .entry)) (now (rows .entry)) ⌝ }
 {
-    let read = stored::sheet::read_sheet(sheet, rows);
+    let read = stored_sheet::read_sheet(sheet, rows);
     answer::tell(report::of_sheet(read), answer)
 }
 
