@@ -45,7 +45,7 @@ enum accudrina_result {
     ACCUDRINA_ZERO_ROUNDS = 10,                      /* the verifier was given 0 rounds */
     ACCUDRINA_TOO_MANY_ROUNDS = 11,                  /* more than 10 */
     ACCUDRINA_BAD_VERSION = 12,                      /* no first byte, or not 1 */
-    ACCUDRINA_BAD_LENGTH = 13,                       /* a stored length or count disagrees with the bytes */
+    ACCUDRINA_BAD_LENGTH = 13,                       /* a stored length or count disagrees with the bytes, or a point with the rows */
     ACCUDRINA_INCORRECT_LAYER_COUNT = 14,            /* plain: expected, actual */
     ACCUDRINA_INCORRECT_SUMCHECK_POLY_COUNT = 15,    /* plain: expected, actual */
     ACCUDRINA_ZERO_CHECK_FAILED = 16,                /* elements: the numerator that should be 0 */
@@ -94,7 +94,8 @@ uint32_t accudrina_prove(const uint32_t *rows, size_t rows_len,
 
 /* Verifies a proof that the sum of 2^rounds rows is zero. proof_len is the proof's exact length.
  * Done, accepted: two claims in [4] to [7] and [8] to [11]; the point and the log stand at the front of their buffers. Of every accepted
- * proof that is all: the sheet was not seen, and the caller compares the claims with the values of its columns p and q at the point.
+ * proof that is all: the sheet was not seen, and the caller compares the claims with the values of its columns p and q at the
+ * point, which accudrina_evaluate answers.
  * Of a proof that accudrina_prove wrote with assert_zero, given the same challenges, it is proved that it is accepted, that the claims are
  * these values, and that point and log equal the prover's.
  * A proof whose q0 is 0 is accepted too, and says nothing about the rows: q0 is the first element, in the proof's bytes 5 to 20.
@@ -106,6 +107,14 @@ uint32_t accudrina_verify(const uint8_t *proof, size_t proof_len,
                           uint32_t *point, size_t point_len,
                           uint32_t *log, size_t log_len,
                           uint32_t answer[ACCUDRINA_ANSWER_WORDS]);
+
+/* Evaluates a sheet at a point: the values of the columns p and q that an accepted proof claims. It only reads, and is there to
+ * compare the two claims of accudrina_verify with the sheet, at the point that it wrote.
+ * Done: the rounds n in [1], the value of the column p in [4] to [7] and of q in [8] to [11]. No rows: 0 and 1; one row: its p and q.
+ * Refused as the first that fits of 1, 2, 3, 13 (the point has not accudrina_point_words(n) words), 6 (in the rows, then in the point). */
+uint32_t accudrina_evaluate(const uint32_t *rows, size_t rows_len,
+                            const uint32_t *point, size_t point_len,
+                            uint32_t answer[ACCUDRINA_ANSWER_WORDS]);
 
 #ifdef __cplusplus
 }

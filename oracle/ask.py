@@ -26,6 +26,8 @@ def recorded(kind):
 
 def replies(commands, build="release"):
     """One reply for each command, from one process."""
+    if not commands:
+        return []
     done = subprocess.run([program(build)], input="\n".join(commands) + "\n", capture_output=True, text=True, check=True)
     lines = done.stdout.splitlines()
     assert len(lines) == len(commands), "the oracle did not answer every command"
@@ -56,7 +58,7 @@ def command(code, a):
         return f"prove {int(a[1])} {words(a[2])} {words(a[3])}"
     if code == 50:
         return f"verify {a[0]} {bytes(a[1]).hex() or '-'} {words(a[2])}"
-    if code == 60:
+    if code in (60, 70):
         return None
     if code in (20, 21, 22):
         return f"{name} {words(m.flat(a[:-1]))} {words(a[-1])}"
@@ -118,6 +120,9 @@ def expected(cases, cross=lambda code, a: True):
             check_refusal(code, a, refused[i], i in said, rust)
             result.append((refused[i], "rust" if code == 40 and refused[i].no == 8 else "model"))
             continue
+        if code == 70:
+            result.append((m.run(code, a), "model"))
+            continue
         if rust is None:
             raise Disagree(f"the Rust panics, the model does not refuse: {code} {a}: {said.get(i)}")
         if cross(code, a) and not same(code, m.run(code, a), rust):
@@ -128,7 +133,7 @@ def expected(cases, cross=lambda code, a: True):
 
 def comparable(code, a, refused):
     """Whether the Rust can be asked: a run, a refusal that is the Rust's too, one where it panics, or our proof reader's."""
-    if code == 60:
+    if code in (60, 70):
         return False
     if refused is None:
         return True

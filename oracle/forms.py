@@ -17,8 +17,9 @@ FORMS = {
     40: ("prover", "prove", "wwllwwwww"),
     50: ("verifier", "verify", "wllwww"),
     60: ("sheet", "read_sheet", "lww"),
+    70: ("evaluation", "evaluate", "ll"),
 }
-KINDS = ("field", "poly", "prover", "verifier", "sheet")
+KINDS = ("field", "poly", "prover", "verifier", "sheet", "evaluation")
 
 
 def write_case(code, a):
@@ -93,6 +94,8 @@ def write_answer(code, a, o):
     elif code == 50:
         point, log = fronts or [[]] * 2
         v = fields(o) + buffer(point, a[3], a[5]) + buffer(log, a[4], a[5])
+    elif code == 70:
+        v = fields(o)
     else:
         v = fields(o) + buffer(fronts[0] if o.no == 0 else [], a[1], a[2])
     return " ".join(map(str, v))

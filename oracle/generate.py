@@ -9,7 +9,7 @@ TOP = (1 << 32) - 1
 EDGE = [0, 1, 2, P - 1]
 BAD = [P, P + 1, 1 << 31, TOP]
 # The longest lists and buffers of a case, by its arguments, for programs that read them into arrays (lists of poly: 8,200).
-LARGEST = {40: (1, 1, 16400, 320, 2900, 48, 1000, 32800), 50: ((1 << 64) - 1, 16400, 320, 48, 1000), 60: (65600, 16400)}
+LARGEST = {40: (1, 1, 16400, 320, 2900, 48, 1000, 32800), 50: ((1 << 64) - 1, 16400, 320, 48, 1000), 60: (65600, 16400), 70: (16400, 48)}
 
 
 def within(code, a):
@@ -215,6 +215,15 @@ class Make:
             data[self.r.randrange(min(5, len(data)))] = self.r.randrange(256)
         return 60, [data, self.near(8 * count), self.filler()]
 
+    def evaluate(self):
+        r = self.r.random()
+        n = self.size()
+        rows = self.words(8 << n) if r < 0.9 else [] if r < 0.93 else self.words(8 * self.r.randrange(0, 20))
+        if r > 0.997:
+            rows = [1] * 8 * self.r.randrange(m.ROWS, 2 * m.ROWS + 1)
+        point = self.list(n) if rows else self.list(self.r.randrange(0, 2))
+        return 70, [self.cut(self.spoil(rows)), self.cut(self.spoil(point))]
+
     # --- helpers
 
     def field(self):
@@ -267,7 +276,7 @@ def random_cases(kind, count, random):
         sizes = [max(1, make.size()) for _ in range(max(1, count // 4))]
         honest = make.honest(sizes)
         return [make.verify(random.choice(honest)) for _ in range(count)]
-    one = {"field": make.field, "poly": make.poly, "prover": make.prove, "sheet": make.sheet}[kind]
+    one = {"field": make.field, "poly": make.poly, "prover": make.prove, "sheet": make.sheet, "evaluation": make.evaluate}[kind]
     return [one() for _ in range(count)]
 
 

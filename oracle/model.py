@@ -253,6 +253,12 @@ def eq_value(x, y):
     return product(add(mul(a, b), mul(sub(ONE, a), sub(ONE, b))) for a, b in zip(x, y))
 
 
+def evaluate(words, point):
+    """The values of both columns, p and q by turns; without rows those of the empty sum."""
+    p, q = words[::2], words[1::2]
+    return Outcome(0, [len(point)], [value(p, point), value(q, point)] if p else [ZERO, ONE])
+
+
 # --- stored forms
 
 
@@ -335,13 +341,20 @@ def first(*tests):
     return next((no for no, test in tests if test()), None)
 
 
+def row_tests(rows):
+    count = len(rows) // 8
+    return [(1, lambda: len(rows) % 8 != 0), (2, lambda: count > ROWS), (3, lambda: count and not power_of_two(count))]
+
+
+def rounds(count):
+    return count.bit_length() - 1 if count else 0
+
+
 def prove_refusal(live, asserted, rows, challenges, proof, point, log, work):
     count = len(rows) // 8
-    n = count.bit_length() - 1 if count else 0
+    n = rounds(count)
     fractions = elements(rows)
-    no = first((1, lambda: len(rows) % 8 != 0),
-               (2, lambda: count > ROWS),
-               (3, lambda: count and not power_of_two(count)),
+    no = first(*row_tests(rows),
                (4, lambda: len(challenges) < challenge_words(n)),
                (5, lambda: proof < proof_bytes(n) or point < 4 * n or log < log_words(n, asserted) or work < work_words(n)),
                (6, lambda: bad(rows, challenges[:challenge_words(n)])))
@@ -376,6 +389,10 @@ def read_sheet(data, room):
                (2, lambda: count > ROWS), (3, lambda: count and not power_of_two(count)),
                (5, lambda: room < 8 * count), (6, lambda: bad(words)))
     return Outcome(no) if no else Outcome(0, [count], [], [words])
+
+
+def evaluate_refusal(rows, point):
+    return first(*row_tests(rows), (13, lambda: len(point) != 4 * rounds(len(rows) // 8)), (6, lambda: bad(rows, point)))
 
 
 def split(*lists):
@@ -423,7 +440,7 @@ def refusal(code, a):
         return verify_refusal(*a[:5])
     if code == 60:
         return read_sheet(*a[:2])
-    no = helper_refusal(code, a)
+    no = evaluate_refusal(*a) if code == 70 else helper_refusal(code, a)
     return Outcome(no) if no else None
 
 
@@ -470,6 +487,8 @@ def run(code, a):
         return fractional_sumcheck(list(zip(rows[::2], rows[1::2])), a[1], a[3])
     if code == 50:
         return verify_gkr(read_proof(a[1]), a[0], a[2])
+    if code == 70:
+        return evaluate(elements(a[0]), elements(a[1]))
     raise ValueError(code)
 
 

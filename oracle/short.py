@@ -86,4 +86,13 @@ def short_sheet():
         yield 60, [[1, 0, count] + [1] * max(0, 32 * count + extra), room, 7]
 
 
-SHORT = {"field": short_field, "poly": short_poly, "prover": short_prover, "verifier": short_verifier, "sheet": short_sheet}
+def short_evaluation():
+    few = [m.const(k) for k in (0, 1, -1)]
+    for p, q, r, s, z in itertools.product(few, few, few, few, [m.const(k) for k in (0, 1, 2, -1)]):
+        yield 70, [m.flat([p, q, r, s]), list(z)]
+    for rows, point in itertools.product(range(0, 50), range(0, 13)):
+        yield 70, [[1] * rows, [2] * point]
+
+
+SHORT = {"field": short_field, "poly": short_poly, "prover": short_prover, "verifier": short_verifier, "sheet": short_sheet,
+         "evaluation": short_evaluation}

@@ -1,13 +1,14 @@
-/* Proves and verifies 1/1 + 2/1 - 1/1 - 2/1 = 0, and prints the claims on the sheet and the point. */
+/* Proves and verifies 1/1 + 2/1 - 1/1 - 2/1 = 0, prints the claims on the sheet and the point, and compares them with the sheet. */
 #include "accudrina.h"
 #include <stdio.h>
+#include <string.h>
 
 static void print(const char *name, const uint32_t *e) {
     printf("%s %u,%u,%u,%u\n", name, (unsigned)e[0], (unsigned)e[1], (unsigned)e[2], (unsigned)e[3]);
 }
 
 int main(void) {
-    uint32_t rows[4 * 8] = {0}, challenges[16] = {0}, answer[ACCUDRINA_ANSWER_WORDS];
+    uint32_t rows[4 * 8] = {0}, challenges[16] = {0}, answer[ACCUDRINA_ANSWER_WORDS], own[ACCUDRINA_ANSWER_WORDS];
     const uint32_t p[4] = {1, 2, ACCUDRINA_PRIME - 1, ACCUDRINA_PRIME - 2}, drawn[4] = {2, 1, 3, 4};
     uint8_t proof[200];
     uint32_t point[8], log[64], work[128]; /* accudrina_proof_bytes(2), .. */
@@ -25,5 +26,10 @@ int main(void) {
     print("denom", answer + 8);
     print("point", point);
     print("     ", point + 4);
+    if (accudrina_evaluate(rows, 32, point, 8, own) || memcmp(own + 4, answer + 4, 8 * sizeof *own)) {
+        printf("not of this sheet\n");
+        return 1;
+    }
+    printf("of this sheet\n");
     return 0;
 }

@@ -42,4 +42,6 @@ extern "C" {
         log_len: usize,
         answer: *mut Answer,
     ) -> u32;
+
+    pub fn accudrina_evaluate(rows: *const u32, rows_len: usize, point: *const u32, point_len: usize, answer: *mut Answer) -> u32;
 }

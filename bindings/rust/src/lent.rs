@@ -41,6 +41,14 @@ pub struct Claims {
     pub denom: Element,
 }
 
+/// A sheet's own values at a point.
+#[derive(Clone, Copy, Debug, PartialEq, Eq)]
+pub struct Evaluated {
+    pub rounds: usize,
+    /// Of the columns p and q: what an honest proof claims there.
+    pub values: Claims,
+}
+
 fn element(answer: &ffi::Answer, at: usize) -> Element {
     Element([answer[at], answer[at + 1], answer[at + 2], answer[at + 3]])
 }
@@ -105,6 +113,17 @@ pub fn verify_into(proof: &[u8], rounds: usize, challenges: &[u32], point: &mut 
     };
     match number {
         0 => Ok(Claims { numer: element(&answer, 4), denom: element(&answer, 8) }),
+        _ => Err(Refusal::told(&answer)),
+    }
+}
+
+/// Evaluates both columns of the rows, eight words each, at a point, four words a coordinate; only reads.
+pub fn evaluate_words(rows: &[u32], point: &[u32]) -> Result<Evaluated, Refusal> {
+    let mut answer = [0; 16];
+    // Safe: as in `read_sheet_into`.
+    let number = unsafe { ffi::accudrina_evaluate(rows.as_ptr(), rows.len(), point.as_ptr(), point.len(), &mut answer) };
+    match number {
+        0 => Ok(Evaluated { rounds: answer[1] as usize, values: Claims { numer: element(&answer, 4), denom: element(&answer, 8) } }),
         _ => Err(Refusal::told(&answer)),
     }
 }

@@ -1,7 +1,7 @@
 //! The calls with buffers made to measure.
 use crate::{
     element::{elements_of, row_words, words_of},
-    lent::{prove_into, read_sheet_into, verify_into, Claims, Mode, Rooms, Sum},
+    lent::{evaluate_words, prove_into, read_sheet_into, verify_into, Claims, Mode, Rooms, Sum},
     rooms, Element, Fraction, Refusal,
 };
 
@@ -54,4 +54,9 @@ pub fn verify(proof: &[u8], rounds: usize, challenges: &[Element]) -> Result<Acc
     let mut log = vec![0; rooms::log_words(rounds, true)];
     let claims = verify_into(proof, rounds, &words_of(challenges), &mut point, &mut log)?;
     Ok(Accepted { claims, point: elements_of(&point), log })
+}
+
+/// The values of both columns of the rows at a point: compare them with the claims of a proof that was accepted with that point.
+pub fn evaluate(rows: &[Fraction], point: &[Element]) -> Result<Claims, Refusal> {
+    Ok(evaluate_words(&row_words(rows), &words_of(point))?.values)
 }

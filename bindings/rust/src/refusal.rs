@@ -29,7 +29,7 @@ pub enum Refusal {
     TooManyRounds,
     /// 12: no first byte, or not 1.
     BadVersion,
-    /// 13: a stored length or a list disagrees with the bytes.
+    /// 13: a stored length or a list disagrees with the bytes, or a point with the rows.
     BadLength,
     /// 14
     IncorrectLayerCount { expected: u32, actual: u32 },

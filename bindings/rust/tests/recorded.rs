@@ -1,5 +1,5 @@
 //! The Rust's recorded answers (oracle/README.md), through the exported functions: every number, field and word of every buffer.
-use accudrina::{prove_into, read_sheet_into, verify_into, Claims, Done, Element, Mode, Refusal, Rooms, Sum};
+use accudrina::{evaluate_words, prove_into, read_sheet_into, verify_into, Claims, Done, Element, Evaluated, Mode, Refusal, Rooms, Sum};
 use std::{fs, path::PathBuf};
 
 /// The numbers of a line, taken from the front.
@@ -83,6 +83,12 @@ fn sheet(case: &mut Line<'_>) -> Vec<u32> {
     [answer.to_vec(), listed(&rows)].concat()
 }
 
+fn evaluation(case: &mut Line<'_>) -> Vec<u32> {
+    let (rows, point) = (case.words(), case.words());
+    let done = |e: Evaluated| told(0, [e.rounds as u32, 0, 0], e.values.numer, e.values.denom);
+    evaluate_words(&rows, &point).map_or_else(refused, done).to_vec()
+}
+
 /// Every case of a kind gives its recorded answer.
 fn replay(kind: &str, call: fn(&mut Line<'_>) -> Vec<u32>) {
     let folder = PathBuf::from(env!("CARGO_MANIFEST_DIR")).join(format!("../../crates/replay_{kind}"));
@@ -111,4 +117,9 @@ fn recorded_verifier() {
 #[test]
 fn recorded_sheets() {
     replay("sheet", sheet);
+}
+
+#[test]
+fn recorded_evaluations() {
+    replay("evaluation", evaluation);
 }

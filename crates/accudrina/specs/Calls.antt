@@ -2,8 +2,10 @@
 -- Assumes nothing.
 use mathlib.Core.List.{List}
 use Prim.Native.Nat.{ℕ}
-use Rattle.stored.specs.SheetReads.{sheetRead}
+use Rattle.stored_sheet.specs.SheetReads.{sheetRead}
 use Rattle.gate.specs.Refusals.{Call}
+use Rattle.evaluation.specs.Evaluated.{evaluated}
+use Rattle.evaluation.specs.Report.{evaluationReport}
 use Rattle.prover.specs.Proved.{Buffers, proved}
 use Rattle.prover.specs.Report.{answerReport}
 use Rattle.verifier.specs.Verified.{verified}
@@ -31,3 +33,7 @@ abbrev pub verifying : (proof : List ℕ) (rounds : ℕ) (challenges : List ℕ)
 verifying proof rounds challenges lent =
     let end = verified proof rounds challenges (lent .point) (lent .log) in
     record { told = tells (verdictReport (end .answer)); buffers = record { point = end .point; log = end .log } }
+
+-- of rows and a point; no buffer is lent
+abbrev pub evaluating : (rows point : List ℕ) → Told
+evaluating rows point = tells (evaluationReport (evaluated rows point))

@@ -2,8 +2,8 @@
 -- Assumes nothing.
 use Rattle.refusal.specs.declared.Report.{Report}
 use Rattle.refusal.specs.Numbers.{none, elements, reportOf}
-use Rattle.stored.specs.declared.SheetAnswer.{SheetAnswer}
-use Rattle.stored.specs.declared.SheetAnswer.the-variants as Sheet
+use Rattle.stored_sheet.specs.declared.SheetAnswer.{SheetAnswer}
+use Rattle.stored_sheet.specs.declared.SheetAnswer.the-variants as Sheet
 use Rattle.round.specs.declared.Verdict.{Verdict}
 use Rattle.round.specs.declared.Verdict.the-variants as Verdict
 

@@ -1,6 +1,6 @@
 // The functions that C and Rust call: a number is returned, and sixteen words of answer are written.
 ghost use mathlib.Core.Path.{_≡_};
-ghost use Rattle.accudrina.specs.Calls.{reading, proving, verifying};
+ghost use Rattle.accudrina.specs.Calls.{reading, proving, verifying, evaluating};
 
 mod answer; // the sixteen words
 mod report; // what they say of each call's answer
@@ -15,7 +15,7 @@ pub extern "C" fn accudrina_read_sheet(
 ) -> u32
     ensures { λ r. ⌜ record { told = record { number = r; words = now (answer .exit) }; buffers = now (rows .exit) } ≡ reading (now (sheet .entry)) (now (rows .entry)) ⌝ }
 {
-    let read = stored::sheet::read_sheet(sheet, rows);
+    let read = stored_sheet::read_sheet(sheet, rows);
     answer::tell(report::of_sheet(read), answer)
 }
 
@@ -61,4 +61,13 @@ pub extern "C" fn accudrina_verify(
 {
     let verdict = verifier::verify_gkr(proof, rounds, challenges, point, log);
     answer::tell(report::of_verdict(verdict), answer)
+}
+
+// The values of both columns of a sheet at a point: the number 0, the rounds and both values, or the refusal; it only reads.
+#[no_mangle]
+pub extern "C" fn accudrina_evaluate(rows: &[u32], point: &[u32], answer: &mut [u32; 16]) -> u32
+    ensures { λ r. ⌜ record { number = r; words = now (answer .exit) } ≡ evaluating (now (rows .entry)) (now (point .entry)) ⌝ }
+{
+    let value = evaluation::evaluate(rows, point);
+    answer::tell(evaluation::number_and_values(value), answer)
 }

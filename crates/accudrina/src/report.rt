@@ -5,7 +5,7 @@ ghost use Rattle.accudrina.specs.Reports.{sheetReport, verdictReport};
 use field::Ext;
 use refusal::Report;
 use round::Verdict;
-use stored::SheetAnswer;
+use stored_sheet::SheetAnswer;
 
 fn done(first: usize, left: Ext, right: Ext) -> Report
     ensures { λ r. ⌜ r ≡ elements 0 first left right ⌝ }

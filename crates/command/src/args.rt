@@ -1,11 +1,11 @@
 // The arguments of a command in one buffer, each ended by a byte 0, and the command that they ask for.
 ghost use Prim.Native.Nat.{_≤_};
 ghost use lib.ListN.{length};
-use crate::prove::Mode;
-use crate::prove::prove;
-use crate::sheets::make;
-use crate::sheets::show;
-use crate::verify::verify;
+use command_proofs::prove::Mode;
+use command_proofs::prove::prove;
+use command_proofs::verify::verify;
+use command_sheets::make;
+use command_sheets::show;
 use sheet_text::list::beyond;
 use sheet_text::list::find;
 

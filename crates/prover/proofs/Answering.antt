@@ -28,7 +28,7 @@ use Rattle.gate.specs.declared.Gate.{Gate}
 use Rattle.gate.specs.declared.Gate.the-variants.{Open, Shut}
 use Rattle.gate.specs.Refusals.{Call, rowCount, roundsOf, workRoom, firstRefusal}
 use Rattle.stored.specs.Layout.{layout}
-use Rattle.stored.specs.Messages.{noRows}
+use Rattle.stored_writer.specs.Messages.{noRows}
 use Rattle.prover.specs.declared.Answer.{Answer}
 use Rattle.prover.specs.declared.Answer.the-variants.{Done, Refused}
 use Rattle.prover.specs.Proved.{Buffers, Outcome, wiped, encFrac, nothing, refused, after, oneRow, ran, entered, proved, roomsOf, pointWords}

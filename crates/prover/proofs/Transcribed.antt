@@ -21,7 +21,7 @@ use Rattle.gkr.specs.Tree as Tree
 use Rattle.gkr.specs.Sumcheck as Sumcheck
 use Rattle.gkr.specs.Gkr as Gkr
 use Rattle.transcript.specs.Log.{Supplied, wordsOf}
-use Rattle.stored.specs.Messages.{readClaims, readPolys, layerClaims, layerPolys, readProof}
+use Rattle.stored_writer.specs.Messages.{readClaims, readPolys, layerClaims, layerPolys, readProof}
 
 -- L goes on from the log t
 pub record Extends (t : Words) (L : List ℕ) : Type 0 where

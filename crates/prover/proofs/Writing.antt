@@ -25,7 +25,7 @@ use Rattle.step.specs.Values.{IsFrac}
 use Rattle.stored.specs.Layout.{layout}
 use Rattle.stored.specs.Lengths.{proofSize}
 use Rattle.stored.specs.Elements.{encoded}
-use Rattle.stored.specs.Messages.{storedProof, readProof}
+use Rattle.stored_writer.specs.Messages.{storedProof, readProof}
 use Rattle.run.specs.Runs.{origin, begun, RunOf}
 use Rattle.run.proofs.Whole.{past}
 use Rattle.prover.specs.Proved.{over, pointWords}

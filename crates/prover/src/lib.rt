@@ -51,7 +51,7 @@ fn write_run(
     let pos = run::begin(log, asserted, root.p);
     run::run_rounds(n, size, root.q, work, xi, log, challenges, pos);
     let i = pos.put / 4;
-    stored::writer::put_proof(proof, log, i, n);
+    stored_writer::put_proof(proof, log, i, n);
     tree::clear(work); // nothing of the rows stays
 }
 
@@ -110,7 +110,7 @@ fn no_rounds(rows: &[u32], asserted: bool, proof: &mut [u8]) -> Answer
     ensures { λ r. ⌜ ((pt lg ws : List ℕ) → record { answer = r; buffers = record { proof = now (proof .exit); point = pt; log = lg; work = ws } } ≡ ran (now (rows .entry)) asserted [] 0 (record { proof = now (proof .entry); point = pt; log = lg; work = ws })) ⌝ }
 {
     if rows.len() / 8 == 0 {
-        stored::writer::put_no_rows(proof);
+        stored_writer::put_no_rows(proof);
         return Answer::Done {
             rounds: 0,
             sum: Frac {

@@ -5,7 +5,7 @@ use cases::read::next_bytes;
 use cases::read::next_number;
 use cases::read::next_word;
 use field::Ext;
-use stored::SheetAnswer;
+use stored_sheet::SheetAnswer;
 
 fn print_answer(answer: SheetAnswer) {
     match answer {
@@ -15,7 +15,7 @@ fn print_answer(answer: SheetAnswer) {
 }
 
 fn call(sheet: &[u8], rows: &mut [u32]) {
-    print_answer(stored::sheet::read_sheet(sheet, rows));
+    print_answer(stored_sheet::read_sheet(sheet, rows));
     print::words(rows);
     print::end();
 }

@@ -34,7 +34,7 @@ fn print_size(path: &[u8]) {
     }
     let n = io::read_full(file, &mut bytes);
     libc::close(file);
-    show::print_number(b"bytes ", n as u64);
+    answers::print_number(b"bytes ", n as u64);
 }
 
 // `size` is the one command whose second letter is i.
@@ -66,31 +66,31 @@ fn element(c0: u32, c1: u32, c2: u32, c3: u32) -> Ext {
 }
 
 fn print_plain() {
-    command::refusals::print_refusal(Refusal::RaggedRows);
-    command::refusals::print_refusal(Refusal::TooManyRows);
-    command::refusals::print_refusal(Refusal::NotPowerOfTwo);
-    command::refusals::print_refusal(Refusal::ShortChallenges);
-    command::refusals::print_refusal(Refusal::ShortRoom);
-    command::refusals::print_refusal(Refusal::BadWord);
-    command::refusals::print_refusal(Refusal::ZeroDenominator { row: 1023 });
-    command::refusals::print_refusal(Refusal::NonZeroRootSum);
-    command::refusals::print_refusal(Refusal::SingleRow);
-    command::refusals::print_refusal(Refusal::ZeroRounds);
-    command::refusals::print_refusal(Refusal::TooManyRounds);
-    command::refusals::print_refusal(Refusal::BadVersion);
-    command::refusals::print_refusal(Refusal::BadLength);
+    command_text::refusals::print_refusal(Refusal::RaggedRows);
+    command_text::refusals::print_refusal(Refusal::TooManyRows);
+    command_text::refusals::print_refusal(Refusal::NotPowerOfTwo);
+    command_text::refusals::print_refusal(Refusal::ShortChallenges);
+    command_text::refusals::print_refusal(Refusal::ShortRoom);
+    command_text::refusals::print_refusal(Refusal::BadWord);
+    command_text::refusals::print_refusal(Refusal::ZeroDenominator { row: 1023 });
+    command_text::refusals::print_refusal(Refusal::NonZeroRootSum);
+    command_text::refusals::print_refusal(Refusal::SingleRow);
+    command_text::refusals::print_refusal(Refusal::ZeroRounds);
+    command_text::refusals::print_refusal(Refusal::TooManyRounds);
+    command_text::refusals::print_refusal(Refusal::BadVersion);
+    command_text::refusals::print_refusal(Refusal::BadLength);
 }
 
 fn print_counts() {
-    command::refusals::print_refusal(Refusal::IncorrectLayerCount {
+    command_text::refusals::print_refusal(Refusal::IncorrectLayerCount {
         expected: 3,
         actual: 255,
     });
-    command::refusals::print_refusal(Refusal::IncorrectSumcheckPolyCount {
+    command_text::refusals::print_refusal(Refusal::IncorrectSumcheckPolyCount {
         expected: 2,
         actual: 0,
     });
-    command::refusals::print_refusal(Refusal::IncorrectSubroundCount {
+    command_text::refusals::print_refusal(Refusal::IncorrectSubroundCount {
         round: 9,
         expected: 9,
         actual: 8,
@@ -102,12 +102,12 @@ fn print_elements() {
     let above = element(1006632961, 0, 0, 0);
     let minus = element(2013265920, 0, 0, 0);
     let four = element(0, 1, 2013265919, 0);
-    command::refusals::print_refusal(Refusal::ZeroCheckFailed { actual: minus });
-    command::refusals::print_refusal(Refusal::RootConsistencyCheckFailed {
+    command_text::refusals::print_refusal(Refusal::ZeroCheckFailed { actual: minus });
+    command_text::refusals::print_refusal(Refusal::RootConsistencyCheckFailed {
         expected: half,
         actual: above,
     });
-    command::refusals::print_refusal(Refusal::LayerConsistencyCheckFailed {
+    command_text::refusals::print_refusal(Refusal::LayerConsistencyCheckFailed {
         round: 1,
         expected: four,
         actual: Ext::ZERO,

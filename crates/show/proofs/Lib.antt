@@ -1,3 +1,2 @@
 -- The laws of the text.
 pub mod Reading
-pub mod Counts

@@ -6,11 +6,11 @@ use Prim.Native.Nat.{ℕ, _*_, _≤_}
 use native.Mathlib.Omega.{arith}
 use lib.ListN.{length, drop, length-append}
 use Rattle.wire.specs.ByteLaws.{words-length}
-use Rattle.stored.specs.declared.SheetAnswer.{SheetAnswer}
-use Rattle.stored.specs.declared.SheetAnswer.the-variants.{Done, Refused}
-use Rattle.stored.specs.Sheet.{rowCount, rowWords}
-use Rattle.stored.specs.SheetReads.{SheetEnd, ended, readAnswer, sheetRead}
-use Rattle.stored.specs.SheetLaws.{IsRead, read-done}
+use Rattle.stored_sheet.specs.declared.SheetAnswer.{SheetAnswer}
+use Rattle.stored_sheet.specs.declared.SheetAnswer.the-variants.{Done, Refused}
+use Rattle.stored_sheet.specs.Sheet.{rowCount, rowWords}
+use Rattle.stored_sheet.specs.SheetReads.{SheetEnd, ended, readAnswer, sheetRead}
+use Rattle.stored_sheet.specs.SheetLaws.{IsRead, read-done}
 
 answered : (a : SheetAnswer) (ws old : List ℕ) → ended a ws old .answer ≡ a
 answered (Done n) ws old = refl

@@ -137,8 +137,3 @@ cubic-read bs at a b c p q r =
     let q′ = q ∙ ap elem (sym (drop-drop 16 at bs)) in
     let r′ = r ∙ ap elem (sym (drop-drop 32 at bs)) in
     λ i. record { at1 = p i; at2 = q′ i; at3 = r′ i }
-
--- there is no first byte
-pub absent : (bs : List ℕ) → length bs ≡ 0 → getD bs 0 0 ≡ 1 → ⊥
-absent [] h e = omega arith
-absent (b ∷ bs) h e = omega arith

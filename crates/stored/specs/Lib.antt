@@ -1,4 +1,4 @@
--- The stored forms of a sheet and of a proof.
+-- The stored form of a proof.
 pub mod Layout
 pub mod Parse
 pub mod Shapes
@@ -6,10 +6,6 @@ pub mod ParseLaws
 pub mod ReadWords
 pub mod RoundTrip
 pub mod Lengths
-pub mod Sheet
-pub mod SheetReads
-pub mod SheetLaws
 pub mod Elements
 pub mod ElementLaws
-pub mod Messages
 pub mod OneAnswer

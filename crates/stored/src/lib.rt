@@ -11,9 +11,6 @@ ghost use Rattle.stored.specs.Shapes.{shapeOf, claimsIn, cubicIn};
 use field::Ext;
 use refusal::Refusal;
 
-pub mod sheet; // sheets, read and written
-pub mod writer; // a proof, written from the log
-
 // The counts of the two lists, and the place of the first polynomial entry.
 pub struct Outline {
     pub layers: usize,
@@ -23,12 +20,6 @@ pub struct Outline {
 
 pub enum Shape {
     Good(Outline),
-    Refused(Refusal),
-}
-
-// What reading or writing a sheet ends with.
-pub enum SheetAnswer {
-    Done(usize),
     Refused(Refusal),
 }
 

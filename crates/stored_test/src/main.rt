@@ -5,8 +5,8 @@ use refusal::Refusal;
 use stored::LayerClaims;
 use stored::Outline;
 use stored::Shape;
-use stored::SheetAnswer;
 use stored::SubroundEvals;
+use stored_sheet::SheetAnswer;
 
 mod text; // numbers, read and printed
 mod proofs; // what is asked of a proof's bytes
@@ -32,7 +32,7 @@ fn show(answer: SheetAnswer) {
 // Into the first words of a buffer.
 fn read_into(bytes: &[u8], rows: &mut [u32], room: usize) {
     if room <= rows.len() {
-        show(stored::sheet::read_sheet(bytes, &mut rows[..room]));
+        show(stored_sheet::read_sheet(bytes, &mut rows[..room]));
     }
 }
 
@@ -44,7 +44,7 @@ fn read_sheet(bytes: &[u8], room: usize) {
 
 fn write_into(words: &[u32], out: &mut [u8], room: usize) {
     if room <= out.len() {
-        show(stored::sheet::write_sheet(words, &mut out[..room]));
+        show(stored_sheet::write_sheet(words, &mut out[..room]));
     }
 }
 
@@ -58,7 +58,7 @@ fn write_sheet(words: &[u32], room: usize) {
 fn sheet_prefix(bytes: &[u8], k: usize) {
     let mut rows = [7u32; 64];
     if k <= bytes.len() {
-        match stored::sheet::read_sheet(&bytes[..k], &mut rows) {
+        match stored_sheet::read_sheet(&bytes[..k], &mut rows) {
             SheetAnswer::Done(_) => text::number(0),
             SheetAnswer::Refused(r) => text::number(number_of(r) as u64),
         }

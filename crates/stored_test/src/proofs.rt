@@ -82,14 +82,14 @@ pub fn prefixes(proof: &[u8]) {
 
 fn no_rows(out: &mut [u8]) {
     if 23 <= out.len() {
-        text::number(stored::writer::put_no_rows(out) as u64);
+        text::number(stored_writer::put_no_rows(out) as u64);
     }
 }
 
 fn one_round(out: &mut [u8], log: &[u32], cell: usize) {
     if 87 <= out.len() {
         if 4 * (cell % 16) + 24 <= log.len() {
-            text::number(stored::writer::put_proof(out, log, cell % 16, 1) as u64);
+            text::number(stored_writer::put_proof(out, log, cell % 16, 1) as u64);
         }
     }
 }
@@ -97,7 +97,7 @@ fn one_round(out: &mut [u8], log: &[u32], cell: usize) {
 fn two_rounds(out: &mut [u8], log: &[u32], cell: usize) {
     if 200 <= out.len() {
         if 4 * (cell % 16) + 64 <= log.len() {
-            text::number(stored::writer::put_proof(out, log, cell % 16, 2) as u64);
+            text::number(stored_writer::put_proof(out, log, cell % 16, 2) as u64);
         }
     }
 }
@@ -105,7 +105,7 @@ fn two_rounds(out: &mut [u8], log: &[u32], cell: usize) {
 fn three_rounds(out: &mut [u8], log: &[u32], cell: usize) {
     if 361 <= out.len() {
         if 4 * (cell % 16) + 120 <= log.len() {
-            text::number(stored::writer::put_proof(out, log, cell % 16, 3) as u64);
+            text::number(stored_writer::put_proof(out, log, cell % 16, 3) as u64);
         }
     }
 }

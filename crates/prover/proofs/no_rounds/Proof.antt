@@ -6,7 +6,7 @@ use Rattle.prover.proofs.no_rounds.Tie as tie
 use Rattle.prover.proofs.no_rounds.Reads as reads
 use Rattle.prover.proofs.no_rounds.Lts as lts
 use Rattle.prover.proofs.one_row.Reads as one-row-reads
-use Rattle.stored.proofs.writer.put_no_rows.Reads as put-no-rows-reads
+use Rattle.stored_writer.proofs.put_no_rows.Reads as put-no-rows-reads
 
 put-no-rows-requires : tie.Need-put-no-rows-requires
 put-no-rows-requires c κs = search needs

@@ -1,5 +1,5 @@
 use Prim.Native.Nat.{_+_, _*_, _≤_, _-_, _^_}
-use mathlib.Core.Path.{_≡_, _∙_, ap}
+use mathlib.Core.Path.{_≡_, refl, _∙_, ap}
 use lib.ListN.{length}
 use Rattle.layer.proofs.Weights.{double-le, pow-next}
 use Rattle.rounds.specs.Layers.{Midway, logUpTo, usedUpTo}
@@ -21,7 +21,7 @@ abbrev μ-loop : tie.MeasureT-loop
 loop-holds : tie.Need-loop-holds Inv-loop μ-loop
 loop-holds c =
     let p = c .before .before .before .before .pre in
-    (search needs, search needs, search needs, search needs, midway-none _ _ _ _ _ _ (p .0 .0) (p .1 .1 .0) (p .1 .1 .1))
+    (search needs, search needs, search needs, refl, midway-none _ _ _ _ _ _ (p .0 .0) (p .1 .1 .0) (p .1 .1 .1))
 
 gkr-round-requires : tie.Need-gkr-round-requires Inv-loop μ-loop
 gkr-round-requires c κs =

@@ -7,7 +7,7 @@ use Rattle.run.proofs.begin.Lts as lts
 use Rattle.transcript.proofs.observe_ext.Reads as observe-ext-reads
 
 returns : tie.Need-returns
-returns c = begun-asserted _ _ _ (c .if1 .taken)
+returns c = begun-asserted _ (c .before .before .args .asserted) _ (c .if1 .taken)
 
 observe-ext-requires : tie.Need-observe-ext-requires
 observe-ext-requires c κs = (rw (c .before .if1 .left) at (c .before .before .before .pre .0), c .before .before .before .pre .1)

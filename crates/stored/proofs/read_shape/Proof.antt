@@ -1,7 +1,7 @@
 use mathlib.Core.Path.{_≡_, refl, sym, _∙_, ap}
 use Prim.Native.Nat.{ℕ, _+_, _*_, _-_, _≤_, _<_}
-use lib.ListN.{length, getD, drop}
-use Rattle.stored.proofs.ShapeLaws.{absent, no-version, too-short, wrong-length, claims-over, entries-over, all-fits}
+use lib.ListN.{length, getD, drop, List·getD-eq-default}
+use Rattle.stored.proofs.ShapeLaws.{no-version, too-short, wrong-length, claims-over, entries-over, all-fits}
 use borrow.Author.Tests.{not-true, not-false}
 use native.Mathlib.Omega.{arith}
 use borrow.Author.Needs.{needs}
@@ -14,7 +14,7 @@ use Rattle.wire.proofs.wide.Reads as wide-reads
 use Rattle.wire.proofs.word_at.Reads as word-at-reads
 
 returns : tie.Need-returns
-returns c = no-version (c .before .before .args .proof .now) (λ e. absent (c .before .before .args .proof .now) (omega arith) e)
+returns c = no-version (c .before .before .args .proof .now) (λ e. omega (arith, List·getD-eq-default (c .before .before .args .proof .now) 0 {n = 0} (omega arith), e))
 
 shared-slice-read-if2 : tie.Need-shared-slice-read-if2
 shared-slice-read-if2 c = search needs

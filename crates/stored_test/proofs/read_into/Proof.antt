@@ -7,7 +7,7 @@ use Rattle.stored_test.proofs.read_into.Statement.{statement}
 use Rattle.stored_test.proofs.read_into.Tie as tie
 use Rattle.stored_test.proofs.read_into.Reads as reads
 use Rattle.stored_test.proofs.read_into.Lts as lts
-use Rattle.stored.proofs.sheet.read_sheet.Reads as read-sheet-reads
+use Rattle.stored_sheet.proofs.read_sheet.Reads as read-sheet-reads
 use Rattle.stored_test.proofs.show.Reads as show-reads
 
 slice-relend-prefix-read-sheet : tie.Need-slice-relend-prefix-read-sheet

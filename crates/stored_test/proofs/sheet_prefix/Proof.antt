@@ -7,7 +7,7 @@ use Rattle.stored_test.proofs.sheet_prefix.Statement.{statement}
 use Rattle.stored_test.proofs.sheet_prefix.Tie as tie
 use Rattle.stored_test.proofs.sheet_prefix.Reads as reads
 use Rattle.stored_test.proofs.sheet_prefix.Lts as lts
-use Rattle.stored.proofs.sheet.read_sheet.Reads as read-sheet-reads
+use Rattle.stored_sheet.proofs.read_sheet.Reads as read-sheet-reads
 use Rattle.stored_test.proofs.number_of.Reads as number-of-reads
 use Rattle.stored_test.proofs.text.number.Reads as number-reads
 

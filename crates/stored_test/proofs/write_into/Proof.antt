@@ -7,7 +7,7 @@ use Rattle.stored_test.proofs.write_into.Statement.{statement}
 use Rattle.stored_test.proofs.write_into.Tie as tie
 use Rattle.stored_test.proofs.write_into.Reads as reads
 use Rattle.stored_test.proofs.write_into.Lts as lts
-use Rattle.stored.proofs.sheet.write_sheet.Reads as write-sheet-reads
+use Rattle.stored_sheet.proofs.write_sheet.Reads as write-sheet-reads
 use Rattle.stored_test.proofs.show.Reads as show-reads
 
 slice-relend-prefix-write-sheet : tie.Need-slice-relend-prefix-write-sheet

@@ -1,2 +1,0 @@
--- The laws of the commands.
-pub mod Parts

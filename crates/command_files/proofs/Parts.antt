@@ -1,0 +1,60 @@
+-- Parts of a buffer: what was read into it, of a list and of a sheet.
+-- Assumes nothing.
+use mathlib.Core.Path.{_≡_, refl, sym, _∙_, ap, subst}
+use mathlib.Core.List.{List, [], _++_}
+use Prim.Native.Nat.{ℕ, _*_, _≤_}
+use native.Mathlib.Omega.{arith}
+use lib.ListN.{length, take, drop, length-append}
+use lib.Seq.{length-take-le, take-at}
+use Rattle.field.specs.Cells.{Clean}
+use Rattle.io.specs.Counts.{Counts}
+use Rattle.wire.specs.WordLaws.{canonical-below}
+use Rattle.wire.specs.ByteLaws.{words-length}
+use Rattle.stored_sheet.specs.declared.SheetAnswer.{SheetAnswer}
+use Rattle.stored_sheet.specs.declared.SheetAnswer.the-variants.{Done, Refused}
+use Rattle.stored_sheet.specs.Sheet.{rowCount, rowWords}
+use Rattle.stored_sheet.specs.SheetReads.{SheetEnd, ended, readAnswer, sheetRead}
+use Rattle.stored_sheet.specs.SheetLaws.{read-done}
+use Rattle.sheet_text.specs.declared.ListAnswer.{ListAnswer}
+use Rattle.sheet_text.specs.declared.ListAnswer.the-variants as Ends
+use Rattle.sheet_text.specs.Reading.{Within}
+use Rattle.command_files.specs.Rows.{Rows}
+
+pub counts : (r : ℕ) (ws : List ℕ) → r ≤ length ws → Counts r ws
+counts r ws h = (h, sym (length-take-le r ws h))
+
+pub list-counts : (r : ListAnswer) (k : ℕ) (ws : List ℕ) → Within r ws → r ≡ Ends.Done k → Counts k ws
+list-counts r k ws h e = counts k ws (subst (λ (x : ListAnswer). Within x ws) e h)
+
+pub no-rows : (ws : List ℕ) → Rows 0 ws
+no-rows ws = record { counts = counts 0 ws (omega arith); most = omega arith; clean = record { below = λ k. omega arith } }
+
+answered : (a : SheetAnswer) (ws old : List ℕ) → ended a ws old .answer ≡ a
+answered (Done n) ws old = refl
+answered (Refused e) ws old = refl
+
+module _ (bs old new : List ℕ) (n : ℕ) {r : SheetAnswer} (e : _≡_ {A = SheetEnd} (record { answer = r; buffer = new }) (sheetRead bs old)) (d : r ≡ Done n) where
+  done : readAnswer bs (length old) ≡ Done n
+  done = sym (answered (readAnswer bs (length old)) (rowWords bs) old) ∙ sym (ap (λ o. o .answer) e) ∙ d
+
+  pub read-few : n ≤ 1024
+  read-few = let h = read-done bs (length old) n done in omega (arith, h .most, h .count)
+
+  held : new ≡ rowWords bs ++ drop (length (rowWords bs)) old
+  held = ap (λ o. o .buffer) e ∙ ap (λ x. ended x (rowWords bs) old .buffer) done
+
+  long : length (rowWords bs) ≡ 8 * n
+  long = let h = read-done bs (length old) n done in words-length (8 * rowCount bs) (drop 3 bs) ∙ ap (λ k. 8 * k) (h .count)
+
+  front : take (8 * n) new ≡ rowWords bs
+  front = ap (take (8 * n)) held ∙ take-at (rowWords bs) (drop (length (rowWords bs)) old) (8 * n) long
+
+  pub read-rows : Rows (8 * n) new
+  read-rows =
+      let h = read-done bs (length old) n done in
+      let l : 8 * n ≤ length new = let b = ap length held ∙ length-append (rowWords bs) (drop (length (rowWords bs)) old) in omega (arith, long, b) in
+      record {
+        counts = counts (8 * n) new l;
+        most = omega (arith, read-few);
+        clean = subst (λ (x : List ℕ). Clean x) (sym front) (record { below = canonical-below (rowWords bs) (h .canonical) });
+      }

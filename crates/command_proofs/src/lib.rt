@@ -1,0 +1,3 @@
+// Proofs made and checked: `prove` and `verify`.
+pub mod prove;
+pub mod verify;

@@ -1,0 +1,79 @@
+// `prove SHEET PROOF`: the proof goes to a file, and rows, rounds and sum are printed.
+use command_files::inputs;
+use command_text::print;
+use command_text::refusals::print_refusal;
+use prover::Answer;
+use step::Frac;
+
+// How a sheet is proved: live or sandbox, zero asserted or not.
+pub struct Mode {
+    pub live: bool,
+    pub asserted: bool,
+}
+
+// How many bytes a proof of so many rounds has.
+fn proof_length(rounds: usize) -> usize {
+    if rounds > refusal::MAX_ROUNDS {
+        return 0;
+    }
+    gate::proof_bytes(rounds)
+}
+
+// A sum over zero is told, since its numerator says nothing about the rows.
+fn print_swallowed(sum: Frac) {
+    if sum.q.is_zero() {
+        print(
+            b"note: the denominator of the sum is zero, so that the proof says nothing about the rows\n",
+        );
+    }
+}
+
+// The proof goes to its file, and then what it is of is printed.
+fn keep_proof(path: &[u8], proof: &[u8], count: usize, rounds: usize, sum: Frac) {
+    let n = command_files::front(proof_length(rounds), proof);
+    if command_files::replace(path, &proof[..n]) {
+        answers::print_number(b"rows ", count as u64);
+        answers::print_number(b"rounds ", rounds as u64);
+        answers::print_sum(sum);
+        print_swallowed(sum);
+    }
+}
+
+fn prove_with(rows: &[u32], challenges: &[u32], mode: Mode, path: &[u8]) {
+    let mut proof = [0u8; 2832];
+    let mut point = [0u32; 40];
+    let mut log = [0u32; 964];
+    let mut work = [0u32; 32768];
+    match prover::fractional_sumcheck(
+        rows,
+        mode.live,
+        mode.asserted,
+        challenges,
+        &mut proof,
+        &mut point,
+        &mut log,
+        &mut work,
+    ) {
+        Answer::Done { rounds, sum } => keep_proof(path, &proof, rows.len() / 8, rounds, sum),
+        Answer::Refused(refusal) => print_refusal(refusal),
+    }
+}
+
+fn prove_rows(rows: &[u32], challenges: &[u8], mode: Mode, path: &[u8]) {
+    let mut words = [0u32; 256];
+    let given = inputs::read_challenges(challenges, &mut words);
+    let n = given.count;
+    if given.good {
+        prove_with(rows, &words[..n], mode, path);
+    }
+}
+
+// The names of the sheet, of the proof, and of a text of challenges; an empty one stands for counted challenges.
+pub fn prove(sheet: &[u8], proof: &[u8], challenges: &[u8], mode: Mode) {
+    let mut rows = [0u32; 8192];
+    let given = inputs::read_sheet(sheet, &mut rows);
+    let n = given.count;
+    if given.good {
+        prove_rows(&rows[..n], challenges, mode, proof);
+    }
+}

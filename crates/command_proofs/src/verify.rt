@@ -1,0 +1,44 @@
+// `verify PROOF ROUNDS`: the verdict, the two claims and the point are printed.
+use command_files::After;
+use command_files::inputs;
+use command_text::print;
+use command_text::refusals::print_refusal;
+use round::Verdict;
+
+fn verify_with(proof: &[u8], rounds: usize, challenges: &[u32]) {
+    let mut point = [0u32; 40];
+    let mut log = [0u32; 960];
+    match verifier::verify_gkr(proof, rounds, challenges, &mut point, &mut log) {
+        Verdict::Accepted { numer, denom } => answers::print_accepted(numer, denom, &point, rounds),
+        Verdict::Refused(refusal) => print_refusal(refusal),
+    }
+}
+
+fn verify_bytes(proof: &[u8], rounds: usize, challenges: &[u8]) {
+    let mut words = [0u32; 256];
+    let given = inputs::read_challenges(challenges, &mut words);
+    let n = given.count;
+    if given.good {
+        verify_with(proof, rounds, &words[..n]);
+    }
+}
+
+// A file that is longer than any proof of ten rounds by far is not read to its end, and has no number.
+fn too_long(proof: &[u8]) {
+    print(b"refused: ");
+    print(proof);
+    print(b" has more than 65536 bytes, and a proof of 10 rounds has 2832\n");
+}
+
+// The names of the proof and of a text of challenges; an empty one stands for counted challenges.
+pub fn verify(proof: &[u8], rounds: usize, challenges: &[u8]) {
+    let mut bytes = [0u8; 65536];
+    let input = command_files::read(proof, &mut bytes);
+    let n = input.count;
+    let after = input.after;
+    match after {
+        After::Failed => {}
+        After::More => too_long(proof),
+        After::End => verify_bytes(&bytes[..n], rounds, challenges),
+    }
+}

@@ -1,0 +1,3 @@
+-- Claims compared with the sheet.
+pub mod Compared
+pub mod Comparing

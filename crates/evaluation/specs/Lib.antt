@@ -1,0 +1,3 @@
+-- The values of a sheet's columns at a point.
+pub mod Evaluated
+pub mod Report

@@ -1,0 +1,5 @@
+-- The stored form of a sheet.
+pub mod Sheet
+pub mod SheetReads
+pub mod SheetLaws
+pub mod OneAnswer

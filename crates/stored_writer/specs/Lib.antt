@@ -1,0 +1,3 @@
+-- The proof that the log of a run holds.
+pub mod Messages
+pub mod OneAnswer
