@@ -103,6 +103,13 @@ fn element_report(number: u32, first: usize, left: Ext, right: Ext) -> Report
     }
 }
 
+// The number 0 with what a call is done with: a count and up to two elements.
+pub fn done(first: usize, left: Ext, right: Ext) -> Report
+    ensures { λ r. ⌜ r ≡ elements 0 first left right ⌝ }
+{
+    element_report(0, first, left, right)
+}
+
 // A refusal as document 01's table has it: its number, and its fields, zero where there are none.
 pub fn number_and_fields(refusal: Refusal) -> Report
     ensures { λ r. ⌜ r ≡ reportOf refusal ⌝ }
