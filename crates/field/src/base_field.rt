@@ -12,23 +12,6 @@ use crate::words::rest_word;
 use crate::words::sub_word;
 
 impl Base {
-    // The prime, in both widths that words are reduced in.
-    pub const ORDER_U32: u32 = 2013265921;
-
-    pub const ORDER_U64: u64 = 2013265921;
-
-    pub const ZERO: Base = Base { value: 0 };
-
-    pub const ONE: Base = Base { value: 1 };
-
-    pub const TWO: Base = Base { value: 2 };
-
-    // The inverse of 2.
-    pub const HALF: Base = Base { value: 1006632961 };
-
-    // The inverse of 6.
-    pub const SIXTH: Base = Base { value: 1677721601 };
-
     // The element that a word stands for, by its canonical word.
     pub fn new(word: u32) -> Base
         ensures { λ r. ⌜ r ≡ enc (of word) ⌝ }

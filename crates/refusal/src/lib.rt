@@ -11,13 +11,14 @@ pub const MAX_ROUNDS: usize = 10;
 
 pub const MAX_ROWS: usize = 1024;
 
-// The constants are the limits of the definitions, of which the second is 2 to the power of the first.
+// The limit of the definitions that MAX_ROUNDS is.
 pub fn most_rounds() -> usize
     ensures { λ r. ⌜ r ≡ maxRounds ⌝ }
 {
     MAX_ROUNDS
 }
 
+// The one that MAX_ROWS is: 2 to the power of the other.
 pub fn most_rows() -> usize
     ensures { λ r. ⌜ (r ≡ maxRows) × (r ≡ 2 ^ maxRounds) ⌝ }
 {

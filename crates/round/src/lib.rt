@@ -1,5 +1,6 @@
 // One round of the verifier, step by step, over messages that are read already: what is observed and sampled, how claims go on, what is checked.
 // All of these take canonical words.
+ghost use mathlib.Core.Path.{_≡_};
 ghost use mathlib.Core.List.{[]};
 ghost use Prim.Native.Nat.{_+_, _*_, _<_, _≤_};
 ghost use lib.ListN.{length};
