@@ -3,14 +3,15 @@
 use mathlib.Core.List.{List}
 use Prim.Native.Nat.{ℕ}
 use Rattle.stored_sheet.specs.SheetReads.{sheetRead}
+use Rattle.stored_sheet.specs.Report.{sheetReport}
 use Rattle.gate.specs.Refusals.{Call}
 use Rattle.evaluation.specs.Evaluated.{evaluated}
 use Rattle.evaluation.specs.Report.{evaluationReport}
 use Rattle.prover.specs.Proved.{Buffers, proved}
 use Rattle.prover.specs.Report.{answerReport}
+use Rattle.round.specs.Report.{verdictReport}
 use Rattle.verifier.specs.Verified.{verified}
 use Rattle.accudrina.specs.Answer.{Told, tells}
-use Rattle.accudrina.specs.Reports.{sheetReport, verdictReport}
 
 pub record Returned (B : Type 0) : Type 0 where
   pub told : Told

@@ -1,5 +1,4 @@
 -- What the exported functions return and write.
 pub mod Answer
-pub mod Reports
 pub mod Calls
 pub mod Rooms

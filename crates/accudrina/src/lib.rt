@@ -3,7 +3,6 @@ ghost use mathlib.Core.Path.{_≡_};
 ghost use Rattle.accudrina.specs.Calls.{reading, proving, verifying, evaluating};
 
 mod answer; // the sixteen words
-mod report; // what they say of each call's answer
 mod rooms; // how much room a run asks for
 
 // Stored bytes to row words: the number 0 and the row count, or the refusal; refused, the rows are as before.
@@ -16,7 +15,7 @@ pub extern "C" fn accudrina_read_sheet(
     ensures { λ r. ⌜ record { told = record { number = r; words = now (answer .exit) }; buffers = now (rows .exit) } ≡ reading (now (sheet .entry)) (now (rows .entry)) ⌝ }
 {
     let read = stored_sheet::read_sheet(sheet, rows);
-    answer::tell(report::of_sheet(read), answer)
+    answer::tell(stored_sheet::number_and_values(read), answer)
 }
 
 // A sheet's proof, point and log: the number 0, the rounds and the sum, or the refusal with its fields.
@@ -60,7 +59,7 @@ pub extern "C" fn accudrina_verify(
     ensures { λ r. ⌜ record { told = record { number = r; words = now (answer .exit) }; buffers = record { point = now (point .exit); log = now (log .exit) } } ≡ verifying (now (proof .entry)) rounds (now (challenges .entry)) (record { point = now (point .entry); log = now (log .entry) }) ⌝ }
 {
     let verdict = verifier::verify_gkr(proof, rounds, challenges, point, log);
-    answer::tell(report::of_verdict(verdict), answer)
+    answer::tell(round::number_and_values(verdict), answer)
 }
 
 // The values of both columns of a sheet at a point: the number 0, the rounds and both values, or the refusal; it only reads.

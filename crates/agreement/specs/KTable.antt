@@ -4,7 +4,7 @@ use mathlib.Core.Path.{_≡_}
 use mathlib.Core.Bool.{Bool, true, false}
 use mathlib.Core.List.{List, [], _∷_, _++_}
 use Prim.Native.Nat.{ℕ}
-use lib.ListN.{take, replicate}
+use lib.ListN.{take, drop, replicate}
 use Rattle.field.specs.Ext as E
 use Rattle.field.specs.Ext.{ext}
 use Rattle.field.specs.Extension.{Extension}
@@ -14,6 +14,7 @@ use Rattle.gkr.specs.Run.{Frac, Proof}
 use Rattle.gkr.specs.Compute.{el, minus, frac, claims, cubic}
 use Rattle.gkr.specs.Sizes.{proof-bytes, point-words, log-words, workspace-words}
 use Rattle.refusal.specs.declared.Refusal.the-variants.{ZeroDenominator, NonZeroRootSum, SingleRow, ZeroCheckFailed, RootConsistencyCheckFailed}
+use Rattle.wire.specs.Bytes.{bytesOf}
 use Rattle.stored.specs.Layout.{layout}
 use Rattle.stored.specs.Elements.{encoded}
 use Rattle.gate.specs.Refusals.{Call}
@@ -83,6 +84,20 @@ ends-at c n z = record { Answers = List ℕ; asked = point c n; expected = Prove
 abbrev pub equals : (x y : E.Ext) → Case
 equals x y = record { Answers = E.Ext; asked = x; expected = y }
 
+-- K1: no rows, over buffers of sevens with a word more than is needed; the version, 18 bytes to follow, q0 = 1, no layer and no entry
+abbrev pub K1·before : Prover.Buffers
+K1·before = record { proof = replicate 24 7; point = 7 ∷ []; log = 7 ∷ []; work = 7 ∷ [] }
+
+abbrev pub K1·bytes : List ℕ
+K1·bytes = 1 ∷ 0 ∷ 0 ∷ 0 ∷ 18 ∷ 0 ∷ 0 ∷ 0 ∷ 1 ∷ replicate 14 0
+
+abbrev pub K1 : (live asserted : Bool) → Case
+K1 live asserted = record {
+  Answers = Prover.Outcome;
+  asked = Prover.proved (sheet live asserted [] []) K1·before;
+  expected = record { answer = summed 0 (el 0) (el 1); buffers = record { proof = K1·bytes ++ (7 ∷ []); point = 7 ∷ []; log = 7 ∷ []; work = 7 ∷ [] } };
+}
+
 abbrev pub K2 : Call
 K2 = sheet false true (frac (el 1) (el 2) ∷ frac (minus 1) (el 2) ∷ []) (el 5 ∷ [])
 
@@ -108,9 +123,9 @@ one-row asserted p = sheet false asserted (frac p (el 1) ∷ []) []
 abbrev pub live : (p : E.Ext) → Call
 live p = sheet true true (frac p (el 0) ∷ frac (el 0) (el 1) ∷ []) (el 5 ∷ [])
 
--- K2's proof with q0 = 5
+-- K2's proof with q0 = 5: the prover's own bytes, with the sixteen after version and length replaced
 abbrev pub K10 : List ℕ
-K10 = layout (encoded (record { q0 = el 5; claims = claims (el 1) (el 2) (minus 1) (el 2) ∷ []; polys = [] }))
+K10 = take 5 (bytes K2 1) ++ (bytesOf (words (el 5)) ++ drop 21 (bytes K2 1))
 
 -- x² and x³
 abbrev pub x² : E.Ext
@@ -121,7 +136,10 @@ x³ = ext 0 0 0 1
 
 abbrev pub K1-K10 : List Case
 K1-K10 =
-    proves (sheet false true [] []) 0 (summed 0 (el 0) (el 1))
+    K1 false true
+    ∷ K1 false false
+    ∷ K1 true true
+    ∷ K1 true false
     ∷ proves K2 1 (summed 1 (el 0) (el 4))
     ∷ verifies K2 1 (accepts (minus 9) (el 2))
     ∷ ends-at K2 1 (el 5 ∷ [])

@@ -2,5 +2,6 @@
 pub mod Demand3
 pub mod Companions
 pub mod Together
+pub mod Report
 pub mod TogetherLaws
 pub mod KTable

@@ -4,9 +4,12 @@ ghost use mathlib.Core.Bool.{true};
 ghost use Prim.Native.Nat.{ℕ};
 ghost use Rattle.field.specs.Ext as E;
 ghost use Rattle.agreement.specs.Demand3.{Taken, root, Room};
+ghost use Rattle.agreement.specs.Report.{jointReport};
 ghost use Rattle.agreement.specs.Together.{joined, together, Agrees};
+use field::Ext;
 use prover::Answer;
 use refusal::Refusal;
+use refusal::Report;
 use round::Verdict;
 use step::Frac;
 
@@ -18,6 +21,32 @@ pub enum Joint {
         verdict: Verdict,
     },
     Refused(Refusal),
+}
+
+// The prover's number and values, and the verifier's, all zero where the prover refuses.
+pub struct JointReport {
+    pub proving: Report,
+    pub verifying: Report,
+}
+
+// Both answers as document 01 has them.
+pub fn number_and_values(joint: Joint) -> JointReport
+    ensures { λ r. ⌜ r ≡ jointReport joint ⌝ }
+{
+    match joint {
+        Joint::Proved {
+            rounds,
+            sum,
+            verdict,
+        } => JointReport {
+            proving: prover::number_and_values(Answer::Done { rounds, sum }),
+            verifying: round::number_and_values(verdict),
+        },
+        Joint::Refused(refusal) => JointReport {
+            proving: prover::number_and_values(Answer::Refused(refusal)),
+            verifying: refusal::done(0, Ext::ZERO, Ext::ZERO),
+        },
+    }
 }
 
 // Proves a sheet, and hands the proof's bytes, n and the same challenges to the verifier, which has a point and a log of its own.

@@ -1,6 +1,5 @@
 // Calls at the limits of document 01, and the number that each answers: rows, rounds, words.
 use prover::Answer;
-use round::Verdict;
 
 fn print_answer(name: &[u8], number: u32) {
     io::write_all(1, name);
@@ -29,10 +28,8 @@ fn prove(name: &[u8], rows: &[u32], challenges: &[u32], proof: &mut [u8]) {
 fn verify(name: &[u8], proof: &[u8], rounds: usize, challenges: &[u32]) {
     let mut point = [0u32; 44];
     let mut log = [0u32; 1144];
-    match verifier::verify_gkr(proof, rounds, challenges, &mut point, &mut log) {
-        Verdict::Accepted { numer: _, denom: _ } => print_answer(name, 0),
-        Verdict::Refused(refusal) => print_answer(name, refusal::number_and_fields(refusal).number),
-    }
+    let verdict = verifier::verify_gkr(proof, rounds, challenges, &mut point, &mut log);
+    print_answer(name, round::number_and_values(verdict).number);
 }
 
 fn main() {

@@ -1,6 +1,5 @@
 // Answers on standard output: numbers with single spaces between them, a line each.
 use field::Ext;
-use refusal::Refusal;
 use refusal::Report;
 
 // The first number of a line.
@@ -35,29 +34,6 @@ pub fn report(r: Report) {
     next(r.third as u64);
     ext(r.left);
     ext(r.right);
-}
-
-// An answer that is done: the number 0 and its fields.
-pub fn done(first: usize, left: Ext, right: Ext) {
-    report(Report {
-        number: 0,
-        first,
-        second: 0,
-        third: 0,
-        left,
-        right,
-    });
-}
-
-// A refusal: its number and its fields.
-pub fn refused(refusal: Refusal) {
-    report(refusal::number_and_fields(refusal));
-}
-
-// The number of a refusal alone.
-pub fn refused_by(refusal: Refusal) {
-    let r = refusal::number_and_fields(refusal);
-    first(r.number as u64);
 }
 
 // A list: its length, then its numbers.

@@ -1,4 +1,5 @@
 // Elements and fractions in short form, as the text reader takes them.
+use field::Base;
 use field::Ext;
 use step::Frac;
 
@@ -17,9 +18,9 @@ pub fn print_count(n: usize) {
 // A word above half the prime is told as minus the number that is missing to the prime.
 fn print_word(w: u32) {
     if w > 1006632960 {
-        if w < 2013265921 {
+        if w < Base::ORDER_U32 {
             print(b"-");
-            io::print_decimal(1, (2013265921 - w) as u64);
+            io::print_decimal(1, (Base::ORDER_U32 - w) as u64);
             return;
         }
     }

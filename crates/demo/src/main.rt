@@ -6,6 +6,8 @@ fn more() -> bool {
 
 fn main() {
     let mut sheet = [0u8; 2051];
+    let mut rows = [0u32; 512];
+    let mut work = [0u32; 2048];
     let n = io::read_full(0, &mut sheet);
-    show::show_input(&sheet[..n], more());
+    show::show_input(&sheet[..n], more(), &mut rows, &mut work);
 }

@@ -15,7 +15,7 @@ use Rattle.prover.specs.Report.{answerReport}
 use Rattle.agreement.specs.Demand3.{root}
 use Rattle.agreement.proofs.Agreeing.{demand-3}
 use Rattle.accudrina.specs.Answer.{tells, answerWords}
-use Rattle.accudrina.specs.Reports.{verdictReport}
+use Rattle.round.specs.Report.{verdictReport}
 use Rattle.exported.specs.Exported.{done, Demand3Exported}
 
 -- a plain field that fits a word, and two elements

@@ -18,7 +18,7 @@ use Rattle.gate.specs.Refusals.{logRoom}
 use Rattle.round.specs.Verdicts.{Model, answerOf}
 use Rattle.verifier.specs.Verified as Verifier
 use Rattle.accudrina.specs.Calls.{Spaces}
-use Rattle.accudrina.specs.Reports.{verdictReport}
+use Rattle.round.specs.Report.{verdictReport}
 use Rattle.exported.specs.Asked.{ForVerifier, NotShort, VerifierNotShort}
 use Rattle.exported.proofs.Lending.{never, fits, lent, log-room, other}
 

@@ -38,6 +38,9 @@ nil = of 0
 unfoldable pub one : F
 one = of 1
 
+unfoldable pub two : F
+two = add one one
+
 -- the inverses of 2 and of 6
 unfoldable pub half : F
 half = of 1006632961

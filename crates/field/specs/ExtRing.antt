@@ -96,20 +96,12 @@ mul-emb a b =
 
 -- ---- by computation: `unfolding arithmetic` opens all that closed elements compute by
 unfoldable pub arithmetic : Unit {0}
-unfolding ext emb add neg mul nil one two x half sixth eleven B.add B.mul B.neg B.nil B.one B.half B.sixth of
+unfolding ext emb add neg mul nil one two x half sixth eleven B.add B.mul B.neg B.nil B.one B.two B.half B.sixth of
 arithmetic = tt
 
 pub x-fourth : mul (mul (mul x x) x) x ≡ ext 11 0 0 0
 unfolding arithmetic
 x-fourth = refl
-
-pub K8a : mul (ext 0 0 1 0) (ext 0 0 1 0) ≡ ext 11 0 0 0
-unfolding arithmetic
-K8a = refl
-
-pub K8b : mul (ext 0 0 0 1) (ext 0 0 0 1) ≡ mul (ext 11 0 0 0) (ext 0 0 1 0)
-unfolding arithmetic
-K8b = refl
 
 -- ---- the embedding keeps the operations
 pub emb-add : (a b : F) → emb (B.add a b) ≡ add (emb a) (emb b)

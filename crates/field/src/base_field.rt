@@ -12,18 +12,6 @@ use crate::words::rest_word;
 use crate::words::sub_word;
 
 impl Base {
-    pub const ZERO: Base = Base { value: 0 };
-
-    pub const ONE: Base = Base { value: 1 };
-
-    pub const TWO: Base = Base { value: 2 };
-
-    // The inverse of 2.
-    pub const HALF: Base = Base { value: 1006632961 };
-
-    // The inverse of 6.
-    pub const SIXTH: Base = Base { value: 1677721601 };
-
     // The element that a word stands for, by its canonical word.
     pub fn new(word: u32) -> Base
         ensures { λ r. ⌜ r ≡ enc (of word) ⌝ }
@@ -91,7 +79,7 @@ impl Base {
         ensures { λ r. ⌜ r ≡ enc (B.mul (dec self) B.half) ⌝ }
     {
         Base {
-            value: mul_word(self.value, 1006632961),
+            value: mul_word(self.value, Base::HALF.value),
         }
     }
 
@@ -122,6 +110,6 @@ impl Base {
     pub fn is_canonical(self) -> bool
         ensures { λ r. ⌜ r ≡ ltb (self .value) P ⌝ }
     {
-        self.value < 2013265921
+        self.value < Base::ORDER_U32
     }
 }

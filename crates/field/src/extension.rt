@@ -8,27 +8,6 @@ use crate::Base;
 use crate::Ext;
 
 impl Ext {
-    pub const ZERO: Ext = Ext {
-        c0: 0,
-        c1: 0,
-        c2: 0,
-        c3: 0,
-    };
-
-    pub const ONE: Ext = Ext {
-        c0: 1,
-        c1: 0,
-        c2: 0,
-        c3: 0,
-    };
-
-    pub const TWO: Ext = Ext {
-        c0: 2,
-        c1: 0,
-        c2: 0,
-        c3: 0,
-    };
-
     // c0 + c1·x + c2·x² + c3·x³, by canonical words.
     pub fn new(c0: u32, c1: u32, c2: u32, c3: u32) -> Ext
         ensures { λ r. ⌜ r ≡ enc (E.ext c0 c1 c2 c3) ⌝ }
@@ -104,7 +83,7 @@ impl Ext {
     pub fn halve(self) -> Ext
         ensures { λ r. ⌜ r ≡ enc (E.mul (dec self) E.half) ⌝ }
     {
-        self.times_word(1006632961)
+        self.times_word(Base::HALF.value)
     }
 
     // The product with itself.

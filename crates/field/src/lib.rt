@@ -8,6 +8,7 @@ ghost use Rattle.field.specs.Cells.{cell, Clean, Stored};
 mod words; // sums, differences and products of words
 pub mod sums; // two products of elements, added before they are reduced
 mod base_field; // Base: the public operations
+mod constants; // the constants, and which element each is
 mod inner; // Ext: the operations on canonical words
 mod extension; // Ext: the public operations
 mod tests; // Ext: equality, zero, canonical

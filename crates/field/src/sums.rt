@@ -5,6 +5,7 @@ ghost use Rattle.field.specs.Base as B;
 ghost use Rattle.field.specs.Base.{P, of};
 ghost use Rattle.field.specs.Ext as E;
 ghost use Rattle.field.specs.Element.{dec, Canon, Is};
+use crate::Base;
 use crate::Ext;
 use crate::words::prod;
 
@@ -45,7 +46,7 @@ fn eleven_sum(s: u64) -> u64
 fn rest_sum(s: u64) -> u32
     ensures { λ r. ⌜ (r < P) × (of r ≡ of s) ⌝ }
 {
-    (s % 2013265921) as u32
+    (s % Base::ORDER_U64) as u32
 }
 
 fn sum_c0(a: Ext, b: Ext, c: Ext, d: Ext) -> u32

@@ -2,6 +2,7 @@
 ghost use mathlib.Core.Path.{_≡_};
 ghost use Rattle.field.specs.Ext as E;
 ghost use Rattle.field.specs.Element.{dec, sameWords, canonWords};
+use crate::Base;
 use crate::Ext;
 
 impl Ext {
@@ -23,7 +24,7 @@ impl Ext {
     pub fn is_canonical(self) -> bool
         ensures { λ r. ⌜ r ≡ canonWords self ⌝ }
     {
-        let p = 2013265921;
+        let p = Base::ORDER_U32;
         if p <= self.c0 {
             return false;
         }

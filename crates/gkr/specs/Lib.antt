@@ -14,6 +14,6 @@ pub mod VerifierCount
 pub mod Keeps
 pub mod TranscriptLaws
 pub mod Compute
-pub mod Cases
+pub mod Pins
 pub mod Order
 pub mod Recorded

@@ -69,6 +69,34 @@ module _ (K : CommRing) where
       → let f = poly a b c nil in quadratic half (f nil) (f one) (f (num K 2)) x ≡ f x
   quadratic-exact half a b c x h = ring-by K (half ∷ a ∷ b ∷ c ∷ x ∷ []) (c * (x * x - x) ▷ h ∷ []) (search quote depth 40 fits 9999) tt
 
+  -- what each interpolation is at its own places: the values that it was given
+  pub quadratic-at-0 : (half e0 e1 e2 : R) → quadratic half e0 e1 e2 nil ≡ e0
+  quadratic-at-0 half e0 e1 e2 = ring K (half ∷ e0 ∷ e1 ∷ e2 ∷ []) (search quote depth 40 fits 9999) tt
+
+  pub quadratic-at-1 : (half e0 e1 e2 : R) → quadratic half e0 e1 e2 one ≡ e1
+  quadratic-at-1 half e0 e1 e2 = ring K (half ∷ e0 ∷ e1 ∷ e2 ∷ []) (search quote depth 40 fits 9999) tt
+
+  pub quadratic-at-2 : (half e0 e1 e2 : R) → num K 2 * half ≡ one → quadratic half e0 e1 e2 (num K 2) ≡ e2
+  quadratic-at-2 half e0 e1 e2 h = ring-by K (half ∷ e0 ∷ e1 ∷ e2 ∷ []) ((e2 - e1 - (e1 - e0)) ▷ h ∷ []) (search quote depth 40 fits 9999) tt
+
+  pub cubic-at-0 : (half sixth e0 e1 e2 e3 : R) → cubic half sixth e0 e1 e2 e3 nil ≡ e0
+  cubic-at-0 half sixth e0 e1 e2 e3 = ring K (half ∷ sixth ∷ e0 ∷ e1 ∷ e2 ∷ e3 ∷ []) (search quote depth 40 fits 9999) tt
+
+  pub cubic-at-1 : (half sixth e0 e1 e2 e3 : R) → cubic half sixth e0 e1 e2 e3 one ≡ e1
+  cubic-at-1 half sixth e0 e1 e2 e3 = ring K (half ∷ sixth ∷ e0 ∷ e1 ∷ e2 ∷ e3 ∷ []) (search quote depth 40 fits 9999) tt
+
+  pub cubic-at-2 : (half sixth e0 e1 e2 e3 : R) → num K 2 * half ≡ one → num K 6 * sixth ≡ one → cubic half sixth e0 e1 e2 e3 (num K 2) ≡ e2
+  cubic-at-2 half sixth e0 e1 e2 e3 h s =
+      let s2 = e2 - e0 in
+      let d3 = e3 - e0 - (s2 - (e1 - e0)) * num K 3 in
+      ring-by K (half ∷ sixth ∷ e0 ∷ e1 ∷ e2 ∷ e3 ∷ []) ((s2 - d3) ▷ h ∷ d3 ▷ s ∷ []) (search quote depth 40 fits 9999) tt
+
+  pub cubic-at-3 : (half sixth e0 e1 e2 e3 : R) → num K 2 * half ≡ one → num K 6 * sixth ≡ one → cubic half sixth e0 e1 e2 e3 (num K 3) ≡ e3
+  cubic-at-3 half sixth e0 e1 e2 e3 h s =
+      let s2 = e2 - e0 in
+      let d3 = e3 - e0 - (s2 - (e1 - e0)) * num K 3 in
+      ring-by K (half ∷ sixth ∷ e0 ∷ e1 ∷ e2 ∷ e3 ∷ []) (num K 3 * (s2 - d3) ▷ h ∷ num K 4 * d3 ▷ s ∷ []) (search quote depth 40 fits 9999) tt
+
   -- the course's forward differences give the same, at every input
   pub cubic-forward : (half sixth e0 e1 e2 e3 x : R) → num K 2 * half ≡ one → num K 6 * sixth ≡ one
       → let d1 = e1 - e0 in

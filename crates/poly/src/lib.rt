@@ -2,6 +2,7 @@
 // Every function answers for all words and lengths; a refused call writes nothing.
 use field::Ext;
 use refusal::Refusal;
+use refusal::Report;
 use step::Three;
 
 mod checks; // the refusals, in document 01's order
@@ -11,6 +12,7 @@ pub mod eq; // eq of two points, and its table
 pub mod horner; // a polynomial by its coefficients
 pub mod fold; // the fold of a column
 pub mod round; // a sub-round's polynomial
+pub mod report; // the number and the values of each answer
 
 // A call that answers no element.
 pub enum Outcome {
@@ -28,4 +30,10 @@ pub enum Evaluated {
 pub enum RoundEvals {
     Values(Three),
     Refused(Refusal),
+}
+
+// The number of such an answer, and its three values, zero where it is refused.
+pub struct RoundReport {
+    pub report: Report,
+    pub values: Three,
 }

@@ -1,5 +1,7 @@
 // The refusals of every call, by document 01's names, and the number and fields of each; and the limits on sizes.
 ghost use mathlib.Core.Path.{_≡_};
+ghost use Prim.Native.Nat.{_^_};
+ghost use Rattle.refusal.specs.Limits.{maxRounds, maxRows};
 ghost use Rattle.refusal.specs.Numbers.{plain, elements, reportOf};
 ghost use Rattle.refusal.specs.Powers.{powerOfTwo};
 use field::Ext;
@@ -8,6 +10,20 @@ use field::Ext;
 pub const MAX_ROUNDS: usize = 10;
 
 pub const MAX_ROWS: usize = 1024;
+
+// The limit of the definitions that MAX_ROUNDS is.
+pub fn most_rounds() -> usize
+    ensures { λ r. ⌜ r ≡ maxRounds ⌝ }
+{
+    MAX_ROUNDS
+}
+
+// The one that MAX_ROWS is: 2 to the power of the other.
+pub fn most_rows() -> usize
+    ensures { λ r. ⌜ (r ≡ maxRows) × (r ≡ 2 ^ maxRounds) ⌝ }
+{
+    MAX_ROWS
+}
 
 pub enum Refusal {
     RaggedRows,
@@ -86,6 +102,13 @@ fn element_report(number: u32, first: usize, left: Ext, right: Ext) -> Report
         left,
         right,
     }
+}
+
+// The number 0 with what a call is done with: a count and up to two elements.
+pub fn done(first: usize, left: Ext, right: Ext) -> Report
+    ensures { λ r. ⌜ r ≡ elements 0 first left right ⌝ }
+{
+    element_report(0, first, left, right)
 }
 
 // A refusal as document 01's table has it: its number, and its fields, zero where there are none.

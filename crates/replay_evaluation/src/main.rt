@@ -2,21 +2,10 @@
 use cases::print;
 use cases::read::next_number;
 use cases::read::next_words;
-use evaluation::Evaluation;
-
-fn print_answer(answer: Evaluation) {
-    match answer {
-        Evaluation::Done {
-            rounds,
-            numer,
-            denom,
-        } => print::done(rounds, numer, denom),
-        Evaluation::Refused(refusal) => print::refused(refusal),
-    }
-}
 
 fn call(rows: &[u32], point: &[u32]) {
-    print_answer(evaluation::evaluate(rows, point));
+    let answer = evaluation::evaluate(rows, point);
+    print::report(evaluation::number_and_values(answer));
     print::end();
 }
 

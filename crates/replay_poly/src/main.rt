@@ -8,28 +8,21 @@ use poly::Outcome;
 use poly::interpolate::interpolate_cubic_at_0123;
 use poly::interpolate::interpolate_linear_at_01;
 use poly::interpolate::interpolate_quadratic_at_012;
+use poly::report::evaluated_number_and_values;
+use poly::report::outcome_number_and_values;
 
 mod lists; // the codes over one list, and over two
 mod round; // the code over five
 
 fn print_outcome(outcome: Outcome) {
-    match outcome {
-        Outcome::Done => print::first(0),
-        Outcome::Refused(refusal) => print::refused_by(refusal),
-    }
+    let r = outcome_number_and_values(outcome);
+    print::first(r.number as u64);
 }
 
 fn print_evaluated(evaluated: Evaluated) {
-    match evaluated {
-        Evaluated::Value(e) => {
-            print::first(0);
-            print::ext(e);
-        }
-        Evaluated::Refused(refusal) => {
-            print::refused_by(refusal);
-            print::ext(Ext::ZERO);
-        }
-    }
+    let r = evaluated_number_and_values(evaluated);
+    print::first(r.number as u64);
+    print::ext(r.left);
 }
 
 fn print_element(e: Ext) {

@@ -2,25 +2,17 @@
 use cases::print;
 use cases::read::next_ext;
 use cases::read::next_words;
-use field::Ext;
 use poly::RoundEvals;
+use poly::report::round_number_and_values;
 use poly::round::sumcheck_round_poly_evals;
 
 fn print_round(evals: RoundEvals) {
-    match evals {
-        RoundEvals::Values(s) => {
-            print::first(0);
-            print::ext(s.s1);
-            print::ext(s.s2);
-            print::ext(s.s3);
-        }
-        RoundEvals::Refused(refusal) => {
-            print::refused_by(refusal);
-            print::ext(Ext::ZERO);
-            print::ext(Ext::ZERO);
-            print::ext(Ext::ZERO);
-        }
-    }
+    let r = round_number_and_values(evals);
+    let s = r.values;
+    print::first(r.report.number as u64);
+    print::ext(s.s1);
+    print::ext(s.s2);
+    print::ext(s.s3);
     print::end();
 }
 

@@ -4,18 +4,10 @@ use cases::read::fill_words;
 use cases::read::next_bytes;
 use cases::read::next_number;
 use cases::read::next_word;
-use field::Ext;
-use stored_sheet::SheetAnswer;
-
-fn print_answer(answer: SheetAnswer) {
-    match answer {
-        SheetAnswer::Done(count) => print::done(count, Ext::ZERO, Ext::ZERO),
-        SheetAnswer::Refused(refusal) => print::refused(refusal),
-    }
-}
 
 fn call(sheet: &[u8], rows: &mut [u32]) {
-    print_answer(stored_sheet::read_sheet(sheet, rows));
+    let answer = stored_sheet::read_sheet(sheet, rows);
+    print::report(stored_sheet::number_and_values(answer));
     print::words(rows);
     print::end();
 }

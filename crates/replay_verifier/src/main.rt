@@ -5,7 +5,6 @@ use cases::read::next_bytes;
 use cases::read::next_number;
 use cases::read::next_word;
 use cases::read::next_words;
-use round::Verdict;
 
 // The lengths of the two buffers, and what they hold before the call.
 struct Rooms {
@@ -27,15 +26,9 @@ fn next_rooms(text: &[u8], at: usize) -> Rooms {
     }
 }
 
-fn print_verdict(verdict: Verdict) {
-    match verdict {
-        Verdict::Accepted { numer, denom } => print::done(0, numer, denom),
-        Verdict::Refused(refusal) => print::refused(refusal),
-    }
-}
-
 fn call(proof: &[u8], rounds: usize, challenges: &[u32], point: &mut [u32], log: &mut [u32]) {
-    print_verdict(verifier::verify_gkr(proof, rounds, challenges, point, log));
+    let verdict = verifier::verify_gkr(proof, rounds, challenges, point, log);
+    print::report(round::number_and_values(verdict));
     print::words(point);
     print::words(log);
     print::end();

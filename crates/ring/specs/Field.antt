@@ -1,4 +1,4 @@
--- What a run needs of its field: a commutative ring in which 2 and 6 have inverses and equality is tested.
+-- What a run needs of its field, and no more: a commutative ring in which 2 and 6 have inverses and equality is tested. Other inverses are not asked.
 -- Assumes nothing.
 use mathlib.Core.Path.{_≡_}
 use mathlib.Core.Bool.{Bool, true}

@@ -2,6 +2,7 @@
 pub mod Values
 pub mod Points
 pub mod Verdicts
+pub mod Report
 pub mod Rounds
 pub mod RoundLaws
 pub mod AdvanceLaws

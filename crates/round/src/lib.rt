@@ -1,5 +1,6 @@
 // One round of the verifier, step by step, over messages that are read already: what is observed and sampled, how claims go on, what is checked.
 // All of these take canonical words.
+ghost use mathlib.Core.Path.{_≡_};
 ghost use mathlib.Core.List.{[]};
 ghost use Prim.Native.Nat.{_+_, _*_, _<_, _≤_};
 ghost use lib.ListN.{length};
@@ -17,9 +18,11 @@ ghost use Rattle.transcript.specs.Log.{Supplied, logOf, Steps};
 ghost use Rattle.stored.specs.Shapes.{claimsIn, cubicIn};
 ghost use Rattle.step.specs.Values.{IsFrac, minus};
 ghost use Rattle.round.specs.Values.{CanonClaims, CanonCubic, decClaims, decCubic, CanonSums};
+ghost use Rattle.round.specs.Report.{verdictReport};
 ghost use Rattle.round.specs.Rounds.{Opens, SubRound, Descended, Closed, Rooted};
 use field::Ext;
 use refusal::Refusal;
+use refusal::Report;
 use step::Frac;
 use stored::LayerClaims;
 use stored::SubroundEvals;
@@ -56,6 +59,16 @@ pub enum Advance {
 pub enum Verdict {
     Accepted { numer: Ext, denom: Ext },
     Refused(Refusal),
+}
+
+// The verdict as document 01 has it: its number, and its values.
+pub fn number_and_values(verdict: Verdict) -> Report
+    ensures { λ r. ⌜ r ≡ verdictReport verdict ⌝ }
+{
+    match verdict {
+        Verdict::Accepted { numer, denom } => refusal::done(0, numer, denom),
+        Verdict::Refused(refusal) => refusal::number_and_fields(refusal),
+    }
 }
 
 // p0, q0, p1, q1 go into the log.

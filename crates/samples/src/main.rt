@@ -13,10 +13,12 @@ fn show_file(name: &[u8]) {
         return;
     }
     let mut sheet = [0u8; 2051];
+    let mut rows = [0u32; 512];
+    let mut work = [0u32; 2048];
     let n = io::read_full(file, &mut sheet);
     let longer = more(file);
     libc::close(file);
-    show::show_input(&sheet[..n], longer);
+    show::show_input(&sheet[..n], longer, &mut rows, &mut work);
 }
 
 fn main() {

@@ -7,6 +7,7 @@ ghost use Rattle.sheet_text.specs.Scan.{digitOf, grown, numberAt, isSpac
 use crate::Element;
 use crate::Number;
 use crate::Word;
+use field::Base;
 use field::Ext;
 
 // Whether both hold.
@@ -28,7 +29,11 @@ fn grow(v: u64, d: u64) -> u64
     ensures { λ r. ⌜ r ≡ grown v d ⌝ }
 {
     let w = 10 * v + d;
-    if w < 2013265921 { w } else { 2013265921 }
+    if w < Base::ORDER_U64 {
+        w
+    } else {
+        Base::ORDER_U64
+    }
 }
 
 // The number whose digits begin at a place, and the place after them.
@@ -89,9 +94,9 @@ pub fn after(text: &[u8], at: usize, b: u8) -> usize
 fn signed(minus: bool, v: u64) -> u32
     ensures { λ r. ⌜ r ≡ signedWord minus v ⌝ }
 {
-    let w = v % 2013265921;
+    let w = v % Base::ORDER_U64;
     if minus {
-        ((2013265921 - w) % 2013265921) as u32
+        ((Base::ORDER_U64 - w) % Base::ORDER_U64) as u32
     } else {
         w as u32
     }
@@ -100,7 +105,11 @@ fn signed(minus: bool, v: u64) -> u32
 fn is_word(from: usize, at: usize, v: u64) -> bool
     ensures { λ r. ⌜ r ≡ isWord from at v ⌝ }
 {
-    if from < at { v < 2013265921 } else { false }
+    if from < at {
+        v < Base::ORDER_U64
+    } else {
+        false
+    }
 }
 
 // A word: digits of a number below the prime, after a minus or none.

@@ -27,12 +27,11 @@ fn print_verdict(verdict: Verdict, point: &[u32], n: usize) {
 }
 
 // Proves and verifies so many rows. The rooms are those of 64 rows: six rounds.
-fn show_rows(rows: &[u32], count: usize) {
+fn show_rows(rows: &[u32], count: usize, work: &mut [u32]) {
     let mut challenges = [0u32; 104];
     let mut proof = [0u8; 1132];
     let mut point = [0u32; 24];
     let mut log = [0u32; 384];
-    let mut work = [0u32; 2048];
     let mut point_again = [0u32; 24];
     let mut log_again = [0u32; 384];
     count_up(&mut challenges);
@@ -44,7 +43,7 @@ fn show_rows(rows: &[u32], count: usize) {
         &mut proof,
         &mut point,
         &mut log,
-        &mut work,
+        work,
         &mut point_again,
         &mut log_again,
     ) {
@@ -62,22 +61,21 @@ fn show_rows(rows: &[u32], count: usize) {
     }
 }
 
-// A sheet of at most 64 rows.
-pub fn show_sheet(sheet: &[u8]) {
-    let mut rows = [0u32; 512];
-    match stored_sheet::read_sheet(sheet, &mut rows) {
+// A sheet of at most 64 rows, read into lent words and proved in a lent workspace.
+pub fn show_sheet(sheet: &[u8], rows: &mut [u32], work: &mut [u32]) {
+    match stored_sheet::read_sheet(sheet, rows) {
         SheetAnswer::Done(count) => {
             let k = 8 * count;
-            show_rows(&rows[..k], count);
+            show_rows(&rows[..k], count, work);
         }
         SheetAnswer::Refused(refusal) => print_refusal(refusal),
     }
 }
 
 // What a reader of at most 2,051 bytes, 64 rows, was given: all of it, or less than that.
-pub fn show_input(sheet: &[u8], more: bool) {
+pub fn show_input(sheet: &[u8], more: bool, rows: &mut [u32], work: &mut [u32]) {
     if more {
         return print_refusal(Refusal::TooManyRows);
     }
-    show_sheet(sheet);
+    show_sheet(sheet, rows, work);
 }

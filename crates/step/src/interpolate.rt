@@ -4,6 +4,7 @@ ghost use Rattle.field.specs.Extension.{Extension};
 ghost use Rattle.field.specs.Element.{dec, Canon, Is};
 ghost use Rattle.multilinear.specs.Interpolate as Interpolate;
 ghost use Rattle.step.specs.Values.{minus, three, cubicFrom};
+use field::Base;
 use field::Ext;
 
 // One step of Horner's rule: a·x + b.
@@ -21,7 +22,7 @@ pub fn quadratic_at(e0: Ext, e1: Ext, e2: Ext, x: Ext) -> Ext
 {
     let s1 = e1.minus(e0);
     let s2 = e2.minus(e1);
-    let p = s2.minus(s1).times_word(1006632961);
+    let p = s2.minus(s1).times_word(Base::HALF.value);
     let q = s1.minus(p);
     horner_step(horner_step(p, x, q), x, e0)
 }
@@ -40,8 +41,8 @@ fn cubic_from(s1: Ext, s2: Ext, d3: Ext, e0: Ext, x: Ext) -> Ext
     requires { ⌜ Canon s1 × Canon s2 × Canon d3 × Canon e0 × Canon x ⌝ }
     ensures { λ r. ⌜ Is r (cubicFrom (dec s1) (dec s2) (dec d3) (dec e0) (dec x)) ⌝ }
 {
-    let p = d3.times_word(1677721601);
-    let q = s2.minus(d3).times_word(1006632961).minus(s1);
+    let p = d3.times_word(Base::SIXTH.value);
+    let q = s2.minus(d3).times_word(Base::HALF.value).minus(s1);
     let r = s1.minus(p).minus(q);
     horner_step(horner_step(horner_step(p, x, q), x, r), x, e0)
 }

@@ -8,14 +8,27 @@ ghost use lib.ListN.{length, drop};
 ghost use Rattle.refusal.specs.Powers.{powerOfTwo};
 ghost use Rattle.wire.specs.Bytes.{wordsFrom, bytesOf};
 ghost use Rattle.wire.specs.Written.{Wrote};
+ghost use Rattle.stored_sheet.specs.Report.{sheetReport};
 ghost use Rattle.stored_sheet.specs.Sheet.{sheet};
 ghost use Rattle.stored_sheet.specs.SheetReads.{readAnswer, writeAnswer, sheetRead, sheetWritten, ended};
+use field::Ext;
 use refusal::Refusal;
+use refusal::Report;
 
 // What reading or writing a sheet ends with.
 pub enum SheetAnswer {
     Done(usize),
     Refused(Refusal),
+}
+
+// The answer as document 01 has it: its number, and its values.
+pub fn number_and_values(answer: SheetAnswer) -> Report
+    ensures { λ r. ⌜ r ≡ sheetReport answer ⌝ }
+{
+    match answer {
+        SheetAnswer::Done(count) => refusal::done(count, Ext::ZERO, Ext::ZERO),
+        SheetAnswer::Refused(refusal) => refusal::number_and_fields(refusal),
+    }
 }
 
 fn zero_or_power(count: usize) -> bool

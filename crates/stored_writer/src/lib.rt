@@ -11,6 +11,7 @@ ghost use Rattle.wire.specs.Written.{Wrote};
 ghost use Rattle.stored.specs.Layout.{cubicWords, claimWords, cubicsWords, claimsWords, entriesBytes, layout};
 ghost use Rattle.stored.specs.Lengths.{proofSize};
 ghost use Rattle.stored_writer.specs.Messages.{storedCubic, storedClaims, storedPolys, storedLayers, storedEntries, storedProof, noRows, logWords};
+use field::Base;
 use field::Ext;
 
 fn put_element(out: &mut [u8], at: usize, e: Ext) -> usize
@@ -30,10 +31,10 @@ fn put_cell(out: &mut [u8], at: usize, log: &[u32], i: usize) -> usize
 {
     let k = 4 * i;
     let e = Ext {
-        c0: log[k] % 2013265921,
-        c1: log[k + 1] % 2013265921,
-        c2: log[k + 2] % 2013265921,
-        c3: log[k + 3] % 2013265921,
+        c0: log[k] % Base::ORDER_U32,
+        c1: log[k + 1] % Base::ORDER_U32,
+        c2: log[k + 2] % Base::ORDER_U32,
+        c3: log[k + 3] % Base::ORDER_U32,
     };
     put_element(out, at, e)
 }

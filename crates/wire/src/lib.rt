@@ -6,6 +6,7 @@ ghost use lib.ListN.{length, drop};
 ghost use Rattle.wire.specs.Bytes.{be4, word, wordsFrom, elem};
 ghost use Rattle.wire.specs.Words.{allCanonical, firstBad};
 ghost use Rattle.wire.specs.Written.{Wrote};
+use field::Base;
 use field::Ext;
 
 // A byte as a word.
@@ -65,7 +66,7 @@ pub fn canonical_words(words: &[u32]) -> bool
     ensures { λ r. ⌜ r ≡ allCanonical (now (words .entry)) ⌝ }
 {
     for i in 0..words.len() {
-        if words[i] >= 2013265921 {
+        if words[i] >= Base::ORDER_U32 {
             return false;
         }
     }
@@ -78,7 +79,7 @@ pub fn first_bad_word(words: &[u32]) -> usize
 {
     let mut i = 0;
     while i < words.len() {
-        if words[i] >= 2013265921 {
+        if words[i] >= Base::ORDER_U32 {
             break;
         }
         i += 1;
@@ -93,7 +94,7 @@ pub fn first_bad_stored(bytes: &[u8], at: usize, n: usize) -> usize
 {
     let mut i = 0;
     while i < n {
-        if word_at(bytes, at + 4 * i) >= 2013265921 {
+        if word_at(bytes, at + 4 * i) >= Base::ORDER_U32 {
             break;
         }
         i += 1;

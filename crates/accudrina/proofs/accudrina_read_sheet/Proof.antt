@@ -1,6 +1,6 @@
 use mathlib.Core.Path.{ap, _∙_}
 use Rattle.accudrina.proofs.Telling.{returned}
-use Rattle.accudrina.specs.Reports.{sheetReport}
+use Rattle.stored_sheet.specs.Report.{sheetReport}
 use borrow.Author.Needs.{needs}
 use Rattle.accudrina.proofs.accudrina_read_sheet.Statement.{statement}
 use Rattle.accudrina.proofs.accudrina_read_sheet.Tie as tie
@@ -8,8 +8,8 @@ use Rattle.accudrina.proofs.accudrina_read_sheet.Tie as tie
 read-sheet-requires : tie.Need-read-sheet-requires
 read-sheet-requires c κs = search needs
 
-of-sheet-requires : tie.Need-of-sheet-requires
-of-sheet-requires c κs = search needs
+number-and-values-requires : tie.Need-number-and-values-requires
+number-and-values-requires c κs = search needs
 
 tell-requires : tie.Need-tell-requires
 tell-requires c κs = search needs
@@ -20,8 +20,8 @@ same-length c = search needs
 returns : tie.Need-returns
 returns c =
     let read = c .before .before .before .before .before .read-sheet .ensures in
-    returned (c .tell .ensures) (c .before .before .of-sheet .ensures ∙ ap (λ e. sheetReport (e .answer)) read) (ap (λ e. e .buffer) read)
+    returned (c .tell .ensures) (c .before .before .number-and-values .ensures ∙ ap (λ e. sheetReport (e .answer)) read) (ap (λ e. e .buffer) read)
 
 pub accudrina-read-sheet-spec : {M : Type 1} → statement M
 accudrina-read-sheet-spec =
-    tie.close (tie.spec read-sheet-requires of-sheet-requires tell-requires same-length returns)
+    tie.close (tie.spec read-sheet-requires number-and-values-requires tell-requires same-length returns)

@@ -1,5 +1,5 @@
 use mathlib.Core.Path.{ap, _∙_}
-use Rattle.accudrina.specs.Reports.{verdictReport}
+use Rattle.round.specs.Report.{verdictReport}
 use Rattle.accudrina.proofs.Telling.{returned}
 use borrow.Author.Needs.{needs}
 use Rattle.accudrina.proofs.accudrina_verify.Statement.{statement}
@@ -8,8 +8,8 @@ use Rattle.accudrina.proofs.accudrina_verify.Tie as tie
 verify-gkr-requires : tie.Need-verify-gkr-requires
 verify-gkr-requires c κs = search needs
 
-of-verdict-requires : tie.Need-of-verdict-requires
-of-verdict-requires c κs = search needs
+number-and-values-requires : tie.Need-number-and-values-requires
+number-and-values-requires c κs = search needs
 
 tell-requires : tie.Need-tell-requires
 tell-requires c κs = search needs
@@ -23,14 +23,14 @@ same-length-2 c = search needs
 returns : tie.Need-returns
 returns c =
     let verdict = c .before .before .before .before .before .before .before .verify-gkr .ensures in
-    returned (c .tell .ensures) (c .before .before .of-verdict .ensures ∙ ap (λ e. verdictReport (e .answer)) verdict) (λ i. record { point = verdict i .point; log = verdict i .log })
+    returned (c .tell .ensures) (c .before .before .number-and-values .ensures ∙ ap (λ e. verdictReport (e .answer)) verdict) (λ i. record { point = verdict i .point; log = verdict i .log })
 
 pub accudrina-verify-spec : {M : Type 1} → statement M
 accudrina-verify-spec =
     tie.close
     (tie.spec
     verify-gkr-requires
-    of-verdict-requires
+    number-and-values-requires
     tell-requires
     same-length
     same-length-2

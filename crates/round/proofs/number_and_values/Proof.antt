@@ -1,8 +1,8 @@
 use mathlib.Core.Path.{sym, ap, _∙_}
-use Rattle.accudrina.specs.Reports.{verdictReport}
+use Rattle.round.specs.Report.{verdictReport}
 use borrow.Author.Needs.{needs}
-use Rattle.accudrina.proofs.report.of_verdict.Statement.{statement}
-use Rattle.accudrina.proofs.report.of_verdict.Tie as tie
+use Rattle.round.proofs.number_and_values.Statement.{statement}
+use Rattle.round.proofs.number_and_values.Tie as tie
 
 enum-known-verdict : tie.Need-enum-known-verdict
 enum-known-verdict c = search needs
@@ -22,8 +22,8 @@ returns c = c .done .ensures ∙ sym (ap verdictReport (c .before .before .verdi
 returns-2 : tie.Need-returns-2
 returns-2 c = c .number-and-fields .ensures ∙ sym (ap verdictReport (c .before .before .verdict2 .given .1))
 
-pub of-verdict-spec : {M : Type 1} → statement M
-of-verdict-spec =
+pub number-and-values-spec : {M : Type 1} → statement M
+number-and-values-spec =
     tie.close
     (tie.spec
     enum-known-verdict

@@ -1,8 +1,8 @@
 use mathlib.Core.Path.{sym, ap, _∙_}
-use Rattle.accudrina.specs.Reports.{sheetReport}
+use Rattle.stored_sheet.specs.Report.{sheetReport}
 use borrow.Author.Needs.{needs}
-use Rattle.accudrina.proofs.report.of_sheet.Statement.{statement}
-use Rattle.accudrina.proofs.report.of_sheet.Tie as tie
+use Rattle.stored_sheet.proofs.number_and_values.Statement.{statement}
+use Rattle.stored_sheet.proofs.number_and_values.Tie as tie
 
 enum-known-answer : tie.Need-enum-known-answer
 enum-known-answer c = search needs
@@ -22,8 +22,8 @@ returns c = c .done .ensures ∙ sym (ap sheetReport (c .before .before .answer 
 returns-2 : tie.Need-returns-2
 returns-2 c = c .number-and-fields .ensures ∙ sym (ap sheetReport (c .before .before .answer2 .given .1))
 
-pub of-sheet-spec : {M : Type 1} → statement M
-of-sheet-spec =
+pub number-and-values-spec : {M : Type 1} → statement M
+number-and-values-spec =
     tie.close
     (tie.spec
     enum-known-answer
