@@ -120,24 +120,43 @@ def prove(files, sheet, proof, live, asserted, challenges):
     if o.no:
         raise Refused(refusal(o))
     files[proof] = bytes(o.fronts[0])
-    note = "note: the denominator of the sum is zero, so that the proof says nothing about the rows"
-    return ["rows %d" % (len(rows) // 8), "rounds %d" % o.plain[0], "sum " + " ".join(map(long, o.elements))] + ([note] if o.elements[1] == m.ZERO else [])
+    lines = ["rows %d" % (len(rows) // 8), "rounds %d" % o.plain[0], "sum " + " ".join(map(long, o.elements))]
+    return lines + notes(o.elements[1], challenges)
 
 
-def verify(files, proof, rounds, challenges):
+def notes(denominator, challenges):
+    """A sum over zero, and challenges that are counted, are told after the answer."""
+    over = ["note: the denominator of the sum is zero, so that the proof says nothing about the rows"] if denominator == m.ZERO else []
+    return over + ([] if challenges else ["note: the challenges are counted, for demonstrations only"])
+
+
+def compare(files, sheet, rounds, point, claims):
+    """The claims beside the sheet's own values at the point: a line."""
+    try:
+        rows = rows_of(files, sheet)
+    except Refused as said:
+        return str(said)
+    if len(rows) // 8 != 2**rounds:
+        return "refused: the sheet has %d rows, and a proof of %d rounds is about %d" % (len(rows) // 8, rounds, 2**rounds)
+    return "claims match the sheet" if m.outcome(70, [rows, point]).elements == claims else "refused: the claims are not the sheet's"
+
+
+def verify(files, proof, rounds, challenges, sheet):
     if len(files[proof]) > PROOF:
         raise Refused("refused: %s has more than %d bytes, and a proof of 10 rounds has 2832" % (proof, PROOF))
     o = m.outcome(50, [rounds, files[proof], challenges_of(files, challenges), 40, 960, 0])
     if o.no:
         raise Refused(refusal(o))
     point = " ".join(long(e) for e in m.elements(o.fronts[0]))
-    return ["verdict 0", "numer " + long(o.elements[0]), "denom " + long(o.elements[1]), "point " + point]
+    lines = ["verdict 0", "numer " + long(o.elements[0]), "denom " + long(o.elements[1]), "point " + point]
+    lines += notes(m.read_proof(files[proof])[0], challenges)
+    return lines + ([compare(files, sheet, rounds, o.fronts[0], o.elements)] if sheet else [])
 
 
 def run(files, line):
     """What a command line of known words prints; `size NAME` tells the bytes of a file."""
     name, *args = line.split(" ")
-    named = args[args.index("--challenges") + 1] if "--challenges" in args else None
+    challenges, sheet = (args[args.index(option) + 1] if option in args else None for option in ("--challenges", "--sheet"))
     try:
         if name == "size":
             return ["bytes %d" % len(files[args[0]]) if args[0] in files else "no such file"]
@@ -146,7 +165,7 @@ def run(files, line):
         if name == "show":
             return show(files, *args)
         if name == "prove":
-            return prove(files, args[0], args[1], "--live" in args, "--no-assert" not in args, named)
-        return verify(files, args[0], int(args[1]), named)
+            return prove(files, args[0], args[1], "--live" in args, "--no-assert" not in args, challenges)
+        return verify(files, args[0], int(args[1]), challenges, sheet)
     except Refused as said:
         return [str(said)]

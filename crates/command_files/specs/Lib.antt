@@ -1,2 +1,3 @@
 -- What the commands read.
 pub mod Rows
+pub mod Given

@@ -1,6 +1,6 @@
 // `prove SHEET PROOF`: the proof goes to a file, and rows, rounds and sum are printed.
+use crate::notes::print_notes;
 use command_files::inputs;
-use command_text::print;
 use command_text::refusals::print_refusal;
 use prover::Answer;
 use step::Frac;
@@ -19,27 +19,19 @@ fn proof_length(rounds: usize) -> usize {
     gate::proof_bytes(rounds)
 }
 
-// A sum over zero is told, since its numerator says nothing about the rows.
-fn print_swallowed(sum: Frac) {
-    if sum.q.is_zero() {
-        print(
-            b"note: the denominator of the sum is zero, so that the proof says nothing about the rows\n",
-        );
-    }
-}
-
-// The proof goes to its file, and then what it is of is printed.
-fn keep_proof(path: &[u8], proof: &[u8], count: usize, rounds: usize, sum: Frac) {
+// The proof goes to its file, and then what it is of is printed; whether that was done.
+fn keep_proof(path: &[u8], proof: &[u8], count: usize, rounds: usize, sum: Frac) -> bool {
     let n = command_files::front(proof_length(rounds), proof);
-    if command_files::replace(path, &proof[..n]) {
+    let kept = command_files::replace(path, &proof[..n]);
+    if kept {
         answers::print_number(b"rows ", count as u64);
         answers::print_number(b"rounds ", rounds as u64);
         answers::print_sum(sum);
-        print_swallowed(sum);
     }
+    kept
 }
 
-fn prove_with(rows: &[u32], challenges: &[u32], mode: Mode, path: &[u8]) {
+fn prove_with(rows: &[u32], challenges: &[u32], counted: bool, mode: Mode, path: &[u8]) {
     let mut proof = [0u8; 2832];
     let mut point = [0u32; 40];
     let mut log = [0u32; 964];
@@ -54,7 +46,11 @@ fn prove_with(rows: &[u32], challenges: &[u32], mode: Mode, path: &[u8]) {
         &mut log,
         &mut work,
     ) {
-        Answer::Done { rounds, sum } => keep_proof(path, &proof, rows.len() / 8, rounds, sum),
+        Answer::Done { rounds, sum } => {
+            if keep_proof(path, &proof, rows.len() / 8, rounds, sum) {
+                print_notes(sum.q.is_zero(), counted);
+            }
+        }
         Answer::Refused(refusal) => print_refusal(refusal),
     }
 }
@@ -64,7 +60,7 @@ fn prove_rows(rows: &[u32], challenges: &[u8], mode: Mode, path: &[u8]) {
     let given = inputs::read_challenges(challenges, &mut words);
     let n = given.count;
     if given.good {
-        prove_with(rows, &words[..n], mode, path);
+        prove_with(rows, &words[..n], challenges.len() == 0, mode, path);
     }
 }
 

@@ -1,25 +1,32 @@
-// `verify PROOF ROUNDS`: the verdict, the two claims and the point are printed.
+// `verify PROOF ROUNDS`: the verdict, the two claims and the point are printed, and whether the claims are a sheet's.
+use crate::compare::compare_sheet;
+use crate::notes::print_notes;
 use command_files::After;
 use command_files::inputs;
 use command_text::print;
 use command_text::refusals::print_refusal;
 use round::Verdict;
+use step::Frac;
 
-fn verify_with(proof: &[u8], rounds: usize, challenges: &[u32]) {
+fn verify_with(proof: &[u8], rounds: usize, challenges: &[u32], counted: bool, sheet: &[u8]) {
     let mut point = [0u32; 40];
     let mut log = [0u32; 960];
     match verifier::verify_gkr(proof, rounds, challenges, &mut point, &mut log) {
-        Verdict::Accepted { numer, denom } => answers::print_accepted(numer, denom, &point, rounds),
+        Verdict::Accepted { numer, denom } => {
+            answers::print_accepted(numer, denom, &point, rounds);
+            print_notes(claims::is_over_zero(proof), counted);
+            compare_sheet(sheet, &point, rounds, Frac { p: numer, q: denom });
+        }
         Verdict::Refused(refusal) => print_refusal(refusal),
     }
 }
 
-fn verify_bytes(proof: &[u8], rounds: usize, challenges: &[u8]) {
+fn verify_bytes(proof: &[u8], rounds: usize, challenges: &[u8], sheet: &[u8]) {
     let mut words = [0u32; 256];
     let given = inputs::read_challenges(challenges, &mut words);
     let n = given.count;
     if given.good {
-        verify_with(proof, rounds, &words[..n]);
+        verify_with(proof, rounds, &words[..n], challenges.len() == 0, sheet);
     }
 }
 
@@ -30,8 +37,8 @@ fn too_long(proof: &[u8]) {
     print(b" has more than 65536 bytes, and a proof of 10 rounds has 2832\n");
 }
 
-// The names of the proof and of a text of challenges; an empty one stands for counted challenges.
-pub fn verify(proof: &[u8], rounds: usize, challenges: &[u8]) {
+// The names of the proof, of a text of challenges, and of a sheet; an empty one stands for counted challenges, and for no sheet.
+pub fn verify(proof: &[u8], rounds: usize, challenges: &[u8], sheet: &[u8]) {
     let mut bytes = [0u8; 65536];
     let input = command_files::read(proof, &mut bytes);
     let n = input.count;
@@ -39,6 +46,6 @@ pub fn verify(proof: &[u8], rounds: usize, challenges: &[u8]) {
     match after {
         After::Failed => {}
         After::More => too_long(proof),
-        After::End => verify_bytes(&bytes[..n], rounds, challenges),
+        After::End => verify_bytes(&bytes[..n], rounds, challenges, sheet),
     }
 }

@@ -1,6 +1,6 @@
 -- `command_files::inputs::elements_of` meets its contract.
 -- Assumes nothing.
-use Rattle.command_files.proofs.Parts.{counts, list-counts}
+use Rattle.command_files.proofs.Parts.{counts, list-counts, elements-given, elements-front, elements-refused}
 use borrow.Author.Needs.{needs}
 use Rattle.command_files.proofs.inputs.elements_of.Statement.{statement}
 use Rattle.command_files.proofs.inputs.elements_of.Tie as tie
@@ -27,19 +27,22 @@ same-length : tie.Need-same-length
 same-length c = search needs
 
 returns : tie.Need-returns
-returns c = list-counts _ _ _ (c .before .before .before .before .before .read-list .ensures .1) (c .before .count .given .1)
+returns c =
+    let e = c .before .before .before .before .before .read-list .ensures in
+    let d = c .before .count .given .1 in
+    (list-counts _ _ _ (e .1) d, elements-given _ _ _ (e .0) _ d)
 
 same-length-2 : tie.Need-same-length-2
 same-length-2 c = search needs
 
 returns-2 : tie.Need-returns-2
-returns-2 c = counts _ (c .before .before .before .before .read-list .last .1 .0) (search needs)
+returns-2 c = (counts _ (c .before .before .before .before .read-list .last .1 .0) (search needs), elements-front _ _ _ (c .before .before .before .before .read-list .ensures .0) _ (c .enum-told .given .1))
 
 same-length-3 : tie.Need-same-length-3
 same-length-3 c = search needs
 
 returns-3 : tie.Need-returns-3
-returns-3 c = search needs
+returns-3 c = (search needs, elements-refused _ _ _ (c .before .before .before .before .before .before .before .read-list .ensures .0) _ (c .before .before .before .line .given .1))
 
 pub elements-of-spec : {M : Type 1} → statement M
 elements-of-spec =

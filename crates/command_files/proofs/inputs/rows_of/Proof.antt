@@ -1,6 +1,6 @@
 -- `command_files::inputs::rows_of` meets its contract.
 -- Assumes nothing.
-use Rattle.command_files.proofs.Parts.{read-few, read-rows, no-rows}
+use Rattle.command_files.proofs.Parts.{read-few, read-rows, no-rows, rows-given, rows-refused}
 use native.Mathlib.Omega.{arith}
 use borrow.Author.Needs.{needs}
 use Rattle.command_files.proofs.inputs.rows_of.Statement.{statement}
@@ -27,13 +27,16 @@ same-length : tie.Need-same-length
 same-length c = search needs
 
 returns : tie.Need-returns
-returns c = read-rows _ (c .before .before .before .before .before .before .before .before .before .args .rows .now) _ _ (c .before .before .before .before .before .read-sheet .ensures) (c .before .count .given .1)
+returns c =
+    let e = c .before .before .before .before .before .read-sheet .ensures in
+    let d = c .before .count .given .1 in
+    (read-rows _ (c .before .before .before .before .before .before .before .before .before .args .rows .now) _ _ e d, rows-given _ (c .before .before .before .before .before .before .before .before .before .args .rows .now) _ e _ d)
 
 same-length-2 : tie.Need-same-length-2
 same-length-2 c = search needs
 
 returns-2 : tie.Need-returns-2
-returns-2 c = no-rows _
+returns-2 c = (no-rows _, rows-refused _ (c .before .before .before .before .before .before .before .before .before .before .args .rows .now) _ (c .before .before .before .before .before .before .read-sheet .ensures) _ (c .before .before .refusal .given .1))
 
 pub rows-of-spec : {M : Type 1} → statement M
 rows-of-spec =

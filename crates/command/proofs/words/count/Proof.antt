@@ -1,10 +1,10 @@
--- `command::args::count` meets its contract.
+-- `command::words::count` meets its contract.
 -- Assumes nothing.
 use Prim.Native.Nat.{_≤_, _-_}
 use lib.ListN.{length}
 use borrow.Author.Needs.{needs}
-use Rattle.command.proofs.args.count.Statement.{statement}
-use Rattle.command.proofs.args.count.Tie as tie
+use Rattle.command.proofs.words.count.Statement.{statement}
+use Rattle.command.proofs.words.count.Tie as tie
 
 abbrev Inv-loop : tie.InvT-loop
 Inv-loop args n₀ i₀ i-end n i = (n ≤ i) × (i ≤ length args)

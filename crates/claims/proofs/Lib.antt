@@ -1,0 +1,2 @@
+-- The laws of comparing.
+pub mod Answering

@@ -1,0 +1,3 @@
+-- The laws of arguments and options.
+pub mod Finding
+pub mod Folding

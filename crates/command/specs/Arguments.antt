@@ -1,0 +1,42 @@
+-- Arguments in one list of bytes, each ended by a byte 0; and the words that are options.
+-- Assumes nothing.
+use mathlib.Core.Bool.{Bool, true, false, cond, _&&_}
+use mathlib.Core.List.{List, [], _∷_}
+use Prim.Native.Nat.{ℕ, zero, suc}
+use lib.Dec.{eqb}
+use lib.ListN.{take, drop}
+use Rattle.sheet_text.specs.Reading.{lengthTo}
+use Rattle.command.specs.declared.words.Word.{Word}
+use Rattle.command.specs.declared.words.Word.the-variants.{Empty, Live, NoAssert, Challenges, Sheet, Other}
+
+-- argument k, from 0: what stands before a byte 0 or the end, after k bytes 0
+unfoldable pub argument : ℕ → List ℕ → List ℕ
+argument zero bs = take (lengthTo 0 bs) bs
+argument (suc k) bs = argument k (drop (suc (lengthTo 0 bs)) bs)
+
+unfoldable pub sameText : List ℕ → List ℕ → Bool
+sameText [] [] = true
+sameText [] (b ∷ y) = false
+sameText (a ∷ x) [] = false
+sameText (a ∷ x) (b ∷ y) = eqb a b && sameText x y
+
+-- --live, --no-assert, --challenges, --sheet
+abbrev pub live : List ℕ
+live = 45 ∷ 45 ∷ 108 ∷ 105 ∷ 118 ∷ 101 ∷ []
+
+abbrev pub noAssert : List ℕ
+noAssert = 45 ∷ 45 ∷ 110 ∷ 111 ∷ 45 ∷ 97 ∷ 115 ∷ 115 ∷ 101 ∷ 114 ∷ 116 ∷ []
+
+abbrev pub challenges : List ℕ
+challenges = 45 ∷ 45 ∷ 99 ∷ 104 ∷ 97 ∷ 108 ∷ 108 ∷ 101 ∷ 110 ∷ 103 ∷ 101 ∷ 115 ∷ []
+
+abbrev pub sheet : List ℕ
+sheet = 45 ∷ 45 ∷ 115 ∷ 104 ∷ 101 ∷ 101 ∷ 116 ∷ []
+
+unfoldable pub wordOf : List ℕ → Word
+wordOf w =
+    cond (sameText w []) Empty
+    (cond (sameText w live) Live
+    (cond (sameText w noAssert) NoAssert
+    (cond (sameText w challenges) Challenges
+    (cond (sameText w sheet) Sheet Other))))

@@ -1,0 +1,3 @@
+-- Arguments, and what the options among them mean.
+pub mod Arguments
+pub mod Meaning
