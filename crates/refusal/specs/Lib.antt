@@ -3,6 +3,7 @@ pub mod Numbers
 pub mod Limits
 pub mod Tests
 pub mod TestLaws
+pub mod TestWays
 pub mod Fronts
 pub mod Powers
 pub mod PowerLaws
