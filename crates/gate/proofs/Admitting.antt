@@ -57,6 +57,10 @@ rows-end rows count i h s = let e : count - i ≡ 0 = omega arith in sym (s ∙ 
 
 -- THE ORDER
 
+-- a pair: one test's fact, and those of the others
+pub both : {A B : Type 0} → A → B → A × B
+both a b = (a, b)
+
 module _ (c : Call) (r : Rooms) where
   abbrev count : ℕ
   count = rowCount (c .rows)

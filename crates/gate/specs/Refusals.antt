@@ -83,8 +83,7 @@ tests c r =
     ∷ test (shortRoom (c .asserted) n r) ShortRoom
     ∷ test (not (allCanonical (c .rows))) BadWord
     ∷ test (not (allCanonical (take need (c .challenges)))) BadWord
-    ∷ test (c .live && ltb low count) (ZeroDenominator low)
-    ∷ []
+    ∷ test (c .live && ltb low count) (ZeroDenominator low) ∷ []
 
 unfoldable pub firstRefusal : Call → Rooms → Tested
 firstRefusal c r = firstOf (tests c r)
