@@ -71,5 +71,4 @@ pub record Agreed (c : Call) (n : ℕ) (b : Prover.Buffers) (v : Lent) (P : Prov
 
 -- THE DEMAND: zero asserted, and the root numerator zero
 abbrev pub Demand3 : Type 0
-Demand3 = (c : Call) (n : ℕ) (b : Prover.Buffers) (v : Lent) → Taken c n → c .asserted ≡ true → root c n .p ≡ E.nil → Room true n b v
-    → let P = Prover.proved c b in Agreed c n b v P (verdict c n P v)
+Demand3 = (c : Call) (n : ℕ) (b : Prover.Buffers) (v : Lent) → Taken c n → c .asserted ≡ true → root c n .p ≡ E.nil → Room true n b v → let P = Prover.proved c b in Agreed c n b v P (verdict c n P v)
