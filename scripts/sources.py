@@ -18,7 +18,7 @@ class Function:
         self.crate, self.path, self.name, self.comment = crate, path, name, comment
         self.full = crate + "::" + name
         self.lines = lines[start : end + 1]
-        clauses = [c.strip() for c in lines[start : head_end + 1]]
+        clauses = [" ".join(c.split()) for c in re.split(r"\n(?=\s*(?:requires|ensures)\b)", "\n".join(lines[start : head_end + 1]))]
         self.contract = [c for c in clauses if c.startswith("ensures")]
         self.inner = any(c.startswith("requires") for c in clauses)
         head = re.split(r"\n\s*(?:requires|ensures)\b", "\n".join(lines[start : head_end + 1]))[0]

@@ -1,5 +1,7 @@
 // The functions that C and Rust call: a number is returned, and sixteen words of answer are written.
 ghost use mathlib.Core.Path.{_≡_};
+ghost use Rattle.gate.specs.Refusals.{call};
+ghost use Rattle.prover.specs.Proved.{lent};
 ghost use Rattle.accudrina.specs.Calls.{reading, proving, verifying, evaluating};
 
 mod answer; // the sixteen words
@@ -31,7 +33,9 @@ pub extern "C" fn accudrina_prove(
     work: &mut [u32],
     answer: &mut [u32; 16],
 ) -> u32
-    ensures { λ r. ⌜ record { told = record { number = r; words = now (answer .exit) }; buffers = record { proof = now (proof .exit); point = now (point .exit); log = now (log .exit); work = now (work .exit) } } ≡ proving (record { rows = now (rows .entry); live = live; asserted = «assert_zero»; challenges = now (challenges .entry) }) (record { proof = now (proof .entry); point = now (point .entry); log = now (log .entry); work = now (work .entry) }) ⌝ }
+    ensures { λ r. ⌜ record { told = record { number = r; words = now (answer .exit) }; buffers = lent (now (proof .exit)) (now (point .exit)) (now (log .exit)) (now (work .exit)) }
+        ≡ proving (call (now (rows .entry)) live «assert_zero» (now (challenges .entry)))
+        (lent (now (proof .entry)) (now (point .entry)) (now (log .entry)) (now (work .entry))) ⌝ }
 {
     let proved = prover::fractional_sumcheck(
         rows,

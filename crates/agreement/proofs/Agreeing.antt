@@ -30,6 +30,7 @@ use Rattle.stored.specs.Parse.{parse, parsed}
 use Rattle.stored.specs.RoundTrip.{write-read}
 use Rattle.stored.specs.Elements.{encoded, decoded}
 use Rattle.tree.specs.Nodes.{node}
+use Rattle.refusal.specs.Fronts.{over}
 use Rattle.gate.specs.Refusals.{Call, rowCount, roundsOf}
 use Rattle.prover.specs.Proved as Prover
 use Rattle.prover.specs.declared.Answer.the-variants.{Done}
@@ -66,12 +67,12 @@ module _ (c : Call) (m : ℕ) (b : Prover.Buffers) (v : Lent) (h : Taken c (suc 
     run = Gkr.run Extension S m rows t
 
     -- the prover is done with the model's run
-    pub proved-run : Prover.proved c b ≡ Prover.finished needed (suc m) b run
-    unfolding Prover.proved
+    pub proved-run : Prover.proved c b ≡ Prover.laid (Prover.finished needed (suc m) run) b
+    unfolding Prover.proved Prover.fronts
     proved-run =
-        ap (Prover.entered c b) (opens c m b v h r)
-        ∙ ap (λ (n : ℕ). Prover.ran (c .rows) (c .asserted) (c .challenges) n b) (rounds-taken-are c m b v h r)
-        ∙ ap (Prover.after needed (suc m) b) e
+        ap (λ t. Prover.laid (Prover.entered c t) b) (opens c m b v h r)
+        ∙ ap (λ (n : ℕ). Prover.laid (Prover.ran (c .rows) (c .asserted) (c .challenges) n) b) (rounds-taken-are c m b v h r)
+        ∙ ap (λ a. Prover.laid (Prover.after needed (suc m) a) b) e
 
     abbrev bytes : List ℕ
     bytes = layout (encoded (run .proof))
@@ -123,7 +124,7 @@ module _ (c : Call) (m : ℕ) (b : Prover.Buffers) (v : Lent) (h : Taken c (suc 
   r′ : Room (c .asserted) (suc m) b v
   r′ = subst (λ s. Room s (suc m) b v) (sym a) r
 
-  run-is : Prover.proved c b ≡ Prover.finished ch (suc m) b P
+  run-is : Prover.proved c b ≡ Prover.laid (Prover.finished ch (suc m) P) b
   run-is = proved-run c m b v h r′ Prover.nothing is-done
 
   verdict-is : verdict c (suc m) (Prover.proved c b) v ≡ Verifier.ended ch (accepted (Tree.value ExtRing (node (c .rows)) (P .point)) (P .point) (P .log)) (v .point) (v .log)
@@ -138,7 +139,7 @@ module _ (c : Call) (m : ℕ) (b : Prover.Buffers) (v : Lent) (h : Taken c (suc 
         accepted = ap (λ o. o .answer) verdict-is;
         coordinates = Count.point-length Extension (Supplied ch) m (node (c .rows)) Prover.nothing;
         proved-point = ap (λ o. o .buffers .point) run-is;
-        verified-point = ap (λ o. o .point) verdict-is ∙ ap (λ l. Prover.over l (v .point)) (points (P .point));
+        verified-point = ap (λ o. o .point) verdict-is ∙ ap (λ l. over l (v .point)) (points (P .point));
         size = TranscriptLaws.done-words Extension wordsOf _ (λ x. refl) true m (node (c .rows)) Prover.nothing P (theorem .0) ∙ zero-add _;
         proved-log = ap (λ o. o .buffers .log) run-is;
         verified-log = ap (λ o. o .log) verdict-is;

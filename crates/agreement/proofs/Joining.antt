@@ -1,31 +1,24 @@
 -- Prover and verifier one after the other: each way through is `together`, and demand 3 holds of it.
 -- Assumes nothing.
 use mathlib.Core.Path.{_≡_, refl, sym, _∙_, ap, subst}
-use mathlib.Core.Bool.{Bool, true, false, cond}
-use mathlib.Core.List.{List, []}
-use Prim.Native.Nat.{ℕ, zero, suc, _*_, _≤_}
+use mathlib.Core.Bool.{true}
+use mathlib.Core.List.{List}
+use Prim.Native.Nat.{ℕ, _≤_}
 use native.Mathlib.Omega.{arith}
-use lib.Dec.{eqb}
 use lib.ListN.{length, take, length-take}
 use Rattle.field.specs.Ext as E
-use Rattle.field.specs.Extension.{Extension}
-use Rattle.gkr.specs.Sizes.{challenges, proof-bytes}
-use Rattle.gkr.specs.Gkr as Gkr
-use Rattle.gkr.specs.Gkr.{done, non-zero-root-sum}
-use Rattle.transcript.specs.Log.{Supplied}
+use Rattle.gkr.specs.Sizes.{proof-bytes}
 use Rattle.refusal.specs.Limits.{maxRounds}
+use Rattle.refusal.specs.Tests.{Tested, passed, refused}
 use Rattle.refusal.specs.declared.Refusal.{Refusal}
 use Rattle.step.specs.declared.Frac.{Frac}
-use Rattle.tree.specs.Nodes.{node}
-use Rattle.gate.specs.declared.Gate.{Gate}
-use Rattle.gate.specs.declared.Gate.the-variants.{Open, Shut}
 use Rattle.gate.specs.Refusals.{Call, rowCount, roundsOf, firstRefusal}
 use Rattle.prover.specs.Proved as Prover
-use Rattle.prover.specs.Proved.{Buffers, roomsOf, finished, after, refused, oneRow, nothing, ran, entered, proved}
+use Rattle.prover.specs.Proved.{Buffers, roomsOf, entered, fronts, proved}
+use Rattle.prover.proofs.Theorems.{Ends, each-end, done-refused}
 use Rattle.prover.specs.declared.Answer.{Answer}
 use Rattle.prover.specs.declared.Answer.the-variants.{Done}
 use Rattle.prover.specs.declared.Answer.the-variants.{Refused as Denied}
-use Rattle.prover.specs.Inner.{Opens}
 use Rattle.prover.proofs.Opening.{gate-opens}
 use Rattle.verifier.specs.Verified as Verifier
 use Rattle.round.specs.declared.Verdict.{Verdict}
@@ -37,35 +30,23 @@ use Rattle.agreement.proofs.Agreeing.{demand-3}
 
 -- WHAT DONE TELLS: the gate was open, and n is the rounds of the rows
 
-denied-done : (e : Refusal) (n : ℕ) (s : Frac) → Denied e ≡ Done n s → ⊥
-denied-done e n s h = let z : _≡_ {A = ℕ} 0 1 = cc in omega arith
-
 module _ (c : Call) (b : Buffers) (n : ℕ) (s : Frac) where
-  after-done : (ch : List ℕ) (k : ℕ) (a : Gkr.Answer Extension (Supplied ch)) → after ch k b a .answer ≡ Done n s → n ≡ k
-  after-done ch k (done P) h = cc
-  after-done ch k non-zero-root-sum h = absurd (denied-done _ n s h)
-
-  ran-done : (k : ℕ) → ran (c .rows) (c .asserted) (c .challenges) k b .answer ≡ Done n s → n ≡ k
-  ran-done zero h = go (eqb (rowCount (c .rows)) 0) h
-    where
-      go : (t : Bool) → cond t (finished [] 0 b (Gkr.no-rows Extension (Supplied []) nothing)) (refused (oneRow (c .rows) (c .asserted)) b) .answer ≡ Done n s → n ≡ 0
-      go true k = cc
-      go false k = absurd (denied-done (oneRow (c .rows) (c .asserted)) n s k)
-  ran-done (suc m) h =
-      after-done (take (4 * challenges (suc m)) (c .challenges)) (suc m)
-      (Gkr.fractional-sumcheck Extension (Supplied (take (4 * challenges (suc m)) (c .challenges))) (c .asserted) m (node (c .rows)) nothing) h
-
   pub record Admitted : Type 0 where
-    pub opened : firstRefusal c (roomsOf b) ≡ Open
+    pub opened : firstRefusal c (roomsOf b) ≡ passed
     pub rounds : n ≡ roundsOf (rowCount (c .rows))
 
+  rounds-told : (k : ℕ) → Ends (λ f. f .answer ≡ Done n s → n ≡ k) k
+  rounds-told k = record { finishes = λ ch P h. cc; eight = λ h. absurd (done-refused n s _ (sym h)); nine = λ h. absurd (done-refused n s _ (sym h)) }
+
   admitted : proved c b .answer ≡ Done n s → Admitted
-  unfolding proved
+  unfolding proved fronts
   admitted h = go (firstRefusal c (roomsOf b)) refl h
     where
-      go : (g : Gate) → firstRefusal c (roomsOf b) ≡ g → entered c b g .answer ≡ Done n s → Admitted
-      go Open e k = record { opened = e; rounds = ran-done (roundsOf (rowCount (c .rows))) k }
-      go (Shut r) e k = absurd (denied-done r n s k)
+      go : (t : Tested) → firstRefusal c (roomsOf b) ≡ t → entered c t .answer ≡ Done n s → Admitted
+      go passed e k =
+          let N = roundsOf (rowCount (c .rows)) in
+          record { opened = e; rounds = each-end (λ f. f .answer ≡ Done n s → n ≡ N) (c .rows) (c .asserted) (c .challenges) N (rounds-told N) k }
+      go (refused r) e k = absurd (done-refused n s r (sym k))
 
 -- so n is within the limit, and the proof's bytes are there
 module _ (c : Call) (b : Buffers) {n : ℕ} {s : Frac} {pb : Buffers} {r : Answer} (e : _≡_ {A = Prover.Outcome} (record { answer = r; buffers = pb }) (proved c b)) (d : r ≡ Done n s) where

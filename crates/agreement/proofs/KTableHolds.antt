@@ -8,11 +8,12 @@ use Rattle.wire.specs.Words.{allCanonical}
 use Rattle.wire.specs.Bytes.{bytesOf, word}
 use Rattle.stored.specs.Layout.{claimsWords, cubicsWords, polysWords, entriesBytes, layout}
 use Rattle.stored.specs.Parse.{claimsFrom, cubicsFrom, entriesFrom, entriesFit, fits, parse}
-use Rattle.gate.specs.Refusals.{roundsFrom, isSize, shortRoom, degenerate, checkRows, firstRefusal}
+use Rattle.refusal.specs.Tests.{firstOf}
+use Rattle.gate.specs.Refusals.{roundsFrom, isSize, shortRoom, degenerate, lowest, firstRefusal}
 use Rattle.prover.specs.Proved as Prover
 use Rattle.verifier.specs.Verified as Verifier
 use Rattle.agreement.specs.KTable.{Holds, K1-K10}
 
 pub all-hold : Holds K1-K10
-unfolding model arithmetic cell allCanonical bytesOf word claimsWords cubicsWords polysWords entriesBytes layout claimsFrom cubicsFrom entriesFrom entriesFit fits parse roundsFrom isSize shortRoom degenerate checkRows firstRefusal Prover.pointWords Prover.proved Verifier.firstRefusal Verifier.verified
+unfolding model arithmetic cell allCanonical bytesOf word claimsWords cubicsWords polysWords entriesBytes layout claimsFrom cubicsFrom entriesFrom entriesFit fits parse roundsFrom isSize shortRoom degenerate lowest firstOf firstRefusal Prover.pointWords Prover.fronts Prover.proved Verifier.firstRefusal Verifier.verified
 all-hold = (refl, (refl, (refl, (refl, (refl, (refl, (refl, (refl, (refl, (refl, (refl, (refl, (refl, (refl, (refl, (refl, (refl, (refl, (refl, (refl, (refl, (refl, (refl, (refl, (refl, tt)))))))))))))))))))))))))

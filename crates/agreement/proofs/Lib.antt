@@ -3,7 +3,5 @@ pub mod HonestSize
 pub mod Sizing
 pub mod Opening
 pub mod Agreeing
-pub mod Modes
-pub mod Isolating
 pub mod Joining
 pub mod KTableHolds

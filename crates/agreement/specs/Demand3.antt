@@ -9,12 +9,13 @@ use Rattle.field.specs.Ext as E
 use Rattle.field.specs.ExtRing.{ExtRing}
 use Rattle.field.specs.Element.{enc}
 use Rattle.gkr.specs.Run.{Frac}
-use Rattle.gkr.specs.Sizes.{challenges, proof-bytes, point-words, log-words, workspace-words}
+use Rattle.gkr.specs.Sizes.{challenges, proof-bytes, point-words, log-words}
 use Rattle.gkr.specs.Tree as Tree
 use Rattle.refusal.specs.Limits.{maxRounds}
+use Rattle.refusal.specs.Fronts.{over}
 use Rattle.wire.specs.Words.{allCanonical}
 use Rattle.tree.specs.Nodes.{node}
-use Rattle.gate.specs.Refusals.{Call, degenerate}
+use Rattle.gate.specs.Refusals.{Call, shortRoom, degenerate}
 use Rattle.prover.specs.Proved as Prover
 use Rattle.prover.specs.declared.Answer.the-variants.{Done}
 use Rattle.verifier.specs.Verified as Verifier
@@ -24,6 +25,9 @@ use Rattle.round.specs.declared.Verdict.the-variants.{Accepted}
 pub record Lent : Type 0 where
   pub point : List ℕ
   pub log : List ℕ
+
+abbrev pub again : (point log : List ℕ) → Lent
+again point log = record { point = point; log = log }
 
 -- a sheet that both take: 2 ^ n rows and enough challenges, all valid words, n from 1 to the limit, and in live mode the row check passed
 pub record Taken (c : Call) (n : ℕ) : Type 0 where
@@ -39,12 +43,9 @@ pub record Taken (c : Call) (n : ℕ) : Type 0 where
 abbrev pub root : (c : Call) (n : ℕ) → Frac E.Ext
 root c n = Tree.tree ExtRing (node (c .rows)) n 0
 
--- every buffer is long enough: the prover's four, the verifier's two
+-- every buffer is long enough: none of the prover's four is short, nor of the verifier's two
 pub record Room (asserted : Bool) (n : ℕ) (b : Prover.Buffers) (v : Lent) : Type 0 where
-  pub proof : proof-bytes n ≤ length (b .proof)
-  pub point : point-words n ≤ length (b .point)
-  pub log : log-words asserted n ≤ length (b .log)
-  pub work : workspace-words n ≤ length (b .work)
+  pub prover : shortRoom asserted n (Prover.roomsOf b) ≡ false
   pub point-again : point-words n ≤ length (v .point)
   pub log-again : log-words true n ≤ length (v .log)
 
@@ -62,14 +63,12 @@ pub record Agreed (c : Call) (n : ℕ) (b : Prover.Buffers) (v : Lent) (P : Prov
   pub accepted : Q .answer ≡ (let claims = Tree.value ExtRing (node (c .rows)) point in Accepted (enc (claims .p)) (enc (claims .q)))
   -- the point is one, and so is the log
   pub coordinates : length point ≡ n
-  pub proved-point : P .buffers .point ≡ Prover.over (Prover.pointWords point) (b .point)
-  pub verified-point : Q .point ≡ Prover.over (Prover.pointWords point) (v .point)
+  pub proved-point : P .buffers .point ≡ over (Prover.pointWords point) (b .point)
+  pub verified-point : Q .point ≡ over (Prover.pointWords point) (v .point)
   pub size : length logged ≡ log-words true n
-  pub proved-log : P .buffers .log ≡ Prover.over logged (b .log)
-  pub verified-log : Q .log ≡ Prover.over logged (v .log)
+  pub proved-log : P .buffers .log ≡ over logged (b .log)
+  pub verified-log : Q .log ≡ over logged (v .log)
 
 -- THE DEMAND: zero asserted, and the root numerator zero
 abbrev pub Demand3 : Type 0
-Demand3 =
-    (c : Call) (n : ℕ) (b : Prover.Buffers) (v : Lent) → Taken c n → c .asserted ≡ true → root c n .p ≡ E.nil → Room true n b v
-    → let P = Prover.proved c b in Agreed c n b v P (verdict c n P v)
+Demand3 = (c : Call) (n : ℕ) (b : Prover.Buffers) (v : Lent) → Taken c n → c .asserted ≡ true → root c n .p ≡ E.nil → Room true n b v → let P = Prover.proved c b in Agreed c n b v P (verdict c n P v)

@@ -3,7 +3,9 @@ ghost use mathlib.Core.Path.{_≡_};
 ghost use mathlib.Core.Bool.{true};
 ghost use Prim.Native.Nat.{ℕ};
 ghost use Rattle.field.specs.Ext as E;
-ghost use Rattle.agreement.specs.Demand3.{Taken, root, Room};
+ghost use Rattle.gate.specs.Refusals.{call};
+ghost use Rattle.prover.specs.Proved.{lent};
+ghost use Rattle.agreement.specs.Demand3.{again, Taken, root, Room};
 ghost use Rattle.agreement.specs.Report.{jointReport};
 ghost use Rattle.agreement.specs.Together.{joined, together, Agrees};
 use field::Ext;
@@ -62,8 +64,15 @@ pub fn prove_and_verify(
     point_again: &mut [u32],
     log_again: &mut [u32],
 ) -> Joint
-    ensures both { λ r. ⌜ joined r (record { proof = now (proof .exit); point = now (point .exit); log = now (log .exit); work = now (work .exit) }) (record { point = now («point_again» .exit); log = now («log_again» .exit) }) ≡ together (record { rows = now (rows .entry); live = live; asserted = «assert_zero»; challenges = now (challenges .entry) }) (record { proof = now (proof .entry); point = now (point .entry); log = now (log .entry); work = now (work .entry) }) (record { point = now («point_again» .entry); log = now («log_again» .entry) }) ⌝ }
-    ensures demand { λ r. ⌜ ((n : ℕ) → Taken (record { rows = now (rows .entry); live = live; asserted = «assert_zero»; challenges = now (challenges .entry) }) n → «assert_zero» ≡ true → root (record { rows = now (rows .entry); live = live; asserted = «assert_zero»; challenges = now (challenges .entry) }) n .p ≡ E.nil → Room true n (record { proof = now (proof .entry); point = now (point .entry); log = now (log .entry); work = now (work .entry) }) (record { point = now («point_again» .entry); log = now («log_again» .entry) }) → Agrees (record { rows = now (rows .entry); live = live; asserted = «assert_zero»; challenges = now (challenges .entry) }) n (record { proof = now (proof .entry); point = now (point .entry); log = now (log .entry); work = now (work .entry) }) (record { point = now («point_again» .entry); log = now («log_again» .entry) }) (joined r (record { proof = now (proof .exit); point = now (point .exit); log = now (log .exit); work = now (work .exit) }) (record { point = now («point_again» .exit); log = now («log_again» .exit) }))) ⌝ }
+    ensures both { λ r. ⌜ joined r (lent (now (proof .exit)) (now (point .exit)) (now (log .exit)) (now (work .exit))) (again (now («point_again» .exit)) (now («log_again» .exit)))
+        ≡ together (call (now (rows .entry)) live «assert_zero» (now (challenges .entry)))
+        (lent (now (proof .entry)) (now (point .entry)) (now (log .entry)) (now (work .entry))) (again (now («point_again» .entry)) (now («log_again» .entry))) ⌝ }
+    ensures demand { λ r. ⌜ ((n : ℕ) → Taken (call (now (rows .entry)) live «assert_zero» (now (challenges .entry))) n → «assert_zero» ≡ true
+        → root (call (now (rows .entry)) live «assert_zero» (now (challenges .entry))) n .p ≡ E.nil
+        → Room true n (lent (now (proof .entry)) (now (point .entry)) (now (log .entry)) (now (work .entry))) (again (now («point_again» .entry)) (now («log_again» .entry)))
+        → Agrees (call (now (rows .entry)) live «assert_zero» (now (challenges .entry))) n
+        (lent (now (proof .entry)) (now (point .entry)) (now (log .entry)) (now (work .entry))) (again (now («point_again» .entry)) (now («log_again» .entry)))
+        (joined r (lent (now (proof .exit)) (now (point .exit)) (now (log .exit)) (now (work .exit))) (again (now («point_again» .exit)) (now («log_again» .exit))))) ⌝ }
 {
     match prover::fractional_sumcheck(
         rows,

@@ -16,6 +16,7 @@ use Rattle.field.specs.Cells as Cells
 use Rattle.field.specs.Cells.{cells}
 use Rattle.field.specs.CellLaws.{cell-right, cell-words}
 use Rattle.gkr.specs.Tree as Tree
+use Rattle.refusal.specs.Fronts.{over}
 use Rattle.refusal.specs.Limits as Limits
 use Rattle.refusal.specs.Limits.{maxRows}
 use Rattle.wire.specs.Words.{allCanonical}
@@ -79,7 +80,7 @@ module _ (rows : List ℕ) (n : ℕ) (some : 1 ≤ n) (few : n ≤ Limits.maxRou
       sym (done-some rows ws (whole rows n len) m refl (ap Refusals.isSize e ∙ size-taken n few) (sym (ap Refusals.roundsOf e ∙ rounds-taken n few)) long refl valid refl (point-canonical zs) z is)
       ∙ ap (told n) value
 
-  pub at-point : (buffer : List ℕ) → at-front rows n (Prover.over ws buffer) ≡ told n (Tree.value ExtRing (node rows) zs)
+  pub at-point : (buffer : List ℕ) → at-front rows n (over ws buffer) ≡ told n (Tree.value ExtRing (node rows) zs)
   at-point buffer = ap (evaluated rows) (take-at ws (drop (length ws) buffer) (4 * n) long) ∙ evaluates
 
 -- THE THEOREM

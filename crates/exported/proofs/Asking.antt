@@ -1,24 +1,24 @@
 -- Demand 3 for a caller who asked: what was lent is room enough for both.
 -- Assumes nothing.
-use mathlib.Core.Path.{_≡_, _∙_, ap, subst}
+use mathlib.Core.Path.{_≡_, sym, _∙_, ap, subst}
 use mathlib.Core.Bool.{true, false}
 use Prim.Native.Nat.{ℕ, _+_, _*_, _^_, _≤_}
 use native.Mathlib.Omega.{arith}
 use borrow.Author.Tests.{ne-eqb}
 use lib.Dec.{eqb}
-use lib.ListN.{length}
 use Rattle.gkr.specs.Tests.{pass}
-use Rattle.gkr.specs.Sizes.{challenges, proof-bytes, point-words, log-words}
+use Rattle.gkr.specs.Sizes.{challenges, point-words, log-words}
 use Rattle.refusal.specs.Limits.{maxRounds}
-use Rattle.gate.specs.Refusals.{Call, roundsOf, isSize, logRoom, workRoom}
-use Rattle.prover.specs.Proved.{Buffers}
+use Rattle.gate.specs.Refusals.{Call, roundsOf, isSize, logRoom, shortRoom}
+use Rattle.prover.specs.Proved.{Buffers, roomsOf}
 use Rattle.agreement.specs.Demand3.{Lent}
 use Rattle.agreement.proofs.Sizing.{rounds-taken, size-taken, counted}
 use Rattle.accudrina.specs.Calls.{Spaces}
 use Rattle.accudrina.specs.Rooms.{logWords, rounds}
 use Rattle.exported.specs.Exported.{Premises}
 use Rattle.exported.specs.Asked.{asked, ForProver, ForVerifier, Sheet, Demand3Asked}
-use Rattle.exported.proofs.Lending.{fits, log-room, work-room}
+use Rattle.exported.proofs.Lending.{fits, log-room}
+use Rattle.exported.proofs.ProverLent.{roomy}
 use Rattle.exported.proofs.Exporting.{demand-3-exported}
 
 module _ (c : Call) (n : ℕ) (b : Buffers) (v : Lent) (s : Sheet c n) where
@@ -55,10 +55,7 @@ module _ (c : Call) (n : ℕ) (b : Buffers) (v : Lent) (s : Sheet c n) where
           asserted = s .asserted;
           zero-sum = s .zero-sum;
           room = record {
-            proof = fits n (proof-bytes n) _ few (h .proof);
-            point = fits n (point-words n) _ few (h .point);
-            log = log-fits (subst (λ a. logWords n a ≤ length (b .log)) (s .asserted) (h .log));
-            work = subst (λ (w : ℕ). w ≤ length (b .work)) (work-room n one-or-more) (fits n (workRoom n) _ few (h .work));
+            prover = ap (λ a. shortRoom a n (roomsOf b)) (sym (s .asserted)) ∙ roomy c b n few h;
             point-again = fits n (point-words n) _ few (k .point);
             log-again = log-fits (k .log);
           };

@@ -6,9 +6,9 @@ use Prim.Native.Nat.{ℕ, zero, suc, _≤_}
 use native.Mathlib.Omega.{arith}
 use borrow.Author.Tests.{le-ltb, eqb-false}
 use lib.Dec.{eqb, ltb}
-use Rattle.gkr.specs.Sizes.{log-words, workspace-words}
+use Rattle.gkr.specs.Sizes.{log-words}
 use Rattle.refusal.specs.Limits.{maxRounds}
-use Rattle.gate.specs.Refusals.{logRoom, workRoom}
+use Rattle.gate.specs.Refusals.{logRoom}
 use Rattle.accudrina.specs.Rooms.{taken}
 use Rattle.accudrina.proofs.RoomLaws.{within}
 use Rattle.exported.specs.Asked.{NotShort}
@@ -27,10 +27,6 @@ lent n room have few h = le-ltb have room (fits n room have few h)
 pub log-room : (n : ℕ) → eqb n 0 ≡ false → logRoom true n ≡ log-words true n
 log-room zero h = never h refl
 log-room (suc m) h = refl
-
-pub work-room : (n : ℕ) → eqb n 0 ≡ false → workRoom n ≡ workspace-words n
-work-room zero h = never h refl
-work-room (suc m) h = refl
 
 pub other : (k : ℕ) → eqb k 4 ≡ false → eqb k 5 ≡ false → NotShort k
 other k h l = record { challenges = eqb-false k 4 h; room = eqb-false k 5 l }

@@ -13,11 +13,12 @@ use Rattle.wire.specs.Bytes.{bytesOf, word}
 use Rattle.stored.specs.Layout.{claimsWords, cubicsWords, polysWords, entriesBytes, layout}
 use Rattle.stored.specs.Parse.{claimsFrom, cubicsFrom, entriesFrom, entriesFit, fits, parse}
 use Rattle.tree.specs.Nodes.{node}
-use Rattle.gate.specs.Refusals.{roundsFrom, isSize, shortRoom, degenerate, checkRows, firstRefusal}
+use Rattle.refusal.specs.Tests.{firstOf}
+use Rattle.gate.specs.Refusals.{roundsFrom, isSize, shortRoom, degenerate, lowest, firstRefusal}
 use Rattle.prover.specs.Proved as Prover
 use Rattle.verifier.specs.Verified as Verifier
 use Rattle.agreement.specs.Demand3.{root}
-use Rattle.agreement.specs.Companions.{in-mode}
+use Rattle.prover.specs.Companions.{in-mode}
 use Rattle.agreement.specs.KTable.{K3, room, room-again}
 use Rattle.accudrina.specs.Answer.{answerWords}
 use Rattle.accudrina.specs.Calls.{proving}
@@ -77,7 +78,7 @@ K3-met live =
     }
 
 claims : (live : Bool) → handed (in-mode live K3) n (proving (in-mode live K3) (room n)) (room-again n) .told ≡ done 0 (frac (minus 25) (el 1))
-unfolding model arithmetic cell allCanonical bytesOf word claimsWords cubicsWords polysWords entriesBytes layout claimsFrom cubicsFrom entriesFrom entriesFit fits parse roundsFrom isSize shortRoom degenerate checkRows firstRefusal Prover.pointWords Prover.proved Verifier.firstRefusal Verifier.verified answerWords
+unfolding model arithmetic cell allCanonical bytesOf word claimsWords cubicsWords polysWords entriesBytes layout claimsFrom cubicsFrom entriesFrom entriesFit fits parse roundsFrom isSize shortRoom degenerate lowest firstOf firstRefusal Prover.pointWords Prover.fronts Prover.proved Verifier.firstRefusal Verifier.verified answerWords
 claims true = refl
 claims false = refl
 

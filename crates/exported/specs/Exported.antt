@@ -13,7 +13,8 @@ use Rattle.gkr.specs.Sizes.{proof-bytes, log-words}
 use Rattle.gkr.specs.Tree as Tree
 use Rattle.tree.specs.Nodes.{node}
 use Rattle.gate.specs.Refusals.{Call}
-use Rattle.prover.specs.Proved.{Buffers, over, pointWords}
+use Rattle.refusal.specs.Fronts.{over}
+use Rattle.prover.specs.Proved.{Buffers, pointWords}
 use Rattle.agreement.specs.Demand3.{Lent, Taken, root, Room}
 use Rattle.accudrina.specs.Answer.{Told}
 use Rattle.accudrina.specs.Calls.{Returned, Spaces, proving, verifying}

@@ -5,7 +5,7 @@ use mathlib.Core.Bool.{Bool}
 use Prim.Native.Nat.{ℕ}
 use Rattle.gkr.specs.Compute.{el, minus, frac}
 use Rattle.gate.specs.Refusals.{Call}
-use Rattle.agreement.specs.Companions.{in-mode}
+use Rattle.prover.specs.Companions.{in-mode}
 use Rattle.agreement.specs.KTable.{K3, room, room-again}
 use Rattle.accudrina.specs.Calls.{proving}
 use Rattle.exported.specs.Exported.{Premises, Exchanged, done, handed}

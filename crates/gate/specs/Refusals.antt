@@ -1,7 +1,7 @@
--- The prover's refusals 1 to 7: the first that fits, by the row words, the modes, the challenge words and the lengths of the rooms.
+-- The prover's refusals 1 to 7 as tests in their order: the first that is met answers, by the row words, the modes, the challenge words and the lengths of the rooms.
 -- Assumes nothing.
 use mathlib.Core.Bool.{Bool, cond, not, _&&_, _||_}
-use mathlib.Core.List.{List}
+use mathlib.Core.List.{List, [], _∷_}
 use Prim.Native.Nat.{ℕ, zero, suc, _*_, _/_, _%_, _^_}
 use lib.Dec.{eqb, ltb, leb}
 use lib.ListN.{length, take}
@@ -10,6 +10,7 @@ use Rattle.gkr.specs.Run.{Frac}
 use Rattle.gkr.specs.Sizes.{challenges, proof-bytes, point-words, log-words, workspace-words}
 use Rattle.refusal.specs.Limits.{maxRounds, maxRows}
 use Rattle.refusal.specs.declared.Refusal.the-variants.{RaggedRows, TooManyRows, NotPowerOfTwo, ShortChallenges, ShortRoom, BadWord, ZeroDenominator}
+use Rattle.refusal.specs.Tests.{Test, Tested, passed, refused, test, firstOf}
 use Rattle.wire.specs.Words.{allCanonical}
 use Rattle.tree.specs.Nodes.{node}
 use Rattle.gate.specs.declared.Gate.{Gate}
@@ -28,6 +29,12 @@ pub record Rooms : Type 0 where
   pub point : ℕ
   pub log : ℕ
   pub work : ℕ
+
+abbrev pub call : (rows : List ℕ) (live asserted : Bool) (challenges : List ℕ) → Call
+call rows live asserted challenges = record { rows = rows; live = live; asserted = asserted; challenges = challenges }
+
+abbrev pub rooms : (proof point log work : ℕ) → Rooms
+rooms proof point log work = record { proof = proof; point = point; log = log; work = work }
 
 abbrev pub rowCount : List ℕ → ℕ
 rowCount rows = length rows / 8
@@ -60,21 +67,28 @@ shortRoom asserted n r = ltb (r .proof) (proof-bytes n) || (ltb (r .point) (poin
 unfoldable pub degenerate : Frac E.Ext → Bool
 degenerate f = not (E.same (f .p) E.nil) && E.same (f .q) E.nil
 
--- the lowest such row of the `left` rows from row i on
-unfoldable pub checkRows : (rows : List ℕ) (left i : ℕ) → Gate
-checkRows rows zero i = Open
-checkRows rows (suc left) i = cond (degenerate (node rows i)) (Shut (ZeroDenominator i)) (checkRows rows left (suc i))
+-- the lowest such row of the `left` rows from row i on; i + left where there is none
+unfoldable pub lowest : (rows : List ℕ) (left i : ℕ) → ℕ
+lowest rows zero i = i
+lowest rows (suc left) i = cond (degenerate (node rows i)) i (lowest rows left (suc i))
 
-unfoldable pub firstRefusal : Call → Rooms → Gate
-firstRefusal c r =
-    let count = rowCount (c .rows) in
-    let n = roundsOf count in
-    let need = 4 * challenges n in
-    cond (not (eqb (length (c .rows) % 8) 0)) (Shut RaggedRows)
-    (cond (ltb maxRows count) (Shut TooManyRows)
-    (cond (not (isSize count)) (Shut NotPowerOfTwo)
-    (cond (ltb (length (c .challenges)) need) (Shut ShortChallenges)
-    (cond (shortRoom (c .asserted) n r) (Shut ShortRoom)
-    (cond (not (allCanonical (c .rows))) (Shut BadWord)
-    (cond (not (allCanonical (take need (c .challenges)))) (Shut BadWord)
-    (cond (c .live) (checkRows (c .rows) count 0) Open)))))))
+-- 1 to 7
+abbrev pub tests : Call → Rooms → List Test
+tests c r =
+    let count = rowCount (c .rows) in let n = roundsOf count in let need = 4 * challenges n in let low = lowest (c .rows) count 0 in
+    test (not (eqb (length (c .rows) % 8) 0)) RaggedRows
+    ∷ test (ltb maxRows count) TooManyRows
+    ∷ test (not (isSize count)) NotPowerOfTwo
+    ∷ test (ltb (length (c .challenges)) need) ShortChallenges
+    ∷ test (shortRoom (c .asserted) n r) ShortRoom
+    ∷ test (not (allCanonical (c .rows))) BadWord
+    ∷ test (not (allCanonical (take need (c .challenges)))) BadWord
+    ∷ test (c .live && ltb low count) (ZeroDenominator low) ∷ []
+
+unfoldable pub firstRefusal : Call → Rooms → Tested
+firstRefusal c r = firstOf (tests c r)
+
+-- as the code answers it
+abbrev pub asGate : Tested → Gate
+asGate passed = Open
+asGate (refused e) = Shut e

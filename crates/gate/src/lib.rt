@@ -6,7 +6,7 @@ ghost use Rattle.field.specs.Cells.{Clean};
 ghost use Rattle.gkr.specs.Sizes as Sizes;
 ghost use Rattle.refusal.specs.Limits.{maxRounds};
 ghost use Rattle.step.specs.Values.{decFrac};
-ghost use Rattle.gate.specs.Refusals.{roundsOf, isSize, logRoom, workRoom, shortRoom, degenerate, checkRows, firstRefusal};
+ghost use Rattle.gate.specs.Refusals.{roundsOf, isSize, logRoom, workRoom, shortRoom, degenerate, lowest, call, rooms, firstRefusal, asGate};
 use refusal::Refusal;
 use step::Frac;
 
@@ -105,7 +105,7 @@ fn short_room(
     work: usize,
 ) -> bool
     requires { ⌜ (size .n ≤ maxRounds) × (size .rows ≡ 2 ^ size .n) ⌝ }
-    ensures { λ r. ⌜ r ≡ shortRoom asserted (size .n) (record { proof = proof; point = point; log = log; work = work }) ⌝ }
+    ensures { λ r. ⌜ r ≡ shortRoom asserted (size .n) (rooms proof point log work) ⌝ }
 {
     let n = size.n;
     if proof < proof_bytes(n) {
@@ -130,17 +130,17 @@ fn is_degenerate(f: Frac) -> bool
     f.q.is_zero()
 }
 
-// The lowest row with non-zero p and zero q is refused.
-fn check_rows(rows: &[u32], count: usize) -> Gate
+// The lowest row with non-zero p and zero q; count where there is none.
+fn lowest_row(rows: &[u32], count: usize) -> usize
     requires { ⌜ (8 * count ≤ length (now rows)) × Clean (now rows) ⌝ }
-    ensures { λ r. ⌜ r ≡ checkRows (now (rows .entry)) count 0 ⌝ }
+    ensures { λ r. ⌜ r ≡ lowest (now (rows .entry)) count 0 ⌝ }
 {
     for row in 0..count {
         if is_degenerate(tree::load_node(rows, row)) {
-            return Gate::Shut(Refusal::ZeroDenominator { row });
+            return row;
         }
     }
-    Gate::Open
+    count
 }
 
 // The first refusal that fits. The last four numbers are the rooms: proof bytes, and words of point, log and workspace.
@@ -154,7 +154,7 @@ pub fn first_refusal(
     log: usize,
     work: usize,
 ) -> Gate
-    ensures { λ r. ⌜ r ≡ firstRefusal (record { rows = now (rows .entry); live = live; asserted = asserted; challenges = now (challenges .entry) }) (record { proof = proof; point = point; log = log; work = work }) ⌝ }
+    ensures { λ r. ⌜ r ≡ asGate (firstRefusal (call (now (rows .entry)) live asserted (now (challenges .entry))) (rooms proof point log work)) ⌝ }
 {
     let count = rows.len() / 8;
     if rows.len() % 8 != 0 {
@@ -180,8 +180,12 @@ pub fn first_refusal(
     if !wire::canonical_words(&challenges[..need]) {
         return Gate::Shut(Refusal::BadWord);
     }
-    if live {
-        return check_rows(rows, count);
+    if !live {
+        return Gate::Open;
+    }
+    let row = lowest_row(rows, count);
+    if row < count {
+        return Gate::Shut(Refusal::ZeroDenominator { row });
     }
     Gate::Open
 }

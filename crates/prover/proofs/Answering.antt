@@ -24,14 +24,16 @@ use Rattle.tree.specs.Nodes.{node}
 use Rattle.rounds.specs.Layers.{Levels}
 use Rattle.refusal.specs.declared.Refusal.the-variants.{NonZeroRootSum, SingleRow}
 use Rattle.refusal.specs.declared.Refusal.{Refusal}
+use Rattle.refusal.specs.Tests.{Tested, passed, refused}
+use Rattle.refusal.specs.Fronts.{over}
 use Rattle.gate.specs.declared.Gate.{Gate}
 use Rattle.gate.specs.declared.Gate.the-variants.{Open, Shut}
-use Rattle.gate.specs.Refusals.{Call, rowCount, roundsOf, workRoom, firstRefusal}
+use Rattle.gate.specs.Refusals.{Call, rowCount, roundsOf, workRoom, firstRefusal, asGate}
 use Rattle.stored.specs.Layout.{layout}
 use Rattle.stored_writer.specs.Messages.{noRows}
 use Rattle.prover.specs.declared.Answer.{Answer}
 use Rattle.prover.specs.declared.Answer.the-variants.{Done, Refused}
-use Rattle.prover.specs.Proved.{Buffers, Outcome, wiped, encFrac, nothing, refused, after, oneRow, ran, entered, proved, roomsOf, pointWords}
+use Rattle.prover.specs.Proved.{Buffers, Outcome, lent, outcome, laid, encFrac, nothing, untouched, after, oneRow, ran, entered, fronts, proved, roomsOf, pointWords}
 use Rattle.prover.specs.Inner.{runOf, Written}
 use Rattle.prover.proofs.Writing.{drop-all, whole-proof}
 
@@ -65,14 +67,14 @@ zeros-length n = let z : ℕ = 0 in length-replicate n z
 
 -- the same workspace room, and the same tree, under the other number
 pub rewritten : {f : ℕ → Frac E.Ext} {asserted : Bool} {m : ℕ} {ch pf pt lg ws ws₁ : List ℕ} {b' : Buffers} → length ws₁ ≡ length ws
-    → Written f asserted m ch (record { proof = pf; point = pt; log = lg; work = ws₁ }) b' → Written f asserted m ch (record { proof = pf; point = pt; log = lg; work = ws }) b'
+    → Written f asserted m ch (lent pf pt lg ws₁) b' → Written f asserted m ch (lent pf pt lg ws) b'
 rewritten e w = record { proof = w .proof; point = w .point; log = w .log; work = w .work ∙ ap (λ k. replicate k 0) e }
 
 pub levels-at : {f : ℕ → Frac E.Ext} {ws : List ℕ} {m n : ℕ} → n ≡ suc m → Levels f ws (suc m) 0 → Levels f ws n 0
 levels-at {f} {ws} e L = subst (λ n. Levels f ws n 0) (sym e) L
 
 -- the workspace of a run is the whole of its part
-whole-work : (ws ws' : List ℕ) (m n size : ℕ) → n ≡ suc m → size ≡ 2 ^ n → length ws ≡ 32 * size → ws' ≡ replicate (length ws) 0 → ws' ≡ wiped n ws
+whole-work : (ws ws' : List ℕ) (m n size : ℕ) → n ≡ suc m → size ≡ 2 ^ n → length ws ≡ 32 * size → ws' ≡ replicate (length ws) 0 → ws' ≡ over (replicate (workRoom n) 0) ws
 whole-work ws ws' m n size e s l h =
     let k : length ws ≡ workRoom n = l ∙ ap (λ k. 32 * k) (s ∙ ap (λ k. 2 ^ k) e) ∙ ap workRoom (sym e) in
     h ∙ ap (λ k. replicate k 0) k ∙ sym (append-nil (replicate (workRoom n) 0))
@@ -84,7 +86,7 @@ module _ (rows ch pf pt lg ws : List ℕ) (asserted : Bool) (m n size : ℕ) (ro
   f = node rows
 
   abbrev before : Buffers
-  before = record { proof = pf; point = pt; log = lg; work = ws }
+  before = lent pf pt lg ws
 
   abbrev told : Bool → Gkr.Answer Extension (Supplied ch)
   told b = Gkr.fractional-sumcheck Extension (Supplied ch) b m f nothing
@@ -93,19 +95,19 @@ module _ (rows ch pf pt lg ws : List ℕ) (asserted : Bool) (m n size : ℕ) (ro
   tested = te ∙ ap (λ x. asserted && not (E.same x E.nil)) (R .p .value)
 
   pub prove-refused : (ws₁ ws' : List ℕ) → t ≡ true → length ws₁ ≡ length ws → ws' ≡ replicate (length ws₁) 0
-      → _≡_ {A = Outcome} (record { answer = Refused NonZeroRootSum; buffers = record { proof = pf; point = pt; log = lg; work = ws' } }) (after ch n before (told asserted))
+      → outcome (Refused NonZeroRootSum) pf pt lg ws' ≡ laid (after ch n (told asserted)) before
   prove-refused ws₁ ws' h l w =
       let W = whole-work ws ws' m n size e se lw (w ∙ ap (λ k. replicate k 0) l) in
-      (λ i. record { answer = Refused NonZeroRootSum; buffers = record { proof = pf; point = pt; log = lg; work = W i } })
-      ∙ ap (after ch n before) (sym (sumcheck-refused ch f m asserted (sym tested ∙ h)))
+      (λ i. outcome (Refused NonZeroRootSum) pf pt lg (W i))
+      ∙ ap (λ a. laid (after ch n a) before) (sym (sumcheck-refused ch f m asserted (sym tested ∙ h)))
 
-  pub prove-done : (b' : Buffers) → t ≡ false → Written f asserted m ch before b' → _≡_ {A = Outcome} (record { answer = Done n root; buffers = b' }) (after ch n before (told asserted))
+  pub prove-done : (b' : Buffers) → t ≡ false → Written f asserted m ch before b' → _≡_ {A = Outcome} (record { answer = Done n root; buffers = b' }) (laid (after ch n (told asserted)) before)
   unfolding Gkr.run
   prove-done b' h w =
       let S : root ≡ encFrac (runOf f asserted m ch .sum) = (λ i. record { p = enc-of-is (R .p) i; q = enc-of-is (R .q) i }) in
       let W = whole-work ws (b' .work) m n size e se lw (w .work) in
-      (λ i. record { answer = Done n (S i); buffers = record { proof = w .proof i; point = w .point i; log = w .log i; work = W i } })
-      ∙ ap (after ch n before) (sym (sumcheck-done ch f m asserted (sym tested ∙ h)))
+      (λ i. outcome (Done n (S i)) (w .proof i) (w .point i) (w .log i) (W i))
+      ∙ ap (λ a. laid (after ch n a) before) (sym (sumcheck-done ch f m asserted (sym tested ∙ h)))
 
 -- NO ROUNDS
 
@@ -124,31 +126,33 @@ unfolding E.one E.emb B.nil B.one B.of
 one-words = refl
 
 pub none-done : (rows pf pf' : List ℕ) (asserted : Bool) → rowCount rows ≡ 0 → 23 ≤ length pf → length pf' ≡ length pf → pf' ≡ layout noRows ++ drop 23 pf → (pt lg ws : List ℕ)
-    → _≡_ {A = Outcome}
-    (record {
-      answer = Done 0 (record { p = record { c0 = 0; c1 = 0; c2 = 0; c3 = 0 }; q = record { c0 = 1; c1 = 0; c2 = 0; c3 = 0 } });
-      buffers = record { proof = pf'; point = pt; log = lg; work = ws };
-    })
-    (ran rows asserted [] 0 (record { proof = pf; point = pt; log = lg; work = ws }))
+    → outcome (Done 0 (record { p = record { c0 = 0; c1 = 0; c2 = 0; c3 = 0 }; q = record { c0 = 1; c1 = 0; c2 = 0; c3 = 0 } })) pf' pt lg ws ≡ laid (ran rows asserted [] 0) (lent pf pt lg ws)
 unfolding pointWords
 none-done rows pf pf' asserted h l k e pt lg ws =
     let P = whole-proof pf pf' (layout noRows) 23 l k e in
-    (λ i. record { answer = Done 0 (record { p = sym zero-words i; q = sym one-words i }); buffers = record { proof = P i; point = pt; log = lg; work = ws } })
+    (λ i. outcome (Done 0 (record { p = sym zero-words i; q = sym one-words i })) (P i) pt lg ws)
     ∙ sym (rw (eq-eqb (rowCount rows) 0 h))
 
 pub one-done : (rows pf : List ℕ) (asserted : Bool) {r : Refusal} → (rowCount rows ≡ 0 → ⊥) → r ≡ oneRow rows asserted → (pt lg ws : List ℕ)
-    → _≡_ {A = Outcome} (record { answer = Refused r; buffers = record { proof = pf; point = pt; log = lg; work = ws } }) (ran rows asserted [] 0 (record { proof = pf; point = pt; log = lg; work = ws }))
-one-done rows pf asserted h e pt lg ws =
-    let b : Buffers = record { proof = pf; point = pt; log = lg; work = ws } in
-    ap (λ r. refused r b) e ∙ sym (rw (ne-eqb (rowCount rows) 0 h))
+    → outcome (Refused r) pf pt lg ws ≡ laid (ran rows asserted [] 0) (lent pf pt lg ws)
+one-done rows pf asserted h e pt lg ws = ap (λ r. outcome (Refused r) pf pt lg ws) e ∙ sym (rw (ne-eqb (rowCount rows) 0 h))
 
 -- THE WHOLE CALL
 
-pub proved-shut : (c : Call) (b : Buffers) {g : Gate} {r : Refusal} → g ≡ firstRefusal c (roomsOf b) → g ≡ Shut r → refused r b ≡ proved c b
-unfolding proved
-proved-shut c b e h = ap (entered c b) (sym h ∙ e)
+-- what the gate tells of the tests
+pub told-shut : (t : Tested) (e : Refusal) → Shut e ≡ asGate t → t ≡ refused e
+told-shut passed e h = cc
+told-shut (refused d) e h = cc
 
-pub proved-open : (c : Call) (b : Buffers) {g : Gate} {o : Outcome} → g ≡ firstRefusal c (roomsOf b) → g ≡ Open
-    → o ≡ ran (c .rows) (c .asserted) (c .challenges) (roundsOf (rowCount (c .rows))) b → o ≡ proved c b
-unfolding proved
-proved-open c b e h k = k ∙ ap (entered c b) (sym h ∙ e)
+pub told-open : (t : Tested) → Open ≡ asGate t → t ≡ passed
+told-open passed h = refl
+told-open (refused d) h = cc
+
+pub proved-shut : (c : Call) (b : Buffers) {g : Gate} {e : Refusal} → g ≡ asGate (firstRefusal c (roomsOf b)) → g ≡ Shut e → laid (untouched e) b ≡ proved c b
+unfolding proved fronts
+proved-shut c b {g} {e} h s = ap (λ t. laid (entered c t) b) (sym (told-shut (firstRefusal c (roomsOf b)) e (sym s ∙ h)))
+
+pub proved-open : (c : Call) (b : Buffers) {g : Gate} {o : Outcome} → g ≡ asGate (firstRefusal c (roomsOf b)) → g ≡ Open
+    → o ≡ laid (ran (c .rows) (c .asserted) (c .challenges) (roundsOf (rowCount (c .rows)))) b → o ≡ proved c b
+unfolding proved fronts
+proved-open c b h s k = k ∙ ap (λ t. laid (entered c t) b) (sym (told-open (firstRefusal c (roomsOf b)) (sym s ∙ h)))

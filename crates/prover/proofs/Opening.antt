@@ -1,7 +1,7 @@
 -- What an open gate tells, and the room that a run then has.
 -- Assumes nothing.
 use mathlib.Core.Path.{_≡_, refl, sym, _∙_, ap, subst}
-use mathlib.Core.Bool.{Bool, true, false, not, _||_, cond}
+use mathlib.Core.Bool.{Bool, true, false, _||_, cond}
 use mathlib.Core.Logic.{_⊎_, inl, inr}
 use mathlib.Core.List.{List}
 use Prim.Native.Nat.{ℕ, zero, suc, _+_, _*_, _-_, _/_, _%_, _^_, _≤_}
@@ -11,26 +11,15 @@ use lib.Dec.{eqb, ltb}
 use lib.ListN.{length, take}
 use Rattle.field.specs.Cells.{Clean}
 use Rattle.gkr.specs.Sizes as Sizes
-use Rattle.refusal.specs.Limits.{maxRows, maxRounds}
-use Rattle.refusal.specs.declared.Refusal.{Refusal}
-use Rattle.refusal.specs.declared.Refusal.the-variants.{RaggedRows, TooManyRows, NotPowerOfTwo, ShortChallenges, ShortRoom, BadWord}
-use Rattle.wire.specs.Words.{allCanonical}
+use Rattle.refusal.specs.Limits.{maxRounds}
+use Rattle.refusal.specs.Tests.{passed}
+use Rattle.refusal.specs.TestLaws.{passed-all}
 use Rattle.wire.specs.WordLaws.{canonical-below}
 use Rattle.rounds.specs.Layers.{logUpTo, usedUpTo}
-use Rattle.gate.specs.declared.Gate.{Gate}
-use Rattle.gate.specs.declared.Gate.the-variants.{Open, Shut}
-use Rattle.gate.specs.Refusals.{Call, Rooms, rowCount, roundsFrom, roundsOf, isSize, logRoom, workRoom, shortRoom, firstRefusal}
+use Rattle.gate.specs.Refusals.{Call, Rooms, rowCount, roundsFrom, roundsOf, isSize, logRoom, workRoom, shortRoom, tests, firstRefusal}
 use Rattle.prover.specs.Inner.{Room, Opens}
 
 -- A GATE THAT IS OPEN
-
-shut-left : (b : Bool) (r : Refusal) (g : Gate) → cond b (Shut r) g ≡ Open → b ≡ false
-shut-left true r g h = let z : _≡_ {A = ℕ} 0 1 = cc in absurd (omega arith)
-shut-left false r g h = refl
-
-shut-right : (b : Bool) (r : Refusal) (g : Gate) → cond b (Shut r) g ≡ Open → g ≡ Open
-shut-right true r g h = let z : _≡_ {A = ℕ} 0 1 = cc in absurd (omega arith)
-shut-right false r g h = h
 
 or-left : (a b : Bool) → (a || b) ≡ false → a ≡ false
 or-left true b h = h
@@ -48,34 +37,27 @@ sized count h = go (eqb count 0) (eqb-true count 0) h
     go true z h = inl (ap roundsOf (z refl))
     go false z h = inr (eqb-true count (2 ^ roundsOf count) h)
 
-pub gate-opens : (c : Call) (r : Rooms) → firstRefusal c r ≡ Open → Opens (c .rows) (c .asserted) (c .challenges) r
+pub gate-opens : (c : Call) (r : Rooms) → firstRefusal c r ≡ passed → Opens (c .rows) (c .asserted) (c .challenges) r
 unfolding firstRefusal shortRoom
-gate-opens c r h1 =
-    let rows = c .rows in
-    let count = rowCount rows in
-    let n = roundsOf count in
-    let need = 4 * Sizes.challenges n in
-    let ragged = not (eqb (length rows % 8) 0) in
-    let h2 = shut-right ragged RaggedRows _ h1 in
-    let h3 = shut-right (ltb maxRows count) TooManyRows _ h2 in
-    let h4 = shut-right (not (isSize count)) NotPowerOfTwo _ h3 in
-    let h5 = shut-right (ltb (length (c .challenges)) need) ShortChallenges _ h4 in
-    let h6 = shut-right (shortRoom (c .asserted) n r) ShortRoom _ h5 in
-    let h7 = shut-right (not (allCanonical rows)) BadWord _ h6 in
-    let s1 = shut-left (shortRoom (c .asserted) n r) ShortRoom _ h5 in
+gate-opens c r h =
+    let n = roundsOf (rowCount (c .rows)) in
+    let p1 = passed-all (tests c r) h in
+    let p3 = p1 .1 .1 in
+    let p5 = p3 .1 .1 in
+    let s1 : shortRoom (c .asserted) n r ≡ false = p5 .0 in
     let s2 = or-right (ltb (r .proof) (Sizes.proof-bytes n)) _ s1 in
     let s3 = or-right (ltb (r .point) (Sizes.point-words n)) _ s2 in
-    let e : length rows % 8 ≡ 0 = eqb-true _ _ (not-false _ (shut-left ragged RaggedRows _ h1)) in
+    let e : length (c .rows) % 8 ≡ 0 = eqb-true _ _ (not-false _ (p1 .0)) in
     record {
       words = omega arith;
-      size = sized count (not-false _ (shut-left (not (isSize count)) NotPowerOfTwo _ h3));
-      challenges = ltb-false _ _ (shut-left (ltb (length (c .challenges)) need) ShortChallenges _ h4);
+      size = sized (rowCount (c .rows)) (not-false _ (p3 .0));
+      challenges = ltb-false _ _ (p3 .1 .0);
       proof = ltb-false _ _ (or-left (ltb (r .proof) (Sizes.proof-bytes n)) _ s1);
       point = ltb-false _ _ (or-left (ltb (r .point) (Sizes.point-words n)) _ s2);
       log = ltb-false _ _ (or-left (ltb (r .log) (logRoom (c .asserted) n)) _ s3);
       work = ltb-false _ _ (or-right (ltb (r .log) (logRoom (c .asserted) n)) _ s3);
-      clean = record { below = canonical-below rows (not-false _ (shut-left (not (allCanonical rows)) BadWord _ h6)) };
-      supplied = record { below = canonical-below _ (not-false _ (shut-left (not (allCanonical (take need (c .challenges)))) BadWord _ h7)) };
+      clean = record { below = canonical-below (c .rows) (not-false _ (p5 .1 .0)) };
+      supplied = record { below = canonical-below _ (not-false _ (p5 .1 .1 .0)) };
     }
 
 -- THE ROOM OF A RUN

@@ -16,7 +16,8 @@ use Rattle.transcript.specs.Log.{Supplied}
 use Rattle.tree.specs.Nodes.{node}
 use Rattle.gate.specs.Refusals.{rowCount, roundsOf, workRoom}
 use Rattle.prover.specs.declared.Answer.{Answer}
-use Rattle.prover.specs.Proved.{Buffers, Outcome, over, nothing, after, ran, pointWords}
+use Rattle.refusal.specs.Fronts.{over}
+use Rattle.prover.specs.Proved.{Buffers, Outcome, lent, outcome, laid, nothing, after, ran, pointWords}
 use Rattle.prover.proofs.Writing.{drop-all, point-length}
 use Rattle.prover.proofs.Answering.{zeros-length}
 
@@ -27,46 +28,45 @@ over-part ws l k e h =
 
 module _ (ch : List ℕ) (n k w : ℕ) (pf pt lg ws : List ℕ) (ke : k ≡ 4 * n) (we : w ≡ workRoom n) (kl : k ≤ length pt) (wl : w ≤ length ws) where
   abbrev whole : Buffers
-  whole = record { proof = pf; point = pt; log = lg; work = ws }
+  whole = lent pf pt lg ws
 
   abbrev cut : Buffers
-  cut = record { proof = pf; point = take k pt; log = lg; work = take w ws }
+  cut = lent pf (take k pt) lg (take w ws)
 
   -- what a run leaves in the parts, with what is behind them
   abbrev glue : Outcome → Outcome
-  glue o = record { answer = o .answer; buffers = record { proof = o .buffers .proof; point = o .buffers .point ++ drop k pt; log = o .buffers .log; work = o .buffers .work ++ drop w ws } }
+  glue o = outcome (o .answer) (o .buffers .proof) (o .buffers .point ++ drop k pt) (o .buffers .log) (o .buffers .work ++ drop w ws)
 
   wipes : over (replicate (workRoom n) 0) (take w ws) ++ drop w ws ≡ over (replicate (workRoom n) 0) ws
   wipes = over-part (replicate (workRoom n) 0) ws w (zeros-length (workRoom n) ∙ sym we) wl
 
-  pub glued : (a : Gkr.Answer Extension (Supplied ch)) → ((P : Gkr.Proved Extension (Supplied ch)) → a ≡ done P → length (P .point) ≡ n) → glue (after ch n cut a) ≡ after ch n whole a
+  pub glued : (a : Gkr.Answer Extension (Supplied ch)) → ((P : Gkr.Proved Extension (Supplied ch)) → a ≡ done P → length (P .point) ≡ n) → glue (laid (after ch n a) cut) ≡ laid (after ch n a) whole
   glued (done P) h =
       let p = over-part (pointWords (P .point)) pt k (point-length (P .point) ∙ ap (λ j. 4 * j) (h P refl) ∙ sym ke) kl in
-      let o = after ch n whole (done P) in
-      λ i. record { answer = o .answer; buffers = record { proof = o .buffers .proof; point = p i; log = o .buffers .log; work = wipes i } }
+      let o = laid (after ch n (done P)) whole in
+      λ i. outcome (o .answer) (o .buffers .proof) (p i) (o .buffers .log) (wipes i)
   glued non-zero-root-sum h =
-      let o = after ch n whole non-zero-root-sum in
-      λ i. record { answer = o .answer; buffers = record { proof = o .buffers .proof; point = take-append-drop k pt i; log = o .buffers .log; work = wipes i } }
+      let o = laid (after ch n non-zero-root-sum) whole in
+      λ i. outcome (o .answer) (o .buffers .proof) (take-append-drop k pt i) (o .buffers .log) (wipes i)
 
 pub run-parts : (rows ch pf pt lg ws : List ℕ) (asserted : Bool) (n need size k w : ℕ) (r : Answer) (pf' xi' lg' ws' : List ℕ)
     → n ≡ roundsOf (rowCount rows) → (n ≡ 0 → ⊥) → size ≡ 2 ^ n → need ≡ 4 * challenges n → k ≡ 4 * n → w ≡ 32 * size → k ≤ length pt → w ≤ length ws
-    → ((m : ℕ) → n ≡ suc m → _≡_ {A = Outcome} (record { answer = r; buffers = record { proof = pf'; point = xi'; log = lg'; work = ws' } })
-    (after (take need ch) n (record { proof = pf; point = take k pt; log = lg; work = take w ws }) (Gkr.fractional-sumcheck Extension (Supplied (take need ch)) asserted m (node rows) nothing)))
-    → _≡_ {A = Outcome} (record { answer = r; buffers = record { proof = pf'; point = xi' ++ drop k pt; log = lg'; work = ws' ++ drop w ws } })
-    (ran rows asserted ch (roundsOf (rowCount rows)) (record { proof = pf; point = pt; log = lg; work = ws }))
+    → ((m : ℕ) → n ≡ suc m → outcome r pf' xi' lg' ws'
+    ≡ laid (after (take need ch) n (Gkr.fractional-sumcheck Extension (Supplied (take need ch)) asserted m (node rows) nothing)) (lent pf (take k pt) lg (take w ws)))
+    → outcome r pf' (xi' ++ drop k pt) lg' (ws' ++ drop w ws) ≡ laid (ran rows asserted ch (roundsOf (rowCount rows))) (lent pf pt lg ws)
 run-parts rows ch pf pt lg ws asserted n need size k w r pf' xi' lg' ws' ne nz se de ke we kl wl h =
     let m = n - 1 in
     let e : n ≡ suc m = omega arith in
     let c = take need ch in
     let wr : w ≡ workRoom n = we ∙ ap (λ j. 32 * j) (se ∙ ap (λ j. 2 ^ j) e) ∙ ap workRoom (sym e) in
     let a = Gkr.fractional-sumcheck Extension (Supplied c) asserted m (node rows) nothing in
-    let b : Buffers = record { proof = pf; point = pt; log = lg; work = ws } in
+    let b : Buffers = lent pf pt lg ws in
     ap (glue c n k w pf pt lg ws ke wr kl wl) (h m e)
     ∙ glued c n k w pf pt lg ws ke wr kl wl a (λ P q. Count.done-point Extension (Supplied c) asserted m (node rows) nothing P q ∙ sym e)
-    ∙ (λ i. after (take (de i) ch) (e i) b (Gkr.fractional-sumcheck Extension (Supplied (take (de i) ch)) asserted m (node rows) nothing))
-    ∙ ap (λ j. after (take (4 * challenges j) ch) (suc m) b (Gkr.fractional-sumcheck Extension (Supplied (take (4 * challenges j) ch)) asserted m (node rows) nothing)) e
-    ∙ ap (λ j. ran rows asserted ch j b) (sym e ∙ ne)
+    ∙ (λ i. laid (after (take (de i) ch) (e i) (Gkr.fractional-sumcheck Extension (Supplied (take (de i) ch)) asserted m (node rows) nothing)) b)
+    ∙ ap (λ j. laid (after (take (4 * challenges j) ch) (suc m) (Gkr.fractional-sumcheck Extension (Supplied (take (4 * challenges j) ch)) asserted m (node rows) nothing)) b) e
+    ∙ ap (λ j. laid (ran rows asserted ch j) b) (sym e ∙ ne)
 
 -- no rounds take no challenges
-pub no-parts : (rows ch : List ℕ) (asserted : Bool) (b : Buffers) {o : Outcome} → o ≡ ran rows asserted [] 0 b → 0 ≡ roundsOf (rowCount rows) → o ≡ ran rows asserted ch (roundsOf (rowCount rows)) b
-no-parts rows ch asserted b h e = h ∙ ap (λ n. ran rows asserted ch n b) e
+pub no-parts : (rows ch : List ℕ) (asserted : Bool) (b : Buffers) {o : Outcome} → o ≡ laid (ran rows asserted [] 0) b → 0 ≡ roundsOf (rowCount rows) → o ≡ laid (ran rows asserted ch (roundsOf (rowCount rows))) b
+no-parts rows ch asserted b h e = h ∙ ap (λ n. laid (ran rows asserted ch n) b) e

@@ -1,27 +1,31 @@
--- What follows from the definition of a call: no second outcome fits, what buffers held before does not matter, live differs from sandbox only by its row check, and the workspace is wiped.
+-- What follows from the definition of a call: no second outcome fits, what buffers held before does not matter, and the workspace is wiped.
 -- Assumes nothing.
 use mathlib.Core.Path.{_≡_, refl, sym, _∙_, ap}
-use mathlib.Core.Bool.{Bool, true, false, cond}
+use mathlib.Core.Bool.{Bool, not, _&&_}
 use mathlib.Core.List.{List, []}
 use Prim.Native.Nat.{ℕ, zero, suc, _*_}
+use native.Mathlib.Omega.{arith}
 use lib.Dec.{eqb}
 use lib.ListN.{replicate, take}
+use Rattle.field.specs.Ext as E
 use Rattle.field.specs.Extension.{Extension}
+use Rattle.gkr.specs.Tests.{either}
 use Rattle.gkr.specs.Sizes.{challenges}
 use Rattle.gkr.specs.Gkr as Gkr
 use Rattle.gkr.specs.Gkr.{done, non-zero-root-sum}
 use Rattle.transcript.specs.Log.{Supplied}
+use Rattle.step.specs.declared.Frac.{Frac}
 use Rattle.tree.specs.Nodes.{node}
-use Rattle.stored.specs.Layout.{layout}
-use Rattle.stored.specs.Elements.{encoded}
+use Rattle.refusal.specs.TestWays.{Ways, each-way}
 use Rattle.refusal.specs.declared.Refusal.{Refusal}
-use Rattle.refusal.specs.declared.Refusal.the-variants.{NonZeroRootSum}
-use Rattle.gate.specs.declared.Gate.{Gate}
-use Rattle.gate.specs.declared.Gate.the-variants.{Open, Shut}
-use Rattle.gate.specs.Refusals.{Call, Rooms, rowCount, roundsOf, workRoom, firstRefusal}
+use Rattle.refusal.specs.declared.Refusal.the-variants.{RaggedRows, TooManyRows, NotPowerOfTwo, ShortChallenges, ShortRoom, BadWord, ZeroDenominator, NonZeroRootSum, SingleRow}
+use Rattle.gate.specs.Refusals.{Call, Rooms, rowCount, roundsOf, workRoom, tests, firstRefusal}
+use Rattle.gate.proofs.Admitting.{both}
 use Rattle.prover.specs.declared.Answer.{Answer}
 use Rattle.prover.specs.declared.Answer.the-variants.{Done, Refused}
-use Rattle.prover.specs.Proved.{Buffers, Outcome, roomsOf, over, pointWords, encFrac, refused, wiped, finished, after, oneRow, nothing, ran, entered, proved}
+use Rattle.prover.specs.Proved.{Buffers, Outcome, outcome, laid, untouched, finished, after, nothing, ran, entered, fronts, proved}
+use Rattle.prover.specs.Report.{answerReport}
+use Rattle.prover.specs.Companions.{Isolation, Left, Wiping}
 
 -- NO SECOND OUTCOME FITS
 
@@ -30,89 +34,77 @@ only-one c b o o' h h' = h ∙ sym h'
 
 -- OLD CONTENTS DO NOT MATTER
 
--- an answer, and the words that go to the front of each buffer
-pub record Fronts : Type 0 where
-  pub answer : Answer
-  pub proof : List ℕ
-  pub point : List ℕ
-  pub log : List ℕ
-  pub work : List ℕ
-
-abbrev pub laid : Fronts → Buffers → Outcome
-laid w b = record { answer = w .answer; buffers = record { proof = over (w .proof) (b .proof); point = over (w .point) (b .point); log = over (w .log) (b .log); work = over (w .work) (b .work) } }
-
-abbrev untouched : Refusal → Fronts
-untouched r = record { answer = Refused r; proof = []; point = []; log = []; work = [] }
-
-abbrev doneFronts : (ch : List ℕ) (n : ℕ) → Gkr.Proved Extension (Supplied ch) → Fronts
-doneFronts ch n P = record { answer = Done n (encFrac (P .sum)); proof = layout (encoded (P .proof)); point = pointWords (P .point); log = P .log .log; work = replicate (workRoom n) 0 }
-
-abbrev modelFronts : (ch : List ℕ) (n : ℕ) → Gkr.Answer Extension (Supplied ch) → Fronts
-modelFronts ch n (done P) = doneFronts ch n P
-modelFronts ch n non-zero-root-sum = record { answer = Refused NonZeroRootSum; proof = []; point = []; log = []; work = replicate (workRoom n) 0 }
-
-abbrev runFronts : (rows : List ℕ) (asserted : Bool) (ch : List ℕ) (n : ℕ) → Fronts
-runFronts rows asserted ch zero = cond (eqb (rowCount rows) 0) (doneFronts [] 0 (Gkr.no-rows Extension (Supplied []) nothing)) (untouched (oneRow rows asserted))
-runFronts rows asserted ch (suc m) =
-    let needed = take (4 * challenges (suc m)) ch in
-    modelFronts needed (suc m) (Gkr.fractional-sumcheck Extension (Supplied needed) asserted m (node rows) nothing)
-
-abbrev gateFronts : Call → Gate → Fronts
-gateFronts c (Shut r) = untouched r
-gateFronts c Open = runFronts (c .rows) (c .asserted) (c .challenges) (roundsOf (rowCount (c .rows)))
-
--- what a call writes, from what it is given and the lengths of its rooms
-pub fronts : Call → Rooms → Fronts
-fronts c r = gateFronts c (firstRefusal c r)
-
-model-laid : (ch : List ℕ) (n : ℕ) (b : Buffers) (a : Gkr.Answer Extension (Supplied ch)) → after ch n b a ≡ laid (modelFronts ch n a) b
-model-laid ch n b (done P) = refl
-model-laid ch n b non-zero-root-sum = refl
-
-run-laid : (rows : List ℕ) (asserted : Bool) (ch : List ℕ) (n : ℕ) (b : Buffers) → ran rows asserted ch n b ≡ laid (runFronts rows asserted ch n) b
-unfolding pointWords
-run-laid rows asserted ch zero b = go (eqb (rowCount rows) 0)
-  where
-    go : (t : Bool) → cond t (finished [] 0 b (Gkr.no-rows Extension (Supplied []) nothing)) (refused (oneRow rows asserted) b) ≡ laid (cond t (doneFronts [] 0 (Gkr.no-rows Extension (Supplied []) nothing)) (untouched (oneRow rows asserted))) b
-    go true = refl
-    go false = refl
-run-laid rows asserted ch (suc m) b = let needed = take (4 * challenges (suc m)) ch in model-laid needed (suc m) b (Gkr.fractional-sumcheck Extension (Supplied needed) asserted m (node rows) nothing)
-
-pub proved-laid : (c : Call) (b : Buffers) → proved c b ≡ laid (fronts c (roomsOf b)) b
-unfolding proved fronts
-proved-laid c b = go (firstRefusal c (roomsOf b))
-  where
-    go : (g : Gate) → entered c b g ≡ laid (gateFronts c g) b
-    go (Shut r) = refl
-    go Open = run-laid (c .rows) (c .asserted) (c .challenges) (roundsOf (rowCount (c .rows))) b
-
--- two calls with equal rows, modes, challenges and room lengths: one answer, and the same words at the front of each buffer
-pub same-words : (c : Call) (b b' : Buffers) → roomsOf b ≡ roomsOf b' → (proved c b ≡ laid (fronts c (roomsOf b)) b) × (proved c b' ≡ laid (fronts c (roomsOf b)) b')
-same-words c b b' e = (proved-laid c b, proved-laid c b' ∙ ap (λ r. laid (fronts c r) b') (sym e))
-
-pub same-answer : (c : Call) (b b' : Buffers) → roomsOf b ≡ roomsOf b' → proved c b .answer ≡ proved c b' .answer
-same-answer c b b' e = let s = same-words c b b' e in ap (λ o. o .answer) (s .0) ∙ sym (ap (λ o. o .answer) (s .1))
-
--- THE WORKSPACE
-
--- 1 to 7 change nothing
-pub refused-untouched : (c : Call) (b : Buffers) (r : Refusal) → firstRefusal c (roomsOf b) ≡ Shut r → proved c b ≡ refused r b
+pub isolation : Isolation
 unfolding proved
-refused-untouched c b r h = ap (entered c b) h
+isolation c b b′ e = (refl, ap (λ r. laid (fronts c r) b′) (sym e))
 
--- after 8 or done over n rounds the needed words are zero and the rest as before; no rounds need none
-pub wiped-after : (c : Call) (b : Buffers) → firstRefusal c (roomsOf b) ≡ Open → proved c b .buffers .work ≡ wiped (roundsOf (rowCount (c .rows))) (b .work)
-unfolding proved
-wiped-after c b h = ap (λ g. entered c b g .buffers .work) h ∙ rounds (roundsOf (rowCount (c .rows)))
+-- BY CASES
+
+-- Q of each end of a run over n rounds
+pub record Ends (Q : Outcome → Type 0) (n : ℕ) : Type 0 where
+  pub finishes : (ch : List ℕ) (P : Gkr.Proved Extension (Supplied ch)) → Q (finished ch n P)
+  pub eight : Q (outcome (Refused NonZeroRootSum) [] [] [] (replicate (workRoom n) 0))
+  pub nine : Q (untouched SingleRow)
+
+pub each-end : (Q : Outcome → Type 0) (rows : List ℕ) (asserted : Bool) (ch : List ℕ) (n : ℕ) → Ends Q n → Q (ran rows asserted ch n)
+each-end Q rows asserted ch zero w =
+    either Q (eqb (rowCount rows) 0) _ _ (λ e. w .finishes [] (Gkr.no-rows Extension (Supplied []) nothing))
+    (λ e. either (λ r. Q (untouched r)) (asserted && not (E.same (node rows 0 .p) E.nil)) NonZeroRootSum SingleRow (λ h. w .eight) (λ h. w .nine))
+each-end Q rows asserted ch (suc m) w = let needed = take (4 * challenges (suc m)) ch in model needed (Gkr.fractional-sumcheck Extension (Supplied needed) asserted m (node rows) nothing)
   where
-    model : (ch : List ℕ) (n : ℕ) (a : Gkr.Answer Extension (Supplied ch)) → after ch n b a .buffers .work ≡ wiped n (b .work)
-    model ch n (done P) = refl
-    model ch n non-zero-root-sum = refl
+    model : (ch : List ℕ) (a : Gkr.Answer Extension (Supplied ch)) → Q (after ch (suc m) a)
+    model ch (done P) = w .finishes ch P
+    model ch non-zero-root-sum = w .eight
 
-    few : (t : Bool) → cond t (finished [] 0 b (Gkr.no-rows Extension (Supplied []) nothing)) (refused (oneRow (c .rows) (c .asserted)) b) .buffers .work ≡ b .work
-    few true = refl
-    few false = refl
+-- Q of each refusal of the gate, and of a call that passes it
+pub each-front : (Q : Outcome → Type 0) (c : Call) (r : Rooms) → Ways (λ t. Q (entered c t)) (tests c r) → Q (fronts c r)
+unfolding fronts firstRefusal
+each-front Q c r w = each-way (λ t. Q (entered c t)) (tests c r) w
 
-    rounds : (n : ℕ) → ran (c .rows) (c .asserted) (c .challenges) n b .buffers .work ≡ wiped n (b .work)
-    rounds zero = few (eqb (rowCount (c .rows)) 0)
-    rounds (suc m) = model (take (4 * challenges (suc m)) (c .challenges)) (suc m) (Gkr.fractional-sumcheck Extension (Supplied (take (4 * challenges (suc m)) (c .challenges))) (c .asserted) m (node (c .rows)) nothing)
+-- answers of two numbers differ
+pub unlike : (a a′ : Answer) → (answerReport a .number ≡ answerReport a′ .number → ⊥) → a ≡ a′ → ⊥
+unlike a a′ h e = h (ap (λ x. answerReport x .number) e)
+
+-- WHAT IS LEFT
+
+pub done-refused : (n : ℕ) (s : Frac) (e : Refusal) → Done n s ≡ Refused e → ⊥
+done-refused n s e h = let z : _≡_ {A = ℕ} 0 1 = cc in omega arith
+
+module _ (n : ℕ) where
+  quiet : (e : Refusal) → (answerReport (Refused e) .number ≡ 8 → ⊥) → Left n (untouched e)
+  quiet e d =
+      record {
+        done = λ k s h. absurd (done-refused k s e (sym h));
+        eight = λ h. absurd (unlike (Refused e) (Refused NonZeroRootSum) d h);
+        other = λ x q h. refl;
+      }
+
+  ends-left : Ends (Left n) n
+  ends-left =
+      record {
+        finishes = λ ch P. record {
+          done = λ k s h. let e : n ≡ k = cc in ap (λ (j : ℕ). replicate (workRoom j) 0) e;
+          eight = λ h. absurd (done-refused n _ NonZeroRootSum h);
+          other = λ x q h. absurd (done-refused n _ x h);
+        };
+        eight = record {
+          done = λ k s h. absurd (done-refused k s NonZeroRootSum (sym h));
+          eight = λ h. refl;
+          other = λ x q h. absurd (q (let e : x ≡ NonZeroRootSum = cc in e));
+        };
+        nine = quiet SingleRow (λ z. omega arith);
+      }
+
+pub wiping : Wiping
+wiping c r =
+    let n = roundsOf (rowCount (c .rows)) in
+    each-front (Left n) c r
+    (both (λ m. quiet n RaggedRows (λ z. omega arith)) (λ u1.
+    both (λ m. quiet n TooManyRows (λ z. omega arith)) (λ u2.
+    both (λ m. quiet n NotPowerOfTwo (λ z. omega arith)) (λ u3.
+    both (λ m. quiet n ShortChallenges (λ z. omega arith)) (λ u4.
+    both (λ m. quiet n ShortRoom (λ z. omega arith)) (λ u5.
+    both (λ m. quiet n BadWord (λ z. omega arith)) (λ u6.
+    both (λ m. quiet n BadWord (λ z. omega arith)) (λ u7.
+    both (λ m. quiet n (ZeroDenominator _) (λ z. omega arith)) (λ u8.
+    each-end (Left n) (c .rows) (c .asserted) (c .challenges) n (ends-left n))))))))))

@@ -28,7 +28,8 @@ use Rattle.stored.specs.Elements.{encoded}
 use Rattle.stored_writer.specs.Messages.{storedProof, readProof}
 use Rattle.run.specs.Runs.{origin, begun, RunOf}
 use Rattle.run.proofs.Whole.{past}
-use Rattle.prover.specs.Proved.{over, pointWords}
+use Rattle.refusal.specs.Fronts.{over}
+use Rattle.prover.specs.Proved.{lent, pointWords}
 use Rattle.prover.specs.Inner.{runOf, Written}
 use Rattle.prover.proofs.Transcribed.{Extends, proof-there}
 
@@ -92,7 +93,7 @@ pub written : (f : ℕ → Frac E.Ext) (asserted : Bool) (m n : ℕ) (ch pf pf' 
     → Clean pt' → length pt ≡ 4 * n → length pt' ≡ 4 * n
     → proofSize n ≤ length pf → length pf' ≡ length pf → pf' ≡ layout (storedProof lg₂ (pos .put / 4) (n - 1)) ++ drop (proofSize n) pf
     → ws' ≡ replicate (length ws₁) 0 → length ws₁ ≡ length ws
-    → Written f asserted m ch (record { proof = pf; point = pt; log = lg; work = ws }) (record { proof = pf'; point = pt'; log = lg₂; work = ws' })
+    → Written f asserted m ch (lent pf pt lg ws) (lent pf' pt' lg₂ ws')
 written f asserted m n ch pf pf' pt pt' lg lg₁ lg₂ ws ws₁ ws' pos z root e h s l₁ R u l₂ c lp lp' kp kf ep ew lw =
     let run : Words → Gkr.Proved Extension (Supplied ch) = Gkr.run Extension (Supplied ch) m f in
     let t : logOf lg₁ pos ≡ begun asserted (Tree.tree ExtRing f (suc m) 0 .p) = s .log ∙ ap (begun asserted) (h .p .value) in

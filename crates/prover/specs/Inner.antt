@@ -21,7 +21,8 @@ use Rattle.stored.specs.Lengths.{proofSize}
 use Rattle.run.specs.Runs.{begun}
 use Rattle.rounds.specs.Layers.{logUpTo, usedUpTo}
 use Rattle.gate.specs.Refusals.{Rooms, rowCount, roundsOf, logRoom, workRoom}
-use Rattle.prover.specs.Proved.{Buffers, over, pointWords}
+use Rattle.refusal.specs.Fronts.{over}
+use Rattle.prover.specs.Proved.{Buffers, pointWords}
 
 -- the model's run over 2 ^ suc m rows f
 abbrev pub runOf : (f : ℕ → Frac E.Ext) (asserted : Bool) (m : ℕ) (ch : List ℕ) → Gkr.Proved Extension (Supplied ch)

@@ -1,10 +1,10 @@
--- What a call of the prover answers, and what every buffer holds after it: the refusals in their order, the model's run, and the stored forms.
+-- What a call of the prover answers and writes at the front of every buffer, and what these hold after it: the refusals in their order, the model's run, and the stored forms.
 -- Assumes nothing.
 use mathlib.Core.Bool.{Bool, cond, not, _&&_}
 use mathlib.Core.List.{List, [], _∷_, _++_}
 use Prim.Native.Nat.{ℕ, zero, suc, _*_}
 use lib.Dec.{eqb}
-use lib.ListN.{length, take, drop, replicate}
+use lib.ListN.{length, take, replicate}
 use Rattle.field.specs.Ext as E
 use Rattle.field.specs.Extension.{Extension}
 use Rattle.field.specs.Element.{enc, words}
@@ -18,10 +18,10 @@ use Rattle.step.specs.declared.Frac.{Frac as FracW}
 use Rattle.tree.specs.Nodes.{node}
 use Rattle.stored.specs.Layout.{layout}
 use Rattle.stored.specs.Elements.{encoded}
+use Rattle.refusal.specs.Tests.{Tested, passed, refused}
+use Rattle.refusal.specs.Fronts.{over}
 use Rattle.refusal.specs.declared.Refusal.{Refusal}
 use Rattle.refusal.specs.declared.Refusal.the-variants.{NonZeroRootSum, SingleRow}
-use Rattle.gate.specs.declared.Gate.{Gate}
-use Rattle.gate.specs.declared.Gate.the-variants.{Open, Shut}
 use Rattle.gate.specs.Refusals.{Call, Rooms, rowCount, roundsOf, workRoom, firstRefusal}
 use Rattle.prover.specs.declared.Answer.{Answer}
 use Rattle.prover.specs.declared.Answer.the-variants.{Done, Refused}
@@ -33,16 +33,23 @@ pub record Buffers : Type 0 where
   pub log : List ℕ
   pub work : List ℕ
 
+abbrev pub lent : (proof point log work : List ℕ) → Buffers
+lent proof point log work = record { proof = proof; point = point; log = log; work = work }
+
 abbrev pub roomsOf : Buffers → Rooms
 roomsOf b = record { proof = length (b .proof); point = length (b .point); log = length (b .log); work = length (b .work) }
 
+-- an answer, and four lists: the words that a call writes, or what the buffers hold after it
 pub record Outcome : Type 0 where
   pub answer : Answer
   pub buffers : Buffers
 
--- ws at the front of a buffer, and the rest as before
-abbrev pub over : (ws buffer : List ℕ) → List ℕ
-over ws buffer = ws ++ drop (length ws) buffer
+abbrev pub outcome : Answer → (proof point log work : List ℕ) → Outcome
+outcome answer proof point log work = record { answer = answer; buffers = record { proof = proof; point = point; log = log; work = work } }
+
+-- the words of a front at the fronts of the buffers, and the rest as before
+abbrev pub laid : (front : Outcome) → Buffers → Outcome
+laid f b = outcome (f .answer) (over (f .buffers .proof) (b .proof)) (over (f .buffers .point) (b .point)) (over (f .buffers .log) (b .log)) (over (f .buffers .work) (b .work))
 
 -- the words of a point, in order
 unfoldable pub pointWords : List E.Ext → List ℕ
@@ -52,28 +59,18 @@ pointWords (x ∷ xs) = words x ++ pointWords xs
 abbrev pub encFrac : Frac E.Ext → FracW
 encFrac x = record { p = enc (x .p); q = enc (x .q) }
 
-abbrev pub refused : Refusal → Buffers → Outcome
-refused r b = record { answer = Refused r; buffers = b }
+-- a refusal that writes nothing
+abbrev pub untouched : Refusal → Outcome
+untouched e = outcome (Refused e) [] [] [] []
 
--- the workspace that n rounds need is zero
-abbrev pub wiped : (n : ℕ) (work : List ℕ) → List ℕ
-wiped n work = over (replicate (workRoom n) 0) work
-
-abbrev pub finished : (ch : List ℕ) (n : ℕ) (b : Buffers) → Gkr.Proved Extension (Supplied ch) → Outcome
-finished ch n b P = record {
-  answer = Done n (encFrac (P .sum));
-  buffers = record {
-    proof = over (layout (encoded (P .proof))) (b .proof);
-    point = over (pointWords (P .point)) (b .point);
-    log = over (P .log .log) (b .log);
-    work = wiped n (b .work);
-  };
-}
+-- n rounds are done: the workspace that they need is zero
+abbrev pub finished : (ch : List ℕ) (n : ℕ) → Gkr.Proved Extension (Supplied ch) → Outcome
+finished ch n P = outcome (Done n (encFrac (P .sum))) (layout (encoded (P .proof))) (pointWords (P .point)) (P .log .log) (replicate (workRoom n) 0)
 
 -- what the model answers over n rounds, with the challenges ch
-abbrev pub after : (ch : List ℕ) (n : ℕ) (b : Buffers) → Gkr.Answer Extension (Supplied ch) → Outcome
-after ch n b (done P) = finished ch n b P
-after ch n b non-zero-root-sum = record { answer = Refused NonZeroRootSum; buffers = record { proof = b .proof; point = b .point; log = b .log; work = wiped n (b .work) } }
+abbrev pub after : (ch : List ℕ) (n : ℕ) → Gkr.Answer Extension (Supplied ch) → Outcome
+after ch n (done P) = finished ch n P
+after ch n non-zero-root-sum = outcome (Refused NonZeroRootSum) [] [] [] (replicate (workRoom n) 0)
 
 -- one row is never proved
 abbrev pub oneRow : (rows : List ℕ) (asserted : Bool) → Refusal
@@ -83,15 +80,17 @@ abbrev pub nothing : Words
 nothing = record { log = []; used = 0 }
 
 -- n rounds: 0 for no rows and for one row; else over 2 ^ n rows
-abbrev pub ran : (rows : List ℕ) (asserted : Bool) (ch : List ℕ) (n : ℕ) (b : Buffers) → Outcome
-ran rows asserted ch zero b = cond (eqb (rowCount rows) 0) (finished [] 0 b (Gkr.no-rows Extension (Supplied []) nothing)) (refused (oneRow rows asserted) b)
-ran rows asserted ch (suc m) b =
-    let needed = take (4 * challenges (suc m)) ch in
-    after needed (suc m) b (Gkr.fractional-sumcheck Extension (Supplied needed) asserted m (node rows) nothing)
+abbrev pub ran : (rows : List ℕ) (asserted : Bool) (ch : List ℕ) (n : ℕ) → Outcome
+ran rows asserted ch zero = cond (eqb (rowCount rows) 0) (finished [] 0 (Gkr.no-rows Extension (Supplied []) nothing)) (untouched (oneRow rows asserted))
+ran rows asserted ch (suc m) = let needed = take (4 * challenges (suc m)) ch in after needed (suc m) (Gkr.fractional-sumcheck Extension (Supplied needed) asserted m (node rows) nothing)
 
-abbrev pub entered : (c : Call) (b : Buffers) → Gate → Outcome
-entered c b (Shut r) = refused r b
-entered c b Open = ran (c .rows) (c .asserted) (c .challenges) (roundsOf (rowCount (c .rows))) b
+abbrev pub entered : Call → Tested → Outcome
+entered c (refused e) = untouched e
+entered c passed = ran (c .rows) (c .asserted) (c .challenges) (roundsOf (rowCount (c .rows)))
+
+-- the answer, and the words at the front of each buffer
+unfoldable pub fronts : Call → Rooms → Outcome
+fronts c r = entered c (firstRefusal c r)
 
 unfoldable pub proved : Call → Buffers → Outcome
-proved c b = entered c b (firstRefusal c (roomsOf b))
+proved c b = laid (fronts c (roomsOf b)) b

@@ -16,8 +16,8 @@ ghost use Rattle.transcript.specs.Log.{Supplied};
 ghost use Rattle.step.specs.Values.{CanonFrac, IsFrac};
 ghost use Rattle.tree.specs.Nodes.{node};
 ghost use Rattle.rounds.specs.Layers.{Levels};
-ghost use Rattle.gate.specs.Refusals.{rowCount, roundsOf};
-ghost use Rattle.prover.specs.Proved.{oneRow, nothing, after, ran, proved};
+ghost use Rattle.gate.specs.Refusals.{call, rooms, rowCount, roundsOf};
+ghost use Rattle.prover.specs.Proved.{lent, outcome, laid, oneRow, nothing, after, ran, proved};
 ghost use Rattle.prover.specs.Inner.{Written, Room, Opens};
 ghost use Rattle.prover.specs.Report.{answerReport};
 use field::Ext;
@@ -46,7 +46,9 @@ fn write_run(
 )
     requires room { ⌜ Room asserted n size (length (now challenges)) (length (now proof)) (length (now xi)) (length (now log)) (length (now work)) ⌝ }
     requires clean { ⌜ Clean (now work) × Clean (now challenges) × CanonFrac root ⌝ }
-    ensures { λ _. ⌜ ((f : ℕ → Fraction E.Ext) (m : ℕ) → n ≡ suc m → Levels f (now (work .entry)) n 0 → IsFrac root (Tree.tree ExtRing f (suc m) 0) → Written f asserted m (now (challenges .entry)) (record { proof = now (proof .entry); point = now (xi .entry); log = now (log .entry); work = now (work .entry) }) (record { proof = now (proof .exit); point = now (xi .exit); log = now (log .exit); work = now (work .exit) })) ⌝ }
+    ensures { λ _. ⌜ ((f : ℕ → Fraction E.Ext) (m : ℕ) → n ≡ suc m → Levels f (now (work .entry)) n 0 → IsFrac root (Tree.tree ExtRing f (suc m) 0)
+        → Written f asserted m (now (challenges .entry)) (lent (now (proof .entry)) (now (xi .entry)) (now (log .entry)) (now (work .entry)))
+        (lent (now (proof .exit)) (now (xi .exit)) (now (log .exit)) (now (work .exit)))) ⌝ }
 {
     let pos = run::begin(log, asserted, root.p);
     run::run_rounds(n, size, root.q, work, xi, log, challenges, pos);
@@ -79,7 +81,9 @@ fn prove(
 ) -> Answer
     requires room { ⌜ Room asserted n size (length (now challenges)) (length (now proof)) (length (now xi)) (length (now log)) (length (now work)) × (8 * size ≤ length (now rows)) ⌝ }
     requires clean { ⌜ Clean (now rows) × Clean (now challenges) ⌝ }
-    ensures { λ r. ⌜ ((m : ℕ) → n ≡ suc m → record { answer = r; buffers = record { proof = now (proof .exit); point = now (xi .exit); log = now (log .exit); work = now (work .exit) } } ≡ after (now (challenges .entry)) n (record { proof = now (proof .entry); point = now (xi .entry); log = now (log .entry); work = now (work .entry) }) (Gkr.fractional-sumcheck Extension (Supplied (now (challenges .entry))) asserted m (node (now (rows .entry))) nothing)) ⌝ }
+    ensures { λ r. ⌜ ((m : ℕ) → n ≡ suc m → outcome r (now (proof .exit)) (now (xi .exit)) (now (log .exit)) (now (work .exit))
+        ≡ laid (after (now (challenges .entry)) n (Gkr.fractional-sumcheck Extension (Supplied (now (challenges .entry))) asserted m (node (now (rows .entry))) nothing))
+        (lent (now (proof .entry)) (now (xi .entry)) (now (log .entry)) (now (work .entry)))) ⌝ }
 {
     let root = run::sum_rows(rows, size, work);
     if contradicts(asserted, root.p) {
@@ -107,7 +111,7 @@ fn one_row(rows: &[u32], asserted: bool) -> Refusal
 // No rounds: no rows are done, with the 23 bytes of their proof; one row is refused.
 fn no_rounds(rows: &[u32], asserted: bool, proof: &mut [u8]) -> Answer
     requires { ⌜ (length (now rows) ≡ 8 * rowCount (now rows)) × (23 ≤ length (now proof)) × Clean (now rows) ⌝ }
-    ensures { λ r. ⌜ ((pt lg ws : List ℕ) → record { answer = r; buffers = record { proof = now (proof .exit); point = pt; log = lg; work = ws } } ≡ ran (now (rows .entry)) asserted [] 0 (record { proof = now (proof .entry); point = pt; log = lg; work = ws })) ⌝ }
+    ensures { λ r. ⌜ ((pt lg ws : List ℕ) → outcome r (now (proof .exit)) pt lg ws ≡ laid (ran (now (rows .entry)) asserted [] 0) (lent (now (proof .entry)) pt lg ws)) ⌝ }
 {
     if rows.len() / 8 == 0 {
         stored_writer::put_no_rows(proof);
@@ -132,8 +136,10 @@ fn admitted(
     log: &mut [u32],
     work: &mut [u32],
 ) -> Answer
-    requires { ⌜ Opens (now rows) asserted (now challenges) (record { proof = length (now proof); point = length (now point); log = length (now log); work = length (now work) }) ⌝ }
-    ensures { λ r. ⌜ record { answer = r; buffers = record { proof = now (proof .exit); point = now (point .exit); log = now (log .exit); work = now (work .exit) } } ≡ ran (now (rows .entry)) asserted (now (challenges .entry)) (roundsOf (rowCount (now (rows .entry)))) (record { proof = now (proof .entry); point = now (point .entry); log = now (log .entry); work = now (work .entry) }) ⌝ }
+    requires { ⌜ Opens (now rows) asserted (now challenges) (rooms (length (now proof)) (length (now point)) (length (now log)) (length (now work))) ⌝ }
+    ensures { λ r. ⌜ outcome r (now (proof .exit)) (now (point .exit)) (now (log .exit)) (now (work .exit))
+        ≡ laid (ran (now (rows .entry)) asserted (now (challenges .entry)) (roundsOf (rowCount (now (rows .entry)))))
+        (lent (now (proof .entry)) (now (point .entry)) (now (log .entry)) (now (work .entry))) ⌝ }
 {
     let size = gate::least_size(rows.len() / 8);
     let n = size.n;
@@ -168,7 +174,9 @@ pub fn fractional_sumcheck(
     log: &mut [u32],
     work: &mut [u32],
 ) -> Answer
-    ensures { λ r. ⌜ record { answer = r; buffers = record { proof = now (proof .exit); point = now (point .exit); log = now (log .exit); work = now (work .exit) } } ≡ proved (record { rows = now (rows .entry); live = live; asserted = «assert_zero»; challenges = now (challenges .entry) }) (record { proof = now (proof .entry); point = now (point .entry); log = now (log .entry); work = now (work .entry) }) ⌝ }
+    ensures { λ r. ⌜ outcome r (now (proof .exit)) (now (point .exit)) (now (log .exit)) (now (work .exit))
+        ≡ proved (call (now (rows .entry)) live «assert_zero» (now (challenges .entry)))
+        (lent (now (proof .entry)) (now (point .entry)) (now (log .entry)) (now (work .entry))) ⌝ }
 {
     let gate = gate::first_refusal(
         rows,

@@ -2,7 +2,7 @@ use lib.Seq.{length-take-le}
 use mathlib.Core.Path.{sym, _∙_}
 use borrow.Author.Tests.{not-true, not-false}
 use Rattle.wire.specs.WordLaws.{canonical-below}
-use Rattle.gate.proofs.Admitting.{refuse-1, refuse-2, refuse-3, refuse-4, refuse-5, refuse-6, refuse-6', refuse-7, refuse-none}
+use Rattle.gate.proofs.Admitting.{refuse-1, refuse-2, refuse-3, refuse-4, refuse-5, refuse-6, refuse-6', sandbox-passes, refuse-7, live-passes}
 use native.Mathlib.Omega.{arith}
 use borrow.Author.Needs.{needs}
 use Rattle.gate.proofs.first_refusal.Statement.{statement}
@@ -10,7 +10,7 @@ use Rattle.gate.proofs.first_refusal.Tie as tie
 use Rattle.gate.proofs.first_refusal.Reads as reads
 use Rattle.gate.proofs.first_refusal.Lts as lts
 use Rattle.gate.proofs.challenge_words.Reads as challenge-words-reads
-use Rattle.gate.proofs.check_rows.Reads as check-rows-reads
+use Rattle.gate.proofs.lowest_row.Reads as lowest-row-reads
 use Rattle.gate.proofs.is_size.Reads as is-size-reads
 use Rattle.gate.proofs.least_size.Reads as least-size-reads
 use Rattle.gate.proofs.short_room.Reads as short-room-reads
@@ -66,18 +66,23 @@ returns-7 c =
     let s = c .before .before .before .before .before .before .before .before .before .least-size .ensures in
     refuse-6' _ _ (c .before .before .before .before .before .before .before .before .before .before .before .before .before .if1 .left) (c .before .before .before .before .before .before .before .before .before .before .before .before .if2 .left) (c .before .before .before .before .before .before .before .before .before .before .before .is-size .ensures) (not-false _ (c .before .before .before .before .before .before .before .before .before .before .if3 .left)) (s .0) (c .before .before .before .before .before .before .before .before .challenge-words .ensures) (c .before .before .before .before .before .before .before .if4 .left) (c .before .before .before .before .before .before .short-room .ensures) (c .before .before .before .before .before .if5 .left) (c .before .before .before .before .canonical-words .ensures) (not-false _ (c .before .before .before .if6 .left)) (c .before .canonical-words2 .ensures) (not-true _ (c .if7 .taken))
 
-check-rows-requires : tie.Need-check-rows-requires
-check-rows-requires c κs = (omega arith, record { below = canonical-below _ (sym (c .before .before .before .before .before .canonical-words .ensures) ∙ not-false _ (c .before .before .before .before .if6 .left)) })
-
 returns-8 : tie.Need-returns-8
 returns-8 c =
-    let s = c .before .before .before .before .before .before .before .before .before .before .before .least-size .ensures in
-    refuse-7 _ _ (c .before .before .before .before .before .before .before .before .before .before .before .before .before .before .before .if1 .left) (c .before .before .before .before .before .before .before .before .before .before .before .before .before .before .if2 .left) (c .before .before .before .before .before .before .before .before .before .before .before .before .before .is-size .ensures) (not-false _ (c .before .before .before .before .before .before .before .before .before .before .before .before .if3 .left)) (s .0) (c .before .before .before .before .before .before .before .before .before .before .challenge-words .ensures) (c .before .before .before .before .before .before .before .before .before .if4 .left) (c .before .before .before .before .before .before .before .before .short-room .ensures) (c .before .before .before .before .before .before .before .if5 .left) (c .before .before .before .before .before .before .canonical-words .ensures) (not-false _ (c .before .before .before .before .before .if6 .left)) (c .before .before .before .canonical-words2 .ensures) (not-false _ (c .before .before .if7 .left)) (c .before .if8 .taken) (c .check-rows .ensures)
+    let s = c .before .before .before .before .before .before .before .before .before .before .least-size .ensures in
+    sandbox-passes _ _ (c .before .before .before .before .before .before .before .before .before .before .before .before .before .before .if1 .left) (c .before .before .before .before .before .before .before .before .before .before .before .before .before .if2 .left) (c .before .before .before .before .before .before .before .before .before .before .before .before .is-size .ensures) (not-false _ (c .before .before .before .before .before .before .before .before .before .before .before .if3 .left)) (s .0) (c .before .before .before .before .before .before .before .before .before .challenge-words .ensures) (c .before .before .before .before .before .before .before .before .if4 .left) (c .before .before .before .before .before .before .before .short-room .ensures) (c .before .before .before .before .before .before .if5 .left) (c .before .before .before .before .before .canonical-words .ensures) (not-false _ (c .before .before .before .before .if6 .left)) (c .before .before .canonical-words2 .ensures) (not-false _ (c .before .if7 .left)) (not-true _ (c .if8 .taken))
+
+lowest-row-requires : tie.Need-lowest-row-requires
+lowest-row-requires c κs = (omega arith, record { below = canonical-below _ (sym (c .before .before .before .before .before .canonical-words .ensures) ∙ not-false _ (c .before .before .before .before .if6 .left)) })
 
 returns-9 : tie.Need-returns-9
 returns-9 c =
-    let s = c .before .before .before .before .before .before .before .before .before .before .least-size .ensures in
-    refuse-none _ _ (c .before .before .before .before .before .before .before .before .before .before .before .before .before .before .if1 .left) (c .before .before .before .before .before .before .before .before .before .before .before .before .before .if2 .left) (c .before .before .before .before .before .before .before .before .before .before .before .before .is-size .ensures) (not-false _ (c .before .before .before .before .before .before .before .before .before .before .before .if3 .left)) (s .0) (c .before .before .before .before .before .before .before .before .before .challenge-words .ensures) (c .before .before .before .before .before .before .before .before .if4 .left) (c .before .before .before .before .before .before .before .short-room .ensures) (c .before .before .before .before .before .before .if5 .left) (c .before .before .before .before .before .canonical-words .ensures) (not-false _ (c .before .before .before .before .if6 .left)) (c .before .before .canonical-words2 .ensures) (not-false _ (c .before .if7 .left)) (c .if8 .left)
+    let s = c .before .before .before .before .before .before .before .before .before .before .before .before .least-size .ensures in
+    refuse-7 _ _ (c .before .before .before .before .before .before .before .before .before .before .before .before .before .before .before .before .if1 .left) (c .before .before .before .before .before .before .before .before .before .before .before .before .before .before .before .if2 .left) (c .before .before .before .before .before .before .before .before .before .before .before .before .before .before .is-size .ensures) (not-false _ (c .before .before .before .before .before .before .before .before .before .before .before .before .before .if3 .left)) (s .0) (c .before .before .before .before .before .before .before .before .before .before .before .challenge-words .ensures) (c .before .before .before .before .before .before .before .before .before .before .if4 .left) (c .before .before .before .before .before .before .before .before .before .short-room .ensures) (c .before .before .before .before .before .before .before .before .if5 .left) (c .before .before .before .before .before .before .before .canonical-words .ensures) (not-false _ (c .before .before .before .before .before .before .if6 .left)) (c .before .before .before .before .canonical-words2 .ensures) (not-false _ (c .before .before .before .if7 .left)) (not-false _ (c .before .before .if8 .left)) (c .before .lowest-row .ensures) (c .if9 .taken)
+
+returns-10 : tie.Need-returns-10
+returns-10 c =
+    let s = c .before .before .before .before .before .before .before .before .before .before .before .before .least-size .ensures in
+    live-passes _ _ (c .before .before .before .before .before .before .before .before .before .before .before .before .before .before .before .before .if1 .left) (c .before .before .before .before .before .before .before .before .before .before .before .before .before .before .before .if2 .left) (c .before .before .before .before .before .before .before .before .before .before .before .before .before .before .is-size .ensures) (not-false _ (c .before .before .before .before .before .before .before .before .before .before .before .before .before .if3 .left)) (s .0) (c .before .before .before .before .before .before .before .before .before .before .before .challenge-words .ensures) (c .before .before .before .before .before .before .before .before .before .before .if4 .left) (c .before .before .before .before .before .before .before .before .before .short-room .ensures) (c .before .before .before .before .before .before .before .before .if5 .left) (c .before .before .before .before .before .before .before .canonical-words .ensures) (not-false _ (c .before .before .before .before .before .before .if6 .left)) (c .before .before .before .before .canonical-words2 .ensures) (not-false _ (c .before .before .before .if7 .left)) (not-false _ (c .before .before .if8 .left)) (c .before .lowest-row .ensures) (c .if9 .left)
 
 pub first-refusal-spec : {M : Type 1} → statement M
 first-refusal-spec =
@@ -97,6 +102,7 @@ first-refusal-spec =
     slice-aggregate-canonical-words
     canonical-words-requires-2
     returns-7
-    check-rows-requires
     returns-8
-    returns-9)
+    lowest-row-requires
+    returns-9
+    returns-10)

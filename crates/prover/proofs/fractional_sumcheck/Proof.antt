@@ -1,6 +1,6 @@
 use mathlib.Core.Path.{sym, _∙_}
 use Rattle.prover.proofs.Opening.{gate-opens}
-use Rattle.prover.proofs.Answering.{proved-shut, proved-open}
+use Rattle.prover.proofs.Answering.{told-open, proved-shut, proved-open}
 use borrow.Author.Needs.{needs}
 use Rattle.prover.proofs.fractional_sumcheck.Statement.{statement}
 use Rattle.prover.proofs.fractional_sumcheck.Tie as tie
@@ -19,7 +19,7 @@ enum-told : tie.Need-enum-told
 enum-told c = search needs
 
 admitted-requires : tie.Need-admitted-requires
-admitted-requires c κs = gate-opens _ _ (sym (c .before .before .before .before .before .before .first-refusal .ensures) ∙ c .before .before .before .before .enum-told .given .1)
+admitted-requires c κs = gate-opens _ _ (told-open _ (sym (c .before .before .before .before .enum-told .given .1) ∙ c .before .before .before .before .before .before .first-refusal .ensures))
 
 returns : tie.Need-returns
 returns c = proved-shut _ _ (c .before .before .before .first-refusal .ensures) (c .before .gate .given .1)

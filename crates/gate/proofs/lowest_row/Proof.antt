@@ -1,18 +1,18 @@
 use Prim.Native.Nat.{_≤_, _-_}
 use mathlib.Core.Path.{_≡_, ap}
-use Rattle.gate.specs.Refusals.{checkRows}
+use Rattle.gate.specs.Refusals.{lowest}
 use Rattle.gate.proofs.Admitting.{row-told, rows-next, rows-here, rows-end}
 use borrow.Author.Needs.{needs}
 use native.Mathlib.Omega.{arith}
-use Rattle.gate.proofs.check_rows.Statement.{statement}
-use Rattle.gate.proofs.check_rows.Tie as tie
-use Rattle.gate.proofs.check_rows.Reads as reads
-use Rattle.gate.proofs.check_rows.Lts as lts
+use Rattle.gate.proofs.lowest_row.Statement.{statement}
+use Rattle.gate.proofs.lowest_row.Tie as tie
+use Rattle.gate.proofs.lowest_row.Reads as reads
+use Rattle.gate.proofs.lowest_row.Lts as lts
 use Rattle.gate.proofs.is_degenerate.Reads as is-degenerate-reads
 use Rattle.tree.proofs.load_node.Reads as load-node-reads
 
 abbrev Inv-loop : tie.InvT-loop
-Inv-loop rows count row₀ row = (row ≤ count) × (checkRows rows count 0 ≡ checkRows rows (count - row) row)
+Inv-loop rows count row₀ row = (row ≤ count) × (lowest rows count 0 ≡ lowest rows (count - row) row)
 
 abbrev μ-loop : tie.MeasureT-loop
 μ-loop rows count row₀ row = count - row
@@ -20,7 +20,7 @@ abbrev μ-loop : tie.MeasureT-loop
 loop-holds : tie.Need-loop-holds Inv-loop μ-loop
 loop-holds c =
     let z : c .before .args .count ≡ c .before .args .count - 0 = omega arith in
-    (search needs, ap (λ k. checkRows (c .before .args .rows .now) k 0) z)
+    (search needs, ap (λ k. lowest (c .before .args .rows .now) k 0) z)
 
 load-node-requires : tie.Need-load-node-requires Inv-loop μ-loop
 load-node-requires c κs = search needs
@@ -43,8 +43,8 @@ loop-again c = (search needs, rows-next _ _ (c .before .before .before .before .
 returns-2 : tie.Need-returns-2 Inv-loop μ-loop
 returns-2 c = rows-end _ _ (c .before .loop .row) (omega arith) (c .before .loop .inv .1)
 
-pub check-rows-spec : {M : Type 1} → statement M
-check-rows-spec =
+pub lowest-row-spec : {M : Type 1} → statement M
+lowest-row-spec =
     tie.close
     (tie.spec
     Inv-loop
