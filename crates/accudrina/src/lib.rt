@@ -1,5 +1,6 @@
 // The functions that C and Rust call: a number is returned, and sixteen words of answer are written.
 ghost use mathlib.Core.Path.{_≡_};
+ghost use Rattle.verifier.specs.Verified.{asked, lent};
 ghost use Rattle.accudrina.specs.Calls.{reading, proving, verifying, evaluating};
 
 mod answer; // the sixteen words
@@ -57,7 +58,7 @@ pub extern "C" fn accudrina_verify(
     log: &mut [u32],
     answer: &mut [u32; 16],
 ) -> u32
-    ensures { λ r. ⌜ record { told = record { number = r; words = now (answer .exit) }; buffers = record { point = now (point .exit); log = now (log .exit) } } ≡ verifying (now (proof .entry)) rounds (now (challenges .entry)) (record { point = now (point .entry); log = now (log .entry) }) ⌝ }
+    ensures { λ r. ⌜ record { told = record { number = r; words = now (answer .exit) }; buffers = lent (now (point .exit)) (now (log .exit)) } ≡ verifying (asked (now (proof .entry)) rounds (now (challenges .entry))) (lent (now (point .entry)) (now (log .entry))) ⌝ }
 {
     let verdict = verifier::verify_gkr(proof, rounds, challenges, point, log);
     answer::tell(report::of_verdict(verdict), answer)

@@ -16,7 +16,8 @@ use Rattle.gate.specs.declared.Gate.the-variants.{Open, Shut}
 use Rattle.gate.specs.Refusals.{Call, Rooms, rowCount, roundsOf, isSize, shortRoom, degenerate, checkRows, firstRefusal}
 use Rattle.gate.proofs.Admitting.{refuse-7, refuse-none}
 use Rattle.prover.specs.Proved.{Buffers, roomsOf}
-use Rattle.agreement.specs.Demand3.{Lent, Taken, Room}
+use Rattle.verifier.specs.Verified.{Lent}
+use Rattle.agreement.specs.Demand3.{Taken, Room}
 use Rattle.agreement.proofs.Sizing.{rounds-taken, size-taken, rows-taken, whole, counted}
 
 -- no row over zero: the check passes
