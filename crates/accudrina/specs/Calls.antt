@@ -10,7 +10,7 @@ use Rattle.evaluation.specs.Report.{evaluationReport}
 use Rattle.prover.specs.Proved.{Buffers, proved}
 use Rattle.prover.specs.Report.{answerReport}
 use Rattle.round.specs.Report.{verdictReport}
-use Rattle.verifier.specs.Verified.{verified}
+use Rattle.verifier.specs.Verified.{Asked, Lent, verified}
 use Rattle.accudrina.specs.Answer.{Told, tells}
 
 pub record Returned (B : Type 0) : Type 0 where
@@ -25,15 +25,9 @@ reading sheet rows = record { told = tells (sheetReport (sheetRead sheet rows .a
 abbrev pub proving : Call → Buffers → Returned Buffers
 proving call lent = record { told = tells (answerReport (proved call lent .answer)); buffers = proved call lent .buffers }
 
-pub record Spaces : Type 0 where
-  pub point : List ℕ
-  pub log : List ℕ
-
 -- of a proof's bytes, rounds and challenges, and the buffers for point and log
-abbrev pub verifying : (proof : List ℕ) (rounds : ℕ) (challenges : List ℕ) → Spaces → Returned Spaces
-verifying proof rounds challenges lent =
-    let end = verified proof rounds challenges (lent .point) (lent .log) in
-    record { told = tells (verdictReport (end .answer)); buffers = record { point = end .point; log = end .log } }
+abbrev pub verifying : Asked → Lent → Returned Lent
+verifying call lent = record { told = tells (verdictReport (verified call lent .answer)); buffers = verified call lent .buffers }
 
 -- of rows and a point; no buffer is lent
 abbrev pub evaluating : (rows point : List ℕ) → Told

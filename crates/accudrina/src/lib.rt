@@ -2,6 +2,7 @@
 ghost use mathlib.Core.Path.{_≡_};
 ghost use Rattle.gate.specs.Refusals.{call};
 ghost use Rattle.prover.specs.Proved.{lent};
+ghost use Rattle.verifier.specs.Verified.{asked, lent as again};
 ghost use Rattle.accudrina.specs.Calls.{reading, proving, verifying, evaluating};
 
 mod answer; // the sixteen words
@@ -60,7 +61,7 @@ pub extern "C" fn accudrina_verify(
     log: &mut [u32],
     answer: &mut [u32; 16],
 ) -> u32
-    ensures { λ r. ⌜ record { told = record { number = r; words = now (answer .exit) }; buffers = record { point = now (point .exit); log = now (log .exit) } } ≡ verifying (now (proof .entry)) rounds (now (challenges .entry)) (record { point = now (point .entry); log = now (log .entry) }) ⌝ }
+    ensures { λ r. ⌜ record { told = record { number = r; words = now (answer .exit) }; buffers = again (now (point .exit)) (now (log .exit)) } ≡ verifying (asked (now (proof .entry)) rounds (now (challenges .entry))) (again (now (point .entry)) (now (log .entry))) ⌝ }
 {
     let verdict = verifier::verify_gkr(proof, rounds, challenges, point, log);
     answer::tell(round::number_and_values(verdict), answer)

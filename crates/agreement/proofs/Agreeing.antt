@@ -6,7 +6,6 @@ use mathlib.Core.List.{List, [], _∷_, _++_}
 use Prim.Native.Nat.{ℕ, zero, suc, _+_, _*_, _^_, _<_, _≤_}
 use native.Mathlib.Omega.{arith}
 use native.Mathlib.Nat.{zero-add}
-use borrow.Author.Tests.{le-ltb, ne-eqb}
 use lib.ListN.{length, take, drop}
 use lib.Seq.{take-at}
 use Rattle.field.specs.Ext as E
@@ -16,7 +15,6 @@ use Rattle.field.specs.Element.{words}
 use Rattle.gkr.specs.Run.{Transcript, Frac, Proof}
 use Rattle.gkr.specs.Transcripts.{Words}
 use Rattle.gkr.specs.Sizes.{challenges, proof-bytes, log-words}
-use Rattle.gkr.specs.Tests.{pass, fail}
 use Rattle.gkr.specs.Tree as Tree
 use Rattle.gkr.specs.Gkr as Gkr
 use Rattle.gkr.specs.Gkr.{done, accepted}
@@ -26,7 +24,7 @@ use Rattle.gkr.specs.TranscriptLaws as TranscriptLaws
 use Rattle.transcript.specs.Log.{Supplied, wordsOf}
 use Rattle.wire.specs.Words.{allCanonical}
 use Rattle.stored.specs.Layout.{layout, proofWords}
-use Rattle.stored.specs.Parse.{parse, parsed}
+use Rattle.stored.specs.ParseLaws.{parse-reads}
 use Rattle.stored.specs.RoundTrip.{write-read}
 use Rattle.stored.specs.Elements.{encoded, decoded}
 use Rattle.tree.specs.Nodes.{node}
@@ -36,7 +34,9 @@ use Rattle.prover.specs.Proved as Prover
 use Rattle.prover.specs.declared.Answer.the-variants.{Done}
 use Rattle.round.specs.Verdicts as Verdicts
 use Rattle.verifier.specs.Verified as Verifier
-use Rattle.agreement.specs.Demand3.{Lent, Taken, root, Room, verdict, Agreed, Demand3}
+use Rattle.verifier.specs.Verified.{Lent}
+use Rattle.verifier.proofs.GateLaws.{opens-all}
+use Rattle.agreement.specs.Demand3.{Taken, root, Room, verdict, Agreed, Demand3}
 use Rattle.agreement.specs.Companions.{OtherSum}
 use Rattle.stored.specs.ElementLaws.{decoded-encoded, encoded-canonical}
 use Rattle.agreement.proofs.HonestSize.{honest-size}
@@ -60,7 +60,7 @@ module _ (c : Call) (m : ℕ) (b : Prover.Buffers) (v : Lent) (h : Taken c (suc 
   S = Supplied needed
 
   abbrev ended : Lent → Gkr.Verdict Extension S → Verifier.Outcome
-  ended v w = Verifier.ended needed w (v .point) (v .log)
+  ended v w = Verifier.laid (Verifier.ended needed w) v
 
   module _ (t : Words) (e : Gkr.fractional-sumcheck Extension S (c .asserted) m rows Prover.nothing ≡ done (Gkr.run Extension S m rows t)) where
     abbrev run : Gkr.Proved Extension S
@@ -84,22 +84,20 @@ module _ (c : Call) (m : ℕ) (b : Prover.Buffers) (v : Lent) (h : Taken c (suc 
         ∙ take-at bytes (drop (length bytes) (b .proof)) (proof-bytes (suc m)) (honest-size S m rows t)
 
     -- which the verifier reads as that proof
-    verified-run : Verifier.verified bytes (suc m) (c .challenges) (v .point) (v .log) ≡ ended v (Gkr.verify-gkr Extension S (suc m) (run .proof) Prover.nothing)
-    unfolding Verifier.verified Verifier.firstRefusal
+    verified-run : Verifier.verified (Verifier.asked bytes (suc m) (c .challenges)) v ≡ ended v (Gkr.verify-gkr Extension S (suc m) (run .proof) Prover.nothing)
+    unfolding Verifier.verified
     verified-run =
-        ap (λ w. Verifier.follow w (suc m) (c .challenges) (v .point) (v .log))
-        (fail _ _ _ (ne-eqb (suc m) 0 (λ e. omega arith))
-        ∙ fail _ _ _ (le-ltb _ _ (h .few))
-        ∙ fail _ _ _ (le-ltb _ _ (h .enough))
-        ∙ fail _ _ _ (le-ltb _ _ (r .point-again))
-        ∙ fail _ _ _ (le-ltb _ _ (r .log-again))
-        ∙ ap (Verifier.readWay needed) (write-read (encoded (run .proof)))
-        ∙ pass _ _ _ (encoded-canonical (run .proof))
-        ∙ pass _ _ _ (h .valid-challenges))
+        let a = Verifier.asked bytes (suc m) (c .challenges) in
+        let back = parse-reads bytes (encoded (run .proof)) (write-read (encoded (run .proof))) in
+        let canon = ap (λ π. allCanonical (proofWords π)) (back .proof) ∙ encoded-canonical (run .proof) in
+        ap (λ w. Verifier.laid (Verifier.fronts a w) v)
+        (opens-all a _ _ (back .reads)
+        (record { some = h .some; few = h .few; chals = h .enough; room = r .point-again; log-room = r .log-again; canon = canon; clean = h .valid-challenges }))
+        ∙ ap (λ π. ended v (Gkr.verify-gkr Extension S (suc m) (decoded π) Prover.nothing)) (back .proof)
         ∙ ap (λ π. ended v (Gkr.verify-gkr Extension S (suc m) π Prover.nothing)) (decoded-encoded (run .proof))
 
     pub verdict-run : verdict c (suc m) (Prover.proved c b) v ≡ ended v (Gkr.verify-gkr Extension S (suc m) (run .proof) Prover.nothing)
-    verdict-run = ap (λ bs. Verifier.verified bs (suc m) (c .challenges) (v .point) (v .log)) front ∙ verified-run
+    verdict-run = ap (λ bs. Verifier.verified (Verifier.asked bs (suc m) (c .challenges)) v) front ∙ verified-run
 
     pub sum-run : Prover.proved c b .answer ≡ Done (suc m) (Prover.encFrac (root c (suc m)))
     unfolding Gkr.run
@@ -127,8 +125,8 @@ module _ (c : Call) (m : ℕ) (b : Prover.Buffers) (v : Lent) (h : Taken c (suc 
   run-is : Prover.proved c b ≡ Prover.laid (Prover.finished ch (suc m) P) b
   run-is = proved-run c m b v h r′ Prover.nothing is-done
 
-  verdict-is : verdict c (suc m) (Prover.proved c b) v ≡ Verifier.ended ch (accepted (Tree.value ExtRing (node (c .rows)) (P .point)) (P .point) (P .log)) (v .point) (v .log)
-  verdict-is = verdict-run c m b v h r′ Prover.nothing is-done ∙ ap (λ w. Verifier.ended ch w (v .point) (v .log)) (theorem .1)
+  verdict-is : verdict c (suc m) (Prover.proved c b) v ≡ Verifier.laid (Verifier.ended ch (accepted (Tree.value ExtRing (node (c .rows)) (P .point)) (P .point) (P .log))) v
+  verdict-is = verdict-run c m b v h r′ Prover.nothing is-done ∙ ap (λ w. Verifier.laid (Verifier.ended ch w) v) (theorem .1)
 
   pub agreed : Agreed c (suc m) b v (Prover.proved c b) (verdict c (suc m) (Prover.proved c b) v)
   agreed =
@@ -139,10 +137,10 @@ module _ (c : Call) (m : ℕ) (b : Prover.Buffers) (v : Lent) (h : Taken c (suc 
         accepted = ap (λ o. o .answer) verdict-is;
         coordinates = Count.point-length Extension (Supplied ch) m (node (c .rows)) Prover.nothing;
         proved-point = ap (λ o. o .buffers .point) run-is;
-        verified-point = ap (λ o. o .point) verdict-is ∙ ap (λ l. over l (v .point)) (points (P .point));
+        verified-point = ap (λ o. o .buffers .point) verdict-is ∙ ap (λ l. over l (v .point)) (points (P .point));
         size = TranscriptLaws.done-words Extension wordsOf _ (λ x. refl) true m (node (c .rows)) Prover.nothing P (theorem .0) ∙ zero-add _;
         proved-log = ap (λ o. o .buffers .log) run-is;
-        verified-log = ap (λ o. o .log) verdict-is;
+        verified-log = ap (λ o. o .buffers .log) verdict-is;
       }
 
 none : (n : ℕ) → n ≡ 0 → 1 ≤ n → ⊥
@@ -173,4 +171,4 @@ other-sum c (suc m) b v h a z r =
     ap (λ s. Gkr.fractional-sumcheck Extension (Supplied ch) s m f Prover.nothing) a in
     let r′ : Room (c .asserted) (suc m) b v = subst (λ s. Room s (suc m) b v) (sym a) r in
     let n = Honest.not-zero Extension (Supplied ch) m f t Prover.nothing (differs (root c (suc m) .p) z) in
-    (sum-run c m b v h r′ t e, ap (λ o. o .answer) (verdict-run c m b v h r′ t e ∙ ap (λ w. Verifier.ended ch w (v .point) (v .log)) n))
+    (sum-run c m b v h r′ t e, ap (λ o. o .answer) (verdict-run c m b v h r′ t e ∙ ap (λ w. Verifier.laid (Verifier.ended ch w) v) n))

@@ -21,9 +21,10 @@ use Rattle.prover.specs.declared.Answer.the-variants.{Done}
 use Rattle.prover.specs.declared.Answer.the-variants.{Refused as Denied}
 use Rattle.prover.proofs.Opening.{gate-opens}
 use Rattle.verifier.specs.Verified as Verifier
+use Rattle.verifier.specs.Verified.{Lent}
 use Rattle.round.specs.declared.Verdict.{Verdict}
 use Rattle.agreement.specs.declared.Joint.the-variants.{Proved, Refused}
-use Rattle.agreement.specs.Demand3.{Lent, Taken, root, Room, verdict, Agreed}
+use Rattle.agreement.specs.Demand3.{Taken, root, Room, verdict, Agreed}
 use Rattle.agreement.specs.Together.{Joined, follow, ended, together, joined, Agrees}
 use Rattle.agreement.proofs.Sizing.{few-rounds}
 use Rattle.agreement.proofs.Agreeing.{demand-3}
@@ -74,10 +75,10 @@ module _ (c : Call) (b : Buffers) (v : Lent) where
   joined-refused {e} {pb} h d = ap (λ a. follow c v (record { answer = a; buffers = pb }) a) (sym d) ∙ ap (λ o. follow c v o (o .answer)) h
 
   pub joined-proved : {n : ℕ} {s : Frac} {pb : Buffers} {r : Answer} {w : Verdict} {pt lg : List ℕ} {size : ℕ} → _≡_ {A = Prover.Outcome} (record { answer = r; buffers = pb }) (proved c b) → r ≡ Done n s
-      → size ≡ proof-bytes n → Verifier.outcome w pt lg ≡ Verifier.verified (take size (pb .proof)) n (c .challenges) (v .point) (v .log) → joined (Proved n s w) pb (record { point = pt; log = lg }) ≡ together c b v
+      → size ≡ proof-bytes n → Verifier.outcome w pt lg ≡ Verifier.verified (Verifier.asked (take size (pb .proof)) n (c .challenges)) v → joined (Proved n s w) pb (Verifier.lent pt lg) ≡ together c b v
   unfolding together
   joined-proved {n} {s} {pb} h d k q =
-      ap (ended (record { answer = Done n s; buffers = pb })) (q ∙ ap (λ (j : ℕ). Verifier.verified (take j (pb .proof)) n (c .challenges) (v .point) (v .log)) k)
+      ap (ended (record { answer = Done n s; buffers = pb })) (q ∙ ap (λ (j : ℕ). Verifier.verified (Verifier.asked (take j (pb .proof)) n (c .challenges)) v) k)
       ∙ ap (λ a. follow c v (record { answer = a; buffers = pb }) a) (sym d)
       ∙ ap (λ o. follow c v o (o .answer)) h
 

@@ -4,16 +4,16 @@ use mathlib.Core.Path.{refl}
 use Rattle.field.specs.ExtRing.{arithmetic}
 use Rattle.field.specs.Cells.{cell}
 use Rattle.gkr.specs.Compute.{model}
+use Rattle.refusal.specs.Tests.{firstOf}
 use Rattle.wire.specs.Words.{allCanonical}
 use Rattle.wire.specs.Bytes.{bytesOf, word}
 use Rattle.stored.specs.Layout.{claimsWords, cubicsWords, polysWords, entriesBytes, layout}
-use Rattle.stored.specs.Parse.{claimsFrom, cubicsFrom, entriesFrom, entriesFit, fits, parse}
-use Rattle.refusal.specs.Tests.{firstOf}
+use Rattle.stored.specs.Parse.{claimsFrom, cubicsFrom, entriesFrom, entriesFit, fits}
 use Rattle.gate.specs.Refusals.{roundsFrom, isSize, shortRoom, degenerate, lowest, firstRefusal}
 use Rattle.prover.specs.Proved as Prover
 use Rattle.verifier.specs.Verified as Verifier
 use Rattle.agreement.specs.KTable.{Holds, K1-K10}
 
 pub all-hold : Holds K1-K10
-unfolding model arithmetic cell allCanonical bytesOf word claimsWords cubicsWords polysWords entriesBytes layout claimsFrom cubicsFrom entriesFrom entriesFit fits parse roundsFrom isSize shortRoom degenerate lowest firstOf firstRefusal Prover.pointWords Prover.fronts Prover.proved Verifier.firstRefusal Verifier.verified
+unfolding model arithmetic cell allCanonical bytesOf word claimsWords cubicsWords polysWords entriesBytes layout claimsFrom cubicsFrom entriesFrom entriesFit fits roundsFrom isSize shortRoom degenerate lowest firstOf firstRefusal Prover.pointWords Prover.fronts Prover.proved Verifier.verified
 all-hold = (refl, (refl, (refl, (refl, (refl, (refl, (refl, (refl, (refl, (refl, (refl, (refl, (refl, (refl, (refl, (refl, (refl, (refl, (refl, (refl, (refl, (refl, (refl, (refl, (refl, tt)))))))))))))))))))))))))

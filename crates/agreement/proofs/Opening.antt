@@ -16,7 +16,8 @@ use Rattle.gate.specs.Refusals.{Call, rowCount, roundsOf, isSize, shortRoom, lo
 use Rattle.gate.proofs.Admitting.{both}
 use Rattle.prover.specs.Proved.{Buffers, roomsOf}
 use Rattle.prover.proofs.Modes.{lowest-none}
-use Rattle.agreement.specs.Demand3.{Lent, Taken, Room}
+use Rattle.verifier.specs.Verified.{Lent}
+use Rattle.agreement.specs.Demand3.{Taken, Room}
 use Rattle.agreement.proofs.Sizing.{rounds-taken, size-taken, rows-taken, whole, counted}
 
 module _ (c : Call) (m : ℕ) (b : Buffers) (v : Lent) (h : Taken c (suc m)) (r : Room (c .asserted) (suc m) b v) where

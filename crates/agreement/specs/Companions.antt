@@ -10,7 +10,8 @@ use Rattle.gate.specs.Refusals.{Call}
 use Rattle.prover.specs.Proved.{Buffers, encFrac, proved}
 use Rattle.prover.specs.declared.Answer.the-variants.{Done}
 use Rattle.round.specs.declared.Verdict.the-variants.{Refused as TurnedAway}
-use Rattle.agreement.specs.Demand3.{Lent, Taken, root, Room, verdict}
+use Rattle.verifier.specs.Verified.{Lent}
+use Rattle.agreement.specs.Demand3.{Taken, root, Room, verdict}
 
 -- ANOTHER SUM, not asserted: the prover is done, and the verifier answers 16 with that sum
 abbrev pub OtherSum : Type 0

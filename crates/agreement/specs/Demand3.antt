@@ -19,15 +19,8 @@ use Rattle.gate.specs.Refusals.{Call, shortRoom, degenerate}
 use Rattle.prover.specs.Proved as Prover
 use Rattle.prover.specs.declared.Answer.the-variants.{Done}
 use Rattle.verifier.specs.Verified as Verifier
+use Rattle.verifier.specs.Verified.{Lent}
 use Rattle.round.specs.declared.Verdict.the-variants.{Accepted}
-
--- the buffers lent to the verifier
-pub record Lent : Type 0 where
-  pub point : List ℕ
-  pub log : List ℕ
-
-abbrev pub again : (point log : List ℕ) → Lent
-again point log = record { point = point; log = log }
 
 -- a sheet that both take: 2 ^ n rows and enough challenges, all valid words, n from 1 to the limit, and in live mode the row check passed
 pub record Taken (c : Call) (n : ℕ) : Type 0 where
@@ -51,7 +44,7 @@ pub record Room (asserted : Bool) (n : ℕ) (b : Prover.Buffers) (v : Lent) : Ty
 
 -- what the verifier makes of that proof's bytes, n and the same challenges
 abbrev pub verdict : (c : Call) (n : ℕ) (P : Prover.Outcome) (v : Lent) → Verifier.Outcome
-verdict c n P v = Verifier.verified (take (proof-bytes n) (P .buffers .proof)) n (c .challenges) (v .point) (v .log)
+verdict c n P v = Verifier.verified (Verifier.asked (take (proof-bytes n) (P .buffers .proof)) n (c .challenges)) v
 
 -- THE AGREEMENT of a prover's outcome P over the buffers b and a verifier's outcome Q over the buffers v
 pub record Agreed (c : Call) (n : ℕ) (b : Prover.Buffers) (v : Lent) (P : Prover.Outcome) (Q : Verifier.Outcome) : Type 0 where
@@ -64,10 +57,10 @@ pub record Agreed (c : Call) (n : ℕ) (b : Prover.Buffers) (v : Lent) (P : Prov
   -- the point is one, and so is the log
   pub coordinates : length point ≡ n
   pub proved-point : P .buffers .point ≡ over (Prover.pointWords point) (b .point)
-  pub verified-point : Q .point ≡ over (Prover.pointWords point) (v .point)
+  pub verified-point : Q .buffers .point ≡ over (Prover.pointWords point) (v .point)
   pub size : length logged ≡ log-words true n
   pub proved-log : P .buffers .log ≡ over logged (b .log)
-  pub verified-log : Q .log ≡ over logged (v .log)
+  pub verified-log : Q .buffers .log ≡ over logged (v .log)
 
 -- THE DEMAND: zero asserted, and the root numerator zero
 abbrev pub Demand3 : Type 0

@@ -22,10 +22,11 @@ use Rattle.prover.specs.Proved as Prover
 use Rattle.prover.specs.declared.Answer.{Answer}
 use Rattle.prover.specs.declared.Answer.the-variants.{Done, Refused}
 use Rattle.verifier.specs.Verified as Verifier
+use Rattle.verifier.specs.Verified.{Lent}
 use Rattle.round.specs.declared.Verdict.{Verdict}
 use Rattle.round.specs.declared.Verdict.the-variants.{Accepted}
 use Rattle.round.specs.declared.Verdict.the-variants.{Refused as TurnedAway}
-use Rattle.agreement.specs.Demand3.{Lent, verdict}
+use Rattle.agreement.specs.Demand3.{verdict}
 
 -- what is asked, and what is to come out
 pub record Case : Type 1 where
@@ -160,5 +161,5 @@ K1-K10 =
     ∷ equals (E.mul x² x²) (el 11)
     ∷ equals (E.mul x³ x³) (ext 0 0 11 0)
     ∷ equals (Interpolate.cubic Extension (el 0) (el 1) (el 8) (el 27) (el 4)) (el 64)
-    ∷ record { Answers = Verdict; asked = Verifier.verified K10 1 (Prover.pointWords (el 5 ∷ [])) (room-again 1 .point) (room-again 1 .log) .answer; expected = TurnedAway (RootConsistencyCheckFailed (enc (el 5)) (enc (el 4))) }
+    ∷ record { Answers = Verdict; asked = Verifier.verified (Verifier.asked K10 1 (Prover.pointWords (el 5 ∷ []))) (room-again 1) .answer; expected = TurnedAway (RootConsistencyCheckFailed (enc (el 5)) (enc (el 4))) }
     ∷ []

@@ -7,9 +7,10 @@ use Rattle.prover.specs.declared.Answer.{Answer}
 use Rattle.prover.specs.declared.Answer.the-variants.{Done}
 use Rattle.prover.specs.declared.Answer.the-variants.{Refused as Denied}
 use Rattle.verifier.specs.Verified as Verifier
+use Rattle.verifier.specs.Verified.{Lent}
 use Rattle.agreement.specs.declared.Joint.{Joint}
 use Rattle.agreement.specs.declared.Joint.the-variants.{Proved, Refused}
-use Rattle.agreement.specs.Demand3.{Lent, verdict, Agreed}
+use Rattle.agreement.specs.Demand3.{verdict, Agreed}
 
 -- a prover that refuses leaves the verifier's buffers as they were
 pub data Joined : Type 0 where
@@ -26,7 +27,7 @@ together c b v = follow c v (Prover.proved c b) (Prover.proved c b .answer)
 
 -- an answer and the buffers after it
 abbrev pub joined : Joint → Prover.Buffers → Lent → Joined
-joined (Proved n s w) b v = ended (record { answer = Done n s; buffers = b }) (record { answer = w; point = v .point; log = v .log })
+joined (Proved n s w) b v = ended (record { answer = Done n s; buffers = b }) (record { answer = w; buffers = v })
 joined (Refused e) b v = stopped (record { answer = Denied e; buffers = b }) v
 
 abbrev pub Agrees : (c : Call) (n : ℕ) (b : Prover.Buffers) (v : Lent) → Joined → Type 0

@@ -10,7 +10,7 @@ use Rattle.prover.specs.declared.Answer.the-variants.{Refused as Denied}
 use Rattle.round.specs.declared.Verdict.{Verdict}
 use Rattle.agreement.specs.declared.Joint.{Joint}
 use Rattle.agreement.specs.declared.Joint.the-variants.{Proved, Refused}
-use Rattle.agreement.specs.Demand3.{Lent}
+use Rattle.verifier.specs.Verified.{Lent}
 use Rattle.agreement.specs.Together.{Joined, stopped, ended, together, joined}
 
 -- an answer, and the buffers of both after it
@@ -30,7 +30,7 @@ endedBy (Denied e) w = Refused e
 
 abbrev readOff : Joined → Outcome
 readOff (stopped P v) = record { answer = stoppedBy (P .answer); buffers = P .buffers; again = v }
-readOff (ended P Q) = record { answer = endedBy (P .answer) (Q .answer); buffers = P .buffers; again = record { point = Q .point; log = Q .log } }
+readOff (ended P Q) = record { answer = endedBy (P .answer) (Q .answer); buffers = P .buffers; again = Q .buffers }
 
 read-off : (a : Joint) (b : Prover.Buffers) (v : Lent) → readOff (joined a b v) ≡ record { answer = a; buffers = b; again = v }
 read-off (Proved n s w) b v = refl

@@ -165,23 +165,23 @@ module _ (bs pt₀ pt lg₀ lg ch : List ℕ) (claims₀ claims polys₀ polys n
       }
 
 -- ---- round 0
-module _ (bs lg lg₁ ch : List ℕ) (polys n : ℕ) (q0 : Ext) (c : LayerClaims) (pt₁ : List ℕ) (a : Advance) (x : q0 ≡ elem (drop 5 bs)) (y : claimsIn c ≡ claimsOf (drop 22 bs))
-    (d : Rooted pt₁ lg lg₁ ch (dec q0) (decClaims (claimsIn c)) (record { put = 0; used = 0 }) a) where
-  there : Rooted pt₁ lg lg₁ ch (dec (elem (drop 5 bs))) (decClaims (claimsOf (drop 22 bs))) (record { put = 0; used = 0 }) a
-  there = subst (λ e. Rooted pt₁ lg lg₁ ch (dec e) (decClaims (claimsOf (drop 22 bs))) (record { put = 0; used = 0 }) a) x (subst (λ e. Rooted pt₁ lg lg₁ ch (dec q0) (decClaims e) (record { put = 0; used = 0 }) a) y d)
+module _ (bs lg lg₁ ch : List ℕ) (polys n : ℕ) (pos : Pos) (q0 : Ext) (c : LayerClaims) (pt₁ : List ℕ) (a : Advance) (x : q0 ≡ elem (drop 5 bs)) (y : claimsIn c ≡ claimsOf (drop 22 bs))
+    (d : Rooted pt₁ lg lg₁ ch (dec q0) (decClaims (claimsIn c)) pos a) where
+  there : Rooted pt₁ lg lg₁ ch (dec (elem (drop 5 bs))) (decClaims (claimsOf (drop 22 bs))) pos a
+  there = subst (λ e. Rooted pt₁ lg lg₁ ch (dec e) (decClaims (claimsOf (drop 22 bs))) pos a) x (subst (λ e. Rooted pt₁ lg lg₁ ch (dec q0) (decClaims e) pos a) y d)
 
-  pub root-stop : (pt' : List ℕ) (e : Refusal) → a ≡ Stopped e → RootEnd bs pt' lg lg₁ ch polys n (Stopped e)
-  root-stop pt' e q = subst (Advances lg lg₁ pt₁ ch (record { put = 0; used = 0 }) 1 24 1 _) q there _ _
+  pub root-stop : (pt' : List ℕ) (e : Refusal) → a ≡ Stopped e → RootEnd bs pt' lg lg₁ ch polys n pos (Stopped e)
+  root-stop pt' e q = subst (Advances lg lg₁ pt₁ ch pos 1 24 1 _) q there _ _
 
-  pub root-goes : (s : Layer) → a ≡ Next s → Goes lg lg₁ pt₁ ch (record { put = 0; used = 0 }) 1 24 1 (λ mss cs. Gkr.root Extension (Supplied ch) (dec (elem (drop 5 bs))) (decClaims (claimsOf (drop 22 bs))) cs mss (logOf lg (record { put = 0; used = 0 }))) s
-  root-goes s q = subst (Advances lg lg₁ pt₁ ch (record { put = 0; used = 0 }) 1 24 1 _) q there
+  pub root-goes : (s : Layer) → a ≡ Next s → Goes lg lg₁ pt₁ ch pos 1 24 1 (λ mss cs. Gkr.root Extension (Supplied ch) (dec (elem (drop 5 bs))) (decClaims (claimsOf (drop 22 bs))) cs mss (logOf lg pos)) s
+  root-goes s q = subst (Advances lg lg₁ pt₁ ch pos 1 24 1 _) q there
 
-  pub root-end : (pt' lg' : List ℕ) (s : Layer) (r : Advance) → a ≡ Next s → length lg₁ ≡ length lg → LayersEnd bs pt₁ pt' lg₁ lg' ch 86 polys n s r → RootEnd bs pt' lg lg' ch polys n r
+  pub root-end : (pt' lg' : List ℕ) (s : Layer) (r : Advance) → a ≡ Next s → length lg₁ ≡ length lg → LayersEnd bs pt₁ pt' lg₁ lg' ch 86 polys n s r → RootEnd bs pt' lg lg' ch polys n pos r
   root-end pt' lg' s r q l e =
       let g = root-goes s q in
-      ended-before lg lg₁ lg' ch (record { put = 0; used = 0 }) (s .pos) (omega (arith, g .steps .put)) (g .steps .rest) l pt' n _ _ r (g .verdict _ _) e
+      ended-before lg lg₁ lg' ch pos (s .pos) (omega (arith, g .steps .put)) (g .steps .rest) l pt' n _ _ r (g .verdict _ _) e
 
-  pub root-space : (s : Layer) → a ≡ Next s → length lg₁ ≡ length lg → (m k : ℕ) → Space lg ch (record { put = 24; used = 1 }) m k → Space lg₁ ch (s .pos) m k
+  pub root-space : (s : Layer) → a ≡ Next s → length lg₁ ≡ length lg → (m k : ℕ) → Space lg ch (record { put = pos .put + 24; used = pos .used + 1 }) m k → Space lg₁ ch (s .pos) m k
   root-space s q l m k p =
       let g = root-goes s q in
       record { put = omega (arith, g .steps .put, p .put, l); used = omega (arith, g .steps .used, p .used) }

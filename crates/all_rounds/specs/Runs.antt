@@ -2,7 +2,7 @@
 -- Assumes nothing.
 use mathlib.Core.Path.{_≡_}
 use mathlib.Core.Bool.{true}
-use mathlib.Core.List.{List, [], _∷_, _++_, map}
+use mathlib.Core.List.{List, _∷_, _++_, map}
 use Prim.Native.Nat.{ℕ, _+_, _*_, _-_, _≤_}
 use lib.ListN.{length, getD, drop}
 use Rattle.field.specs.Ext as E
@@ -128,10 +128,9 @@ pub record Going (bs pt₀ pt lg₀ lg ch : List ℕ) (claims₀ claims polys₀
   pub points : length pt ≡ length pt₀
   pub logs : length lg ≡ length lg₀
 
--- from round 0 on, over an empty log
-abbrev pub RootEnd : (bs pt' lg lg' ch : List ℕ) (polys n : ℕ) (r : Advance) → Type 0
-RootEnd bs pt' lg lg' ch polys n r =
-    Ends lg lg' pt' ch (record { put = 0; used = 0 }) n
-    (Gkr.root Extension (Supplied ch) (dec (elem (drop 5 bs))) (decClaims (claimsOf (drop 22 bs))) (map decClaims (claimsFrom (n - 1) (drop 86 bs))) (map (map decCubic) (entriesFrom (n - 1) (drop polys bs)))
-    (record { log = []; used = 0 }))
+-- from round 0 on
+abbrev pub RootEnd : (bs pt' lg lg' ch : List ℕ) (polys n : ℕ) (pos : Pos) (r : Advance) → Type 0
+RootEnd bs pt' lg lg' ch polys n pos r =
+    Ends lg lg' pt' ch pos n
+    (Gkr.root Extension (Supplied ch) (dec (elem (drop 5 bs))) (decClaims (claimsOf (drop 22 bs))) (map decClaims (claimsFrom (n - 1) (drop 86 bs))) (map (map decCubic) (entriesFrom (n - 1) (drop polys bs))) (logOf lg pos))
     r

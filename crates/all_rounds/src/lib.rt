@@ -126,7 +126,7 @@ pub fn verify_rounds(
     Advance::Next(s)
 }
 
-// Round 0 and all after it.
+// Round 0 and all after it, from where the log stands.
 pub fn verify_all(
     proof: &[u8],
     polys: usize,
@@ -134,16 +134,16 @@ pub fn verify_all(
     point: &mut [u32],
     log: &mut [u32],
     challenges: &[u32],
+    pos: Pos,
 ) -> Advance
     requires read { ⌜ (1 ≤ rounds) × (22 + 64 * rounds ≤ length (now proof)) × Readable (now proof) 86 polys (rounds - 1) ⌝ }
-    requires room { ⌜ (4 * rounds ≤ length (now point)) × Space (now log) (now challenges) (record { put = 24; used = 1 }) (rounds - 1) 1 ⌝ }
+    requires room { ⌜ (4 * rounds ≤ length (now point)) × Space (now log) (now challenges) (record { put = pos .put + 24; used = pos .used + 1 }) (rounds - 1) 1 ⌝ }
     requires clean { ⌜ Clean (now point) × Clean (now challenges) ⌝ }
     requires words { ⌜ Canon (elem (drop 5 (now proof))) × CanonClaims (claimsOf (drop 22 (now proof))) ⌝ }
-    ensures { λ r. ⌜ RootEnd (now (proof .entry)) (now (point .exit)) (now (log .entry)) (now (log .exit)) (now (challenges .entry)) polys rounds r ⌝ }
+    ensures { λ r. ⌜ RootEnd (now (proof .entry)) (now (point .exit)) (now (log .entry)) (now (log .exit)) (now (challenges .entry)) polys rounds pos r ⌝ }
 {
     let q0 = wire::element_at(proof, 5);
     let c = stored::read_claims(proof, 22);
-    let pos = Pos { put: 0, used: 0 };
     match round::verify_root(q0, c, point, log, challenges, pos) {
         Advance::Next(s) => verify_rounds(proof, 86, polys, rounds, point, log, challenges, s),
         Advance::Stopped(refusal) => Advance::Stopped(refusal),

@@ -11,8 +11,9 @@ use Rattle.gkr.specs.Sizes.{point-words}
 use Rattle.gate.specs.Refusals.{Call}
 use Rattle.prover.specs.Proved as Prover
 use Rattle.verifier.specs.Verified as Verifier
+use Rattle.verifier.specs.Verified.{Lent}
 use Rattle.round.specs.declared.Verdict.the-variants.{Accepted}
-use Rattle.agreement.specs.Demand3.{Lent, Taken, root, Room, verdict}
+use Rattle.agreement.specs.Demand3.{Taken, root, Room, verdict}
 use Rattle.evaluation.specs.declared.Evaluation.{Evaluation}
 use Rattle.evaluation.specs.declared.Evaluation.the-variants.{Done}
 use Rattle.evaluation.specs.Evaluated.{evaluated}
@@ -26,7 +27,7 @@ pub record Compared (rows : List ℕ) (n : ℕ) (P : Prover.Outcome) (Q : Verifi
   pub numer : Ext
   pub denom : Ext
   pub claimed : Q .answer ≡ Accepted numer denom
-  pub at-verified : at-front rows n (Q .point) ≡ Done n numer denom
+  pub at-verified : at-front rows n (Q .buffers .point) ≡ Done n numer denom
   pub at-proved : at-front rows n (P .buffers .point) ≡ Done n numer denom
 
 abbrev pub Comparison : Type 0

@@ -11,9 +11,8 @@ use Rattle.gkr.specs.Sizes.{challenges, point-words, log-words}
 use Rattle.refusal.specs.Limits.{maxRounds}
 use Rattle.gate.specs.Refusals.{Call, roundsOf, isSize, logRoom, shortRoom}
 use Rattle.prover.specs.Proved.{Buffers, roomsOf}
-use Rattle.agreement.specs.Demand3.{Lent}
+use Rattle.verifier.specs.Verified.{Lent}
 use Rattle.agreement.proofs.Sizing.{rounds-taken, size-taken, counted}
-use Rattle.accudrina.specs.Calls.{Spaces}
 use Rattle.accudrina.specs.Rooms.{logWords, rounds}
 use Rattle.exported.specs.Exported.{Premises}
 use Rattle.exported.specs.Asked.{asked, ForProver, ForVerifier, Sheet, Demand3Asked}
@@ -22,9 +21,6 @@ use Rattle.exported.proofs.ProverLent.{roomy}
 use Rattle.exported.proofs.Exporting.{demand-3-exported}
 
 module _ (c : Call) (n : ℕ) (b : Buffers) (v : Lent) (s : Sheet c n) where
-  abbrev again : Spaces
-  again = record { point = v .point; log = v .log }
-
   -- the question about the rows answers n
   answers-n : asked c ≡ n
   answers-n =
@@ -33,7 +29,7 @@ module _ (c : Call) (n : ℕ) (b : Buffers) (v : Lent) (s : Sheet c n) where
   one-or-more : eqb n 0 ≡ false
   one-or-more = ne-eqb n 0 (λ e. omega (arith, s .some))
 
-  module _ (h : ForProver n c b) (k : ForVerifier n (c .challenges) again) where
+  module _ (h : ForProver n c b) (k : ForVerifier n (c .challenges) v) where
     few : n ≤ maxRounds
     few = s .few
 
@@ -65,4 +61,4 @@ module _ (c : Call) (n : ℕ) (b : Buffers) (v : Lent) (s : Sheet c n) where
 pub demand-3-asked : Demand3Asked
 demand-3-asked c n b v s h k =
     let e = answers-n c n b v s in
-    demand-3-exported c n b v (premises c n b v s (subst (λ j. ForProver j c b) e h) (subst (λ j. ForVerifier j (c .challenges) (again c n b v s)) e k))
+    demand-3-exported c n b v (premises c n b v s (subst (λ j. ForProver j c b) e h) (subst (λ j. ForVerifier j (c .challenges) v) e k))

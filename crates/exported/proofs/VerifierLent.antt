@@ -1,23 +1,26 @@
 -- A verifier's caller who asked is never refused as 4 or 5.
 -- Assumes nothing.
-use mathlib.Core.Path.{_≡_, refl, subst}
-use mathlib.Core.Bool.{true, false}
+use mathlib.Core.Path.{_≡_, refl, ap₂, subst}
+use mathlib.Core.Bool.{true, false, not, _||_}
 use mathlib.Core.List.{List}
 use Prim.Native.Nat.{ℕ, _*_, _≤_}
 use borrow.Author.Tests.{le-ltb, ltb-false}
 use lib.Dec.{eqb, ltb}
-use lib.ListN.{length}
+use lib.ListN.{length, getD}
 use Rattle.gkr.specs.Tests.{either}
 use Rattle.gkr.specs.Sizes as Sizes
 use Rattle.gkr.specs.Gkr.{accepted, zero-rounds, layer-count, poly-count, zero-check, root-check, subround-count, layer-check}
 use Rattle.refusal.specs.Limits.{maxRounds}
+use Rattle.refusal.specs.Tests.{Tested, firstOf}
 use Rattle.wire.specs.Words.{allCanonical}
 use Rattle.stored.specs.Layout.{proofWords}
-use Rattle.stored.specs.Parse.{Parsed, bad-version, bad-length, parsed, parse}
+use Rattle.stored.specs.Parse as Parse
+use Rattle.stored.specs.Parse.{proofOf}
 use Rattle.gate.specs.Refusals.{logRoom}
 use Rattle.round.specs.Verdicts.{Model, answerOf}
 use Rattle.verifier.specs.Verified as Verifier
-use Rattle.accudrina.specs.Calls.{Spaces}
+use Rattle.verifier.specs.Verified.{Asked, Lent, needed, fronts}
+use Rattle.verifier.specs.Gates.{verdict}
 use Rattle.round.specs.Report.{verdictReport}
 use Rattle.exported.specs.Asked.{ForVerifier, NotShort, VerifierNotShort}
 use Rattle.exported.proofs.Lending.{never, fits, lent, log-room, other}
@@ -33,32 +36,25 @@ model ch (root-check expected actual t) = other 17 refl refl
 model ch (subround-count round expected actual t) = other 18 refl refl
 model ch (layer-check round expected actual t) = other 19 refl refl
 
-module _ (n : ℕ) (ch : List ℕ) (v : Spaces) where
-  abbrev Passed : Verifier.Way → Type 0
-  Passed w = NotShort (verdictReport (Verifier.follow w n ch (v .point) (v .log) .answer) .number)
-
-  abbrev needed : List ℕ
-  needed = Verifier.needed n ch
-
-  read : (p : Parsed) → Passed (Verifier.readWay needed p)
-  read bad-version = other 12 refl refl
-  read bad-length = other 13 refl refl
-  read (parsed π) =
-      either Passed (allCanonical (proofWords π)) _ _
-      (λ e. either Passed (allCanonical needed) _ _ (λ e. model needed (Verifier.verdict π n needed)) (λ e. other 6 refl refl))
-      (λ e. other 6 refl refl)
+module _ (a : Asked) (v : Lent) where
+  abbrev Passed : Tested → Type 0
+  Passed w = NotShort (verdictReport (fronts a w .answer) .number)
 
   -- the log of one round or more
-  logged : n ≤ maxRounds → eqb n 0 ≡ false → ForVerifier n ch v → ltb (length (v .log)) (Sizes.log-words true n) ≡ false
-  logged few some h = le-ltb _ _ (subst (λ (k : ℕ). k ≤ length (v .log)) (log-room n some) (fits n (logRoom true n) _ few (h .log)))
+  logged : a .rounds ≤ maxRounds → eqb (a .rounds) 0 ≡ false → ForVerifier (a .rounds) (a .challenges) v → ltb (length (v .log)) (Sizes.log-words true (a .rounds)) ≡ false
+  logged few some h = le-ltb _ _ (subst (λ (k : ℕ). k ≤ length (v .log)) (log-room (a .rounds) some) (fits (a .rounds) (logRoom true (a .rounds)) _ few (h .log)))
 
 pub verifier-not-short : VerifierNotShort
-unfolding Verifier.verified Verifier.firstRefusal
-verifier-not-short proof n ch v h =
-    let P = Passed n ch v in
+unfolding Verifier.verified firstOf
+verifier-not-short a v h =
+    let P = Passed a v in
+    let n = a .rounds in
     either P (eqb n 0) _ _ (λ e. other 10 refl refl) (λ some.
     either P (ltb maxRounds n) _ _ (λ e. other 11 refl refl) (λ e.
     let few = ltb-false maxRounds n e in
-    either P (ltb (length ch) (4 * Sizes.challenges n)) _ _ (never (lent n _ _ few (h .challenges))) (λ e3.
-    either P (ltb (length (v .point)) (4 * n)) _ _ (never (lent n (4 * n) _ few (h .point))) (λ e4.
-    either P (ltb (length (v .log)) (Sizes.log-words true n)) _ _ (never (logged n ch v few some h)) (λ e5. read n ch v (parse proof))))))
+    either P (ltb (length (a .challenges)) (4 * Sizes.challenges n)) _ _ (never (lent n _ _ few (h .challenges))) (λ e3.
+    either P (ltb (length (v .point)) (4 * n) || ltb (length (v .log)) (Sizes.log-words true n)) _ _ (never (ap₂ _||_ (lent n (4 * n) _ few (h .point)) (logged a v few some h))) (λ e4.
+    either P (not (eqb (getD (a .proof) 0 0) 1)) _ _ (λ e. other 12 refl refl) (λ e5.
+    either P (not (Parse.fits (a .proof))) _ _ (λ e. other 13 refl refl) (λ e6.
+    either P (not (allCanonical (proofWords (proofOf (a .proof))))) _ _ (λ e. other 6 refl refl) (λ e7.
+    either P (not (allCanonical (needed a))) _ _ (λ e. other 6 refl refl) (λ e8. model (needed a) (verdict (a .proof) (a .rounds) (needed a))))))))))

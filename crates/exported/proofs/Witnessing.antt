@@ -8,12 +8,12 @@ use borrow.Author.Tests.{leb-true}
 use Rattle.field.specs.ExtRing.{arithmetic}
 use Rattle.field.specs.Cells.{cell}
 use Rattle.gkr.specs.Compute.{model, el, minus, frac}
+use Rattle.refusal.specs.Tests.{firstOf}
 use Rattle.wire.specs.Words.{allCanonical}
 use Rattle.wire.specs.Bytes.{bytesOf, word}
 use Rattle.stored.specs.Layout.{claimsWords, cubicsWords, polysWords, entriesBytes, layout}
-use Rattle.stored.specs.Parse.{claimsFrom, cubicsFrom, entriesFrom, entriesFit, fits, parse}
+use Rattle.stored.specs.Parse.{claimsFrom, cubicsFrom, entriesFrom, entriesFit, fits}
 use Rattle.tree.specs.Nodes.{node}
-use Rattle.refusal.specs.Tests.{firstOf}
 use Rattle.gate.specs.Refusals.{roundsFrom, isSize, shortRoom, degenerate, lowest, firstRefusal}
 use Rattle.prover.specs.Proved as Prover
 use Rattle.verifier.specs.Verified as Verifier
@@ -63,7 +63,7 @@ for-prover live =
       challenges = leb-true _ _ refl;
     }
 
-for-verifier : ForVerifier n (K3 .challenges) (record { point = room-again n .point; log = room-again n .log })
+for-verifier : ForVerifier n (K3 .challenges) (room-again n)
 unfolding Prover.pointWords
 for-verifier = record { point = leb-true _ _ refl; log = leb-true _ _ refl; challenges = leb-true _ _ refl }
 
@@ -78,7 +78,7 @@ K3-met live =
     }
 
 claims : (live : Bool) → handed (in-mode live K3) n (proving (in-mode live K3) (room n)) (room-again n) .told ≡ done 0 (frac (minus 25) (el 1))
-unfolding model arithmetic cell allCanonical bytesOf word claimsWords cubicsWords polysWords entriesBytes layout claimsFrom cubicsFrom entriesFrom entriesFit fits parse roundsFrom isSize shortRoom degenerate lowest firstOf firstRefusal Prover.pointWords Prover.fronts Prover.proved Verifier.firstRefusal Verifier.verified answerWords
+unfolding model arithmetic cell allCanonical bytesOf word claimsWords cubicsWords polysWords entriesBytes layout claimsFrom cubicsFrom entriesFrom entriesFit fits roundsFrom isSize shortRoom degenerate lowest firstOf firstRefusal Prover.pointWords Prover.fronts Prover.proved Verifier.verified answerWords
 claims true = refl
 claims false = refl
 

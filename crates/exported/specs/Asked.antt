@@ -12,8 +12,10 @@ use Rattle.wire.specs.Words.{allCanonical}
 use Rattle.tree.specs.Nodes.{node}
 use Rattle.gate.specs.Refusals.{Call, rowCount, degenerate}
 use Rattle.prover.specs.Proved.{Buffers}
-use Rattle.agreement.specs.Demand3.{Lent, root}
-use Rattle.accudrina.specs.Calls.{Spaces, proving, verifying}
+use Rattle.verifier.specs.Verified as Verifier
+use Rattle.verifier.specs.Verified.{Lent}
+use Rattle.agreement.specs.Demand3.{root}
+use Rattle.accudrina.specs.Calls.{proving, verifying}
 use Rattle.accudrina.specs.Rooms.{proofBytes, pointWords, logWords, workspaceWords, challengeWords, rounds}
 use Rattle.exported.specs.Exported.{Exchanged, handed}
 
@@ -30,7 +32,7 @@ pub record ForProver (n : ℕ) (c : Call) (b : Buffers) : Type 0 where
   pub challenges : challengeWords n ≤ length (c .challenges)
 
 -- lent to the verifier, for n rounds: two buffers and the challenges
-pub record ForVerifier (n : ℕ) (ch : List ℕ) (v : Spaces) : Type 0 where
+pub record ForVerifier (n : ℕ) (ch : List ℕ) (v : Lent) : Type 0 where
   pub point : pointWords n ≤ length (v .point)
   pub log : logWords n true ≤ length (v .log)
   pub challenges : challengeWords n ≤ length ch
@@ -45,7 +47,7 @@ abbrev pub ProverNotShort : Type 0
 ProverNotShort = (c : Call) (b : Buffers) → ForProver (asked c) c b → NotShort (proving c b .told .number)
 
 abbrev pub VerifierNotShort : Type 0
-VerifierNotShort = (proof : List ℕ) (n : ℕ) (ch : List ℕ) (v : Spaces) → ForVerifier n ch v → NotShort (verifying proof n ch v .told .number)
+VerifierNotShort = (a : Verifier.Asked) (v : Lent) → ForVerifier (a .rounds) (a .challenges) v → NotShort (verifying a v .told .number)
 
 -- DEMAND 3 FOR SUCH A CALLER
 
@@ -62,5 +64,5 @@ pub record Sheet (c : Call) (n : ℕ) : Type 0 where
 
 abbrev pub Demand3Asked : Type 0
 Demand3Asked =
-    (c : Call) (n : ℕ) (b : Buffers) (v : Lent) → Sheet c n → ForProver (asked c) c b → ForVerifier (asked c) (c .challenges) (record { point = v .point; log = v .log })
+    (c : Call) (n : ℕ) (b : Buffers) (v : Lent) → Sheet c n → ForProver (asked c) c b → ForVerifier (asked c) (c .challenges) v
     → let P = proving c b in Exchanged c n b v P (handed c n P v)

@@ -15,17 +15,18 @@ use Rattle.tree.specs.Nodes.{node}
 use Rattle.gate.specs.Refusals.{Call}
 use Rattle.refusal.specs.Fronts.{over}
 use Rattle.prover.specs.Proved.{Buffers, pointWords}
-use Rattle.agreement.specs.Demand3.{Lent, Taken, root, Room}
+use Rattle.verifier.specs.Verified.{Lent, asked}
+use Rattle.agreement.specs.Demand3.{Taken, root, Room}
 use Rattle.accudrina.specs.Answer.{Told}
-use Rattle.accudrina.specs.Calls.{Returned, Spaces, proving, verifying}
+use Rattle.accudrina.specs.Calls.{Returned, proving, verifying}
 
 -- done: the number 0 is returned, and the sixteen words are 0, a plain field, two zeros, two elements, four zeros
 abbrev pub done : (field : ℕ) → Frac E.Ext → Told
 done field f = record { number = 0; words = 0 ∷ field ∷ 0 ∷ 0 ∷ (words (f .p) ++ (words (f .q) ++ (0 ∷ 0 ∷ 0 ∷ 0 ∷ []))) }
 
 -- the verifier's call: the first bytes of the buffer with the proof, n and the same challenges
-abbrev pub handed : (c : Call) (n : ℕ) (P : Returned Buffers) (v : Lent) → Returned Spaces
-handed c n P v = verifying (take (proof-bytes n) (P .buffers .proof)) n (c .challenges) (record { point = v .point; log = v .log })
+abbrev pub handed : (c : Call) (n : ℕ) (P : Returned Buffers) (v : Lent) → Returned Lent
+handed c n P v = verifying (asked (take (proof-bytes n) (P .buffers .proof)) n (c .challenges)) v
 
 -- DEMAND 3'S PREMISES: a sheet that is taken, zero asserted, the root numerator zero, every buffer long enough
 pub record Premises (c : Call) (n : ℕ) (b : Buffers) (v : Lent) : Type 0 where
@@ -35,7 +36,7 @@ pub record Premises (c : Call) (n : ℕ) (b : Buffers) (v : Lent) : Type 0 where
   pub room : Room true n b v
 
 -- THE AGREEMENT of what the prover's call returns over the buffers b and the verifier's over the buffers v
-pub record Exchanged (c : Call) (n : ℕ) (b : Buffers) (v : Lent) (P : Returned Buffers) (Q : Returned Spaces) : Type 0 where
+pub record Exchanged (c : Call) (n : ℕ) (b : Buffers) (v : Lent) (P : Returned Buffers) (Q : Returned Lent) : Type 0 where
   pub point : List E.Ext
   pub logged : List ℕ
   -- the prover's call tells n and the sum of all rows

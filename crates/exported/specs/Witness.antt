@@ -20,7 +20,7 @@ pub record Met (c : Call) : Type 0 where
   pub premises : Premises c n (room n) (room-again n)
   pub sheet : Sheet c n
   pub for-prover : ForProver (asked c) c (room n)
-  pub for-verifier : ForVerifier (asked c) (c .challenges) (record { point = room-again n .point; log = room-again n .log })
+  pub for-verifier : ForVerifier (asked c) (c .challenges) (room-again n)
 
 -- both calls return 0; the prover's words say two rounds and the sum 0/1, the verifier's the claims −25 and 1
 pub record Accepted (c : Call) : Type 0 where

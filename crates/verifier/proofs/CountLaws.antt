@@ -18,7 +18,6 @@ use Rattle.gkr.specs.Count.{run-cost, words, draws}
 use Rattle.gkr.specs.Sizes.{challenges, log-words}
 use Rattle.gkr.specs.Gkr as Gkr
 use Rattle.gkr.specs.Gkr.{layer-count, poly-count}
-use Rattle.transcript.specs.declared.Pos.{Pos}
 use Rattle.transcript.specs.Log.{Supplied}
 use Rattle.refusal.specs.declared.Refusal.{Refusal}
 use Rattle.refusal.specs.declared.Refusal.the-variants.{IncorrectLayerCount, IncorrectSumcheckPolyCount}
@@ -28,6 +27,7 @@ use Rattle.wire.specs.WordLaws.{canonical-left, canonical-right, canonical-elem
 use Rattle.stored.specs.declared.Outline.{Outline}
 use Rattle.stored.specs.Layout.{claimsWords, polysWords}
 use Rattle.stored.specs.Parse.{claimsOf, claimsFrom, entriesFrom, entriesFit, layerCount, entryCount, polysAt, proofOf}
+use Rattle.stored.specs.Elements.{decoded}
 use Rattle.stored.specs.ParseLaws.{Shaped, claims-count, entries-count, claims-step}
 use Rattle.round.specs.declared.Advance.{Advance}
 use Rattle.round.specs.declared.Advance.the-variants.{Stopped}
@@ -38,11 +38,7 @@ use Rattle.round.specs.Rounds.{Stops}
 use Rattle.all_rounds.specs.Runs.{Readable, Space, Ends, RootEnd}
 use Rattle.all_rounds.proofs.Messages.{claim-first, claims-rest}
 use Rattle.all_rounds.proofs.RoundLaws.{map-length}
-use Rattle.verifier.specs.Verified.{decoded, verdict}
-use Rattle.verifier.specs.Gates.{Ready, Counted}
-
-abbrev start : Pos
-start = record { put = 0; used = 0 }
+use Rattle.verifier.specs.Gates.{Ready, start, verdict, Counted}
 
 abbrev empty : Words
 empty = record { log = []; used = 0 }
@@ -111,7 +107,7 @@ module _ (bs lg ch : List ℕ) (n : ℕ) (o : Outline) (some : 1 ≤ n) (s : Sha
     others-long : length (map decClaims (claimsFrom m (drop 86 bs))) ≡ m
     others-long = map-length decClaims (claimsFrom m (drop 86 bs)) ∙ claims-count m (drop 86 bs)
 
-    counted-is : verdict (proofOf bs) n ch ≡ Gkr.counted Extension (Supplied ch) m (dec (elem (drop 5 bs))) (decClaims (claimsOf (drop 22 bs)) ∷ map decClaims (claimsFrom m (drop 86 bs)))
+    counted-is : verdict bs n ch ≡ Gkr.counted Extension (Supplied ch) m (dec (elem (drop 5 bs))) (decClaims (claimsOf (drop 22 bs)) ∷ map decClaims (claimsFrom m (drop 86 bs)))
         (map (map decCubic) (entriesFrom (entryCount bs) (drop (polysAt bs) bs))) empty
     counted-is = verify-counted ch n m (decoded (proofOf bs)) empty n-is ∙ ap (λ cs. Gkr.counted Extension (Supplied ch) m (dec (elem (drop 5 bs))) cs (map (map decCubic) (entriesFrom (entryCount bs) (drop (polysAt bs) bs))) empty) first-claims
 
@@ -121,14 +117,14 @@ module _ (bs lg ch : List ℕ) (n : ℕ) (o : Outline) (some : 1 ≤ n) (s : Sha
         (counted-is ∙ polys-differ ch m (o .entries) _ _ _ _ empty others-long polys-long (λ q. h (q ∙ sym e)) ∙ ap (λ k. poly-count k (o .entries)) (sym e)) refl refl refl
 
     module _ (b : o .entries ≡ m) where
-      root-is : verdict (proofOf bs) n ch ≡ Gkr.root Extension (Supplied ch) (dec (elem (drop 5 bs))) (decClaims (claimsOf (drop 22 bs))) (map decClaims (claimsFrom m (drop 86 bs)))
+      root-is : verdict bs n ch ≡ Gkr.root Extension (Supplied ch) (dec (elem (drop 5 bs))) (decClaims (claimsOf (drop 22 bs))) (map decClaims (claimsFrom m (drop 86 bs)))
           (map (map decCubic) (entriesFrom m (drop (o .polys) bs))) empty
       root-is =
           counted-is ∙ both-right ch m _ _ _ _ empty others-long (polys-long ∙ b)
           ∙ ap₂ (λ k p. Gkr.root Extension (Supplied ch) (dec (elem (drop 5 bs))) (decClaims (claimsOf (drop 22 bs))) (map decClaims (claimsFrom m (drop 86 bs))) (map (map decCubic) (entriesFrom k (drop p bs))) empty)
           (sym (s .entries) ∙ b) (sym (s .polys))
 
-      pub root-counted : (pt' lg' : List ℕ) (r : Advance) → RootEnd bs pt' lg lg' ch (o .polys) n r → Counted bs pt' lg lg' ch n r
+      pub root-counted : (pt' lg' : List ℕ) (r : Advance) → RootEnd bs pt' lg lg' ch (o .polys) n start r → Counted bs pt' lg lg' ch n r
       root-counted pt' lg' r h = subst (λ v. Ends lg lg' pt' ch start n v r) (sym root-is) h
 
 -- ---- what the run asks

@@ -1,29 +1,33 @@
--- Each way through the checks is the definition's.
+-- Each way through the checks is the first test that is met, and where none is, what the run asks holds.
 -- Assumes nothing.
 use mathlib.Core.Path.{_≡_, refl, sym, _∙_, ap, subst}
-use mathlib.Core.Bool.{Bool, true, false, cond, not}
-use mathlib.Core.List.{List}
+use mathlib.Core.Bool.{Bool, true, false, cond, not, _||_}
+use mathlib.Core.List.{List, _∷_}
 use Prim.Native.Nat.{ℕ, _*_, _<_, _≤_}
 use native.Mathlib.Omega.{arith}
-use borrow.Author.Tests.{lt-ltb, le-ltb, eq-eqb, ne-eqb, not-true, not-false}
+use borrow.Author.Tests.{lt-ltb, le-ltb, ltb-false, eq-eqb, ne-eqb, eqb-false, not-true, not-false}
 use lib.Dec.{eqb, ltb}
-use lib.ListN.{length, take}
+use lib.ListN.{length, getD, take, drop}
+use Rattle.field.specs.declared.Ext.{Ext}
+use Rattle.gkr.specs.Run.{Proof}
 use Rattle.gkr.specs.Sizes.{challenges, log-words}
 use Rattle.refusal.specs.Limits.{maxRounds}
 use Rattle.refusal.specs.declared.Refusal.{Refusal}
 use Rattle.refusal.specs.declared.Refusal.the-variants.{ShortChallenges, ShortRoom, BadWord, ZeroRounds, TooManyRounds, BadVersion, BadLength}
+use Rattle.refusal.specs.Tests.{Test, Tested, passed, refused, test, firstOf}
+use Rattle.refusal.specs.TestLaws.{NoneMet, passed-all}
 use Rattle.wire.specs.Words.{allCanonical}
 use Rattle.stored.specs.declared.Outline.{Outline}
 use Rattle.stored.specs.declared.Shape.{Shape}
 use Rattle.stored.specs.declared.Shape.the-variants.{Good, Refused}
 use Rattle.stored.specs.Shapes.{shapeOf}
 use Rattle.stored.specs.Layout.{proofWords}
-use Rattle.stored.specs.Parse.{Parsed, bad-version, bad-length, parsed, parse, proofOf}
-use Rattle.stored.specs.ParseLaws.{Shaped, good-shape, reads-parse}
+use Rattle.stored.specs.Parse.{bad-version, bad-length, parsed, fits, parse, proofOf}
+use Rattle.stored.specs.ParseLaws.{Reads, Shaped, good-shape, reads-fits}
 use Rattle.verifier.specs.declared.Gate.{Gate}
 use Rattle.verifier.specs.declared.Gate.the-variants.{Open, Shut}
-use Rattle.verifier.specs.Verified.{needed, Way, refuse, proceed, readWay, firstRefusal}
-use Rattle.verifier.specs.Gates.{wordsGate, Gated}
+use Rattle.verifier.specs.Verified.{Asked, needed, tests}
+use Rattle.verifier.specs.Gates.{wordsGate, Opened, Gated}
 
 -- ---- the words
 pub words-shut : (bs : List ℕ) (o : Outline) (needs : List ℕ) (b : Bool) → b ≡ allCanonical (proofWords (proofOf bs)) → not b ≡ true → Shut BadWord ≡ wordsGate bs o needs
@@ -37,78 +41,119 @@ module _ (bs : List ℕ) (o : Outline) (needs : List ℕ) (b c : Bool) (e : b �
   words-open k = rw (sym e ∙ not-false b h, sym f ∙ not-false c k)
 
 -- ---- the shape
-shape-shut : (needs : List ℕ) (p : Parsed) (e : Refusal) → Refused e ≡ shapeOf p → readWay needs p ≡ refuse e
-shape-shut needs bad-version e h = let q : BadVersion ≡ e = cc in ap refuse q
-shape-shut needs bad-length e h = let q : BadLength ≡ e = cc in ap refuse q
-shape-shut needs (parsed π) e h = absurd (let z : _≡_ {A = ℕ} 0 1 = cc in omega arith)
-
--- ---- the order
-module _ (bs : List ℕ) (n : ℕ) (ch : List ℕ) (points logs : ℕ) where
-  pub way-10 : n ≡ 0 → firstRefusal bs n ch points logs ≡ refuse ZeroRounds
-  unfolding firstRefusal
-  way-10 h = rw (eq-eqb n 0 h)
-
-  module _ (h1 : n ≡ 0 → ⊥) where
-    pub way-11 : maxRounds < n → firstRefusal bs n ch points logs ≡ refuse TooManyRounds
-    unfolding firstRefusal
-    way-11 h = rw (ne-eqb n 0 h1, lt-ltb maxRounds n h)
-
-    module _ (h2 : n ≤ maxRounds) (k : ℕ) (ke : k ≡ 4 * challenges n) where
-      abbrev tests : Bool → Bool → Bool → Way
-      tests a b c = cond a (refuse ShortChallenges) (cond b (refuse ShortRoom) (cond c (refuse ShortRoom) (readWay (needed n ch) (parse bs))))
-
-      counted : firstRefusal bs n ch points logs ≡ tests (ltb (length ch) k) (ltb points (4 * n)) (ltb logs (log-words true n))
-      unfolding firstRefusal
-      counted = rw (ne-eqb n 0 h1, le-ltb maxRounds n h2, ke)
-
-      pub way-4 : length ch < k → firstRefusal bs n ch points logs ≡ refuse ShortChallenges
-      way-4 h = counted ∙ ap (λ a. tests a (ltb points (4 * n)) (ltb logs (log-words true n))) (lt-ltb (length ch) k h)
-
-      module _ (h3 : k ≤ length ch) where
-        enough : firstRefusal bs n ch points logs ≡ tests false (ltb points (4 * n)) (ltb logs (log-words true n))
-        enough = counted ∙ ap (λ a. tests a (ltb points (4 * n)) (ltb logs (log-words true n))) (le-ltb (length ch) k h3)
-
-        pub way-5 : points < 4 * n → firstRefusal bs n ch points logs ≡ refuse ShortRoom
-        way-5 h = enough ∙ ap (λ b. tests false b (ltb logs (log-words true n))) (lt-ltb points (4 * n) h)
-
-        module _ (h4 : 4 * n ≤ points) (l : ℕ) (le : l ≡ log-words true n) where
-          roomy : firstRefusal bs n ch points logs ≡ tests false false (ltb logs l)
-          roomy = enough ∙ ap (λ b. tests false b (ltb logs (log-words true n))) (le-ltb points (4 * n) h4) ∙ ap (λ m. tests false false (ltb logs m)) (sym le)
-
-          pub way-5-log : logs < l → firstRefusal bs n ch points logs ≡ refuse ShortRoom
-          way-5-log h = roomy ∙ ap (tests false false) (lt-ltb logs l h)
-
-          module _ (h5 : l ≤ logs) where
-            left : firstRefusal bs n ch points logs ≡ readWay (needed n ch) (parse bs)
-            left = roomy ∙ ap (tests false false) (le-ltb logs l h5)
-
-            pub way-12-13 : (r : Shape) (e : Refusal) → r ≡ shapeOf (parse bs) → r ≡ Refused e → firstRefusal bs n ch points logs ≡ refuse e
-            way-12-13 r e a b = left ∙ shape-shut (needed n ch) (parse bs) e (sym b ∙ a)
-
-            module _ (o : Outline) (s : Shaped bs o) where
-              read : firstRefusal bs n ch points logs ≡ cond (allCanonical (proofWords (proofOf bs))) (cond (allCanonical (needed n ch)) (proceed (proofOf bs)) (refuse BadWord)) (refuse BadWord)
-              read = left ∙ ap (readWay (needed n ch)) (reads-parse bs (s .reads))
-
-              by-words : (a b : Bool) (g : Gate) → allCanonical (proofWords (proofOf bs)) ≡ a → allCanonical (needed n ch) ≡ b → g ≡ cond a (cond b (Open o) (Shut BadWord)) (Shut BadWord)
-                  → Gated bs n ch points logs g
-              by-words true true g p q e =
-                  subst (Gated bs n ch points logs) (sym e)
-                  (record {
-                    some = omega (arith, h1);
-                    few = h2;
-                    chals = subst (λ m. m ≤ length ch) ke h3;
-                    room = h4;
-                    log-room = subst (λ m. m ≤ logs) le h5;
-                    shaped = s;
-                    canon = p;
-                    clean = q;
-                    way = read ∙ rw (p, q);
-                  })
-              by-words true false g p q e = subst (Gated bs n ch points logs) (sym e) (read ∙ rw (p, q))
-              by-words false b g p q e = subst (Gated bs n ch points logs) (sym e) (read ∙ rw p)
-
-              pub way-6 : (g : Gate) → g ≡ wordsGate bs o (take k ch) → Gated bs n ch points logs g
-              way-6 g e = by-words (allCanonical (proofWords (proofOf bs))) (allCanonical (needed n ch)) g refl refl (e ∙ ap (λ m. wordsGate bs o (take m ch)) ke)
+shape-shut : (version fit : Bool) (π : Proof Ext) (e : Refusal) (ts : List Test) → Refused e ≡ shapeOf (cond version (cond fit (parsed π) bad-length) bad-version)
+    → firstOf (test (not version) BadVersion ∷ test (not fit) BadLength ∷ ts) ≡ refused e
+unfolding firstOf
+shape-shut false fit π e ts h = let q : BadVersion ≡ e = cc in ap refused q
+shape-shut true false π e ts h = let q : BadLength ≡ e = cc in ap refused q
+shape-shut true true π e ts h = absurd (let z : _≡_ {A = ℕ} 0 1 = cc in omega arith)
 
 pub shaped-by : (bs : List ℕ) (r : Shape) (o : Outline) → r ≡ shapeOf (parse bs) → r ≡ Good o → Shaped bs o
 shaped-by bs r o a b = good-shape bs o (sym b ∙ a)
+
+-- ---- the order
+module _ (a : Asked) (points logs : ℕ) where
+  abbrev n : ℕ
+  n = a .rounds
+
+  abbrev way : Tested
+  way = firstOf (tests a points logs)
+
+  pub way-10 : n ≡ 0 → way ≡ refused ZeroRounds
+  unfolding firstOf
+  way-10 h = rw (eq-eqb n 0 h)
+
+  module _ (h1 : n ≡ 0 → ⊥) where
+    pub way-11 : maxRounds < n → way ≡ refused TooManyRounds
+    unfolding firstOf
+    way-11 h = rw (ne-eqb n 0 h1, lt-ltb maxRounds n h)
+
+    module _ (h2 : n ≤ maxRounds) (k : ℕ) (ke : k ≡ 4 * challenges n) where
+      counted : way ≡ firstOf (drop 2 (tests a points logs))
+      unfolding firstOf
+      counted = rw (ne-eqb n 0 h1, le-ltb maxRounds n h2)
+
+      pub way-4 : length (a .challenges) < k → way ≡ refused ShortChallenges
+      unfolding firstOf
+      way-4 h = counted ∙ rw (lt-ltb (length (a .challenges)) (4 * challenges n) (subst (λ m. length (a .challenges) < m) ke h))
+
+      module _ (h3 : k ≤ length (a .challenges)) where
+        enough : way ≡ firstOf (drop 3 (tests a points logs))
+        unfolding firstOf
+        enough = counted ∙ rw (le-ltb (length (a .challenges)) (4 * challenges n) (subst (λ m. m ≤ length (a .challenges)) ke h3))
+
+        pub way-5 : points < 4 * n → way ≡ refused ShortRoom
+        unfolding firstOf
+        way-5 h = enough ∙ rw (lt-ltb points (4 * n) h)
+
+        module _ (h4 : 4 * n ≤ points) (l : ℕ) (le : l ≡ log-words true n) where
+          pub way-5-log : logs < l → way ≡ refused ShortRoom
+          unfolding firstOf
+          way-5-log h = enough ∙ rw (le-ltb points (4 * n) h4, lt-ltb logs (log-words true n) (subst (λ m. logs < m) le h))
+
+          module _ (h5 : l ≤ logs) where
+            roomy : way ≡ firstOf (drop 4 (tests a points logs))
+            unfolding firstOf
+            roomy = enough ∙ rw (le-ltb points (4 * n) h4, le-ltb logs (log-words true n) (subst (λ m. m ≤ logs) le h5))
+
+            pub way-12-13 : (r : Shape) (e : Refusal) → r ≡ shapeOf (parse (a .proof)) → r ≡ Refused e → way ≡ refused e
+            unfolding parse
+            way-12-13 r e p q = roomy ∙ shape-shut (eqb (getD (a .proof) 0 0) 1) (fits (a .proof)) (proofOf (a .proof)) e (drop 6 (tests a points logs)) (sym q ∙ p)
+
+            module _ (o : Outline) (s : Shaped (a .proof) o) where
+              read : way ≡ firstOf (drop 6 (tests a points logs))
+              unfolding firstOf
+              read = roomy ∙ rw (eq-eqb (getD (a .proof) 0 0) 1 (s .reads .version), reads-fits (a .proof) (s .reads))
+
+              by-words : (x y : Bool) (g : Gate) → allCanonical (proofWords (proofOf (a .proof))) ≡ x → allCanonical (needed a) ≡ y → g ≡ cond x (cond y (Open o) (Shut BadWord)) (Shut BadWord)
+                  → Gated a points logs g
+              unfolding firstOf
+              by-words true true g p q e = subst (Gated a points logs) (sym e) (record { passes = read ∙ rw (p, q); shaped = s })
+              by-words true false g p q e = subst (Gated a points logs) (sym e) (read ∙ rw (p, q))
+              by-words false y g p q e = subst (Gated a points logs) (sym e) (read ∙ rw p)
+
+              pub way-6 : (g : Gate) → g ≡ wordsGate (a .proof) o (take k (a .challenges)) → Gated a points logs g
+              way-6 g e = by-words (allCanonical (proofWords (proofOf (a .proof)))) (allCanonical (needed a)) g refl refl (e ∙ ap (λ m. wordsGate (a .proof) o (take m (a .challenges))) ke)
+
+-- ---- what holds where no test is met
+neither : (x y : Bool) → (x || y) ≡ false → (x ≡ false) × (y ≡ false)
+neither true y h = absurd (let z : _≡_ {A = ℕ} 0 1 = cc in omega arith)
+neither false y h = (refl, h)
+
+pub record Passes (a : Asked) (points logs : ℕ) : Type 0 where
+  pub some : 1 ≤ a .rounds
+  pub few : a .rounds ≤ maxRounds
+  pub chals : 4 * challenges (a .rounds) ≤ length (a .challenges)
+  pub room : 4 * a .rounds ≤ points
+  pub log-room : log-words true (a .rounds) ≤ logs
+  pub canon : allCanonical (proofWords (proofOf (a .proof))) ≡ true
+  pub clean : allCanonical (needed a) ≡ true
+
+pub passes : {a : Asked} {points logs : ℕ} {o : Outline} → Opened a points logs o → Passes a points logs
+passes {a} {points} {logs} g =
+    let m = passed-all (tests a points logs) (g .passes) in
+    let r = neither (ltb points (4 * a .rounds)) (ltb logs (log-words true (a .rounds))) (m .1 .1 .1 .0) in
+    record {
+      some = omega (arith, eqb-false (a .rounds) 0 (m .0));
+      few = ltb-false maxRounds (a .rounds) (m .1 .0);
+      chals = ltb-false (length (a .challenges)) (4 * challenges (a .rounds)) (m .1 .1 .0);
+      room = ltb-false points (4 * a .rounds) (r .0);
+      log-room = ltb-false logs (log-words true (a .rounds)) (r .1);
+      canon = not-false _ (m .1 .1 .1 .1 .1 .1 .0);
+      clean = not-false _ (m .1 .1 .1 .1 .1 .1 .1 .0);
+    }
+
+pub opens-all : (a : Asked) (points logs : ℕ) → Reads (a .proof) → Passes a points logs → firstOf (tests a points logs) ≡ passed
+unfolding firstOf
+opens-all a points logs r h =
+    rw (
+      ne-eqb (a .rounds) 0 (λ e. omega (arith, h .some)),
+      le-ltb maxRounds (a .rounds) (h .few),
+      le-ltb (length (a .challenges)) (4 * challenges (a .rounds)) (h .chals),
+      le-ltb points (4 * a .rounds) (h .room),
+      le-ltb logs (log-words true (a .rounds)) (h .log-room),
+      eq-eqb (getD (a .proof) 0 0) 1 (r .version),
+      reads-fits (a .proof) r,
+      h .canon,
+      h .clean,
+    )

@@ -2,3 +2,4 @@ pub mod SizeLaws
 pub mod GateLaws
 pub mod CountLaws
 pub mod EndLaws
+pub mod Leaving

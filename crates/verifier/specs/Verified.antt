@@ -1,83 +1,76 @@
 -- What verify_gkr answers, and what it leaves in point and log, for every proof, rounds, challenges and room.
 -- Assumes nothing.
-use mathlib.Core.Bool.{true, cond}
-use mathlib.Core.List.{List, [], _++_, map}
+use mathlib.Core.Bool.{true, not, _||_}
+use mathlib.Core.List.{List, [], _∷_}
 use Prim.Native.Nat.{ℕ, _*_}
 use lib.Dec.{eqb, ltb}
-use lib.ListN.{length, take, drop}
-use Rattle.field.specs.Ext as E
+use lib.ListN.{length, getD, take}
 use Rattle.field.specs.Extension.{Extension}
-use Rattle.field.specs.declared.Ext.{Ext}
-use Rattle.field.specs.Element.{dec}
-use Rattle.gkr.specs.Run.{Proof}
 use Rattle.gkr.specs.Sizes.{challenges, log-words}
 use Rattle.gkr.specs.Gkr as Gkr
 use Rattle.transcript.specs.Log.{Supplied}
 use Rattle.refusal.specs.Limits.{maxRounds}
-use Rattle.refusal.specs.declared.Refusal.{Refusal}
 use Rattle.refusal.specs.declared.Refusal.the-variants.{ShortChallenges, ShortRoom, BadWord, ZeroRounds, TooManyRounds, BadVersion, BadLength}
+use Rattle.refusal.specs.Tests.{Test, Tested, passed, refused, test, firstOf}
+use Rattle.refusal.specs.Fronts.{over}
 use Rattle.wire.specs.Words.{allCanonical}
 use Rattle.stored.specs.Layout.{proofWords}
-use Rattle.stored.specs.Parse.{Parsed, bad-version, bad-length, parsed, parse}
+use Rattle.stored.specs.Parse.{fits, proofOf}
+use Rattle.stored.specs.Elements.{decoded}
 use Rattle.round.specs.declared.Verdict.{Verdict}
 use Rattle.round.specs.declared.Verdict.the-variants.{Refused}
-use Rattle.round.specs.Values.{decClaims, decCubic}
 use Rattle.round.specs.Verdicts.{Model, answerOf, pointOf, loggedBy}
 
--- an answer, and what the two buffers hold after it
-pub record Outcome : Type 0 where
-  pub answer : Verdict
+-- what a call is given: a proof's bytes, the rounds, and challenge words, four a challenge
+abbrev pub Asked : Type 0
+Asked = record { proof : List ℕ; rounds : ℕ; challenges : List ℕ }
+
+abbrev pub asked : (proof : List ℕ) (rounds : ℕ) (challenges : List ℕ) → Asked
+asked proof rounds challenges = record { proof = proof; rounds = rounds; challenges = challenges }
+
+-- the two buffers lent
+pub record Lent : Type 0 where
   pub point : List ℕ
   pub log : List ℕ
 
-abbrev pub outcome : Verdict → List ℕ → List ℕ → Outcome
-outcome answer point log = record { answer = answer; point = point; log = log }
+abbrev pub lent : (point log : List ℕ) → Lent
+lent point log = record { point = point; log = log }
 
--- words at the front, and the rest as before
-abbrev pub written : List ℕ → List ℕ → List ℕ
-written ws old = ws ++ drop (length ws) old
+-- an answer, and words for both buffers: what they hold after it, or what is written at their fronts
+pub record Outcome : Type 0 where
+  pub answer : Verdict
+  pub buffers : Lent
+
+abbrev pub outcome : Verdict → (point log : List ℕ) → Outcome
+outcome answer point log = record { answer = answer; buffers = lent point log }
 
 -- the needed challenges
-abbrev pub needed : (n : ℕ) (ch : List ℕ) → List ℕ
-needed n ch = take (4 * challenges n) ch
+abbrev pub needed : Asked → List ℕ
+needed a = take (4 * challenges (a .rounds)) (a .challenges)
 
--- a proof's words as elements
-abbrev pub decoded : Proof Ext → Proof E.Ext
-decoded π = record { q0 = dec (π .q0); claims = map decClaims (π .claims); polys = map (map decCubic) (π .polys) }
+-- the refusals before the run, by the lengths of point and log
+abbrev pub tests : Asked → (points logs : ℕ) → List Test
+tests a points logs = test (eqb (a .rounds) 0) ZeroRounds
+    ∷ test (ltb maxRounds (a .rounds)) TooManyRounds
+    ∷ test (ltb (length (a .challenges)) (4 * challenges (a .rounds))) ShortChallenges
+    ∷ test (ltb points (4 * a .rounds) || ltb logs (log-words true (a .rounds))) ShortRoom
+    ∷ test (not (eqb (getD (a .proof) 0 0) 1)) BadVersion
+    ∷ test (not (fits (a .proof))) BadLength
+    ∷ test (not (allCanonical (proofWords (proofOf (a .proof))))) BadWord
+    ∷ test (not (allCanonical (needed a))) BadWord ∷ []
 
--- the model's verifier over an empty log
-abbrev pub verdict : (π : Proof Ext) (n : ℕ) (ch : List ℕ) → Model ch
-verdict π n ch = Gkr.verify-gkr Extension (Supplied ch) n (decoded π) (record { log = []; used = 0 })
+-- what a verdict of the model answers and writes
+abbrev pub ended : (ch : List ℕ) → Model ch → Outcome
+ended ch v = outcome (answerOf ch v) (pointOf ch v) (loggedBy ch v)
 
--- its answer, point and log
-abbrev pub ended : (ch : List ℕ) → Model ch → (point log : List ℕ) → Outcome
-ended ch v point log = outcome (answerOf ch v) (written (pointOf ch v) point) (written (loggedBy ch v) log)
+-- what a call answers and writes: nothing where it is refused before the run, else what the model's verifier does over an empty log
+abbrev pub fronts : Asked → Tested → Outcome
+fronts a (refused e) = outcome (Refused e) [] []
+fronts a passed = ended (needed a) (Gkr.verify-gkr Extension (Supplied (needed a)) (a .rounds) (decoded (proofOf (a .proof))) (record { log = []; used = 0 }))
 
--- the first refusal, or a proof to run on
-pub data Way : Type 0 where
-  refuse : Refusal → Way
-  proceed : Proof Ext → Way
+-- written at the fronts of the buffers, the rest as before
+abbrev pub laid : Outcome → Lent → Outcome
+laid f b = outcome (f .answer) (over (f .buffers .point) (b .point)) (over (f .buffers .log) (b .log))
 
--- the words of the proof, then the needed challenges
-abbrev pub readWay : (needs : List ℕ) → Parsed → Way
-readWay needs bad-version = refuse BadVersion
-readWay needs bad-length = refuse BadLength
-readWay needs (parsed π) = cond (allCanonical (proofWords π)) (cond (allCanonical needs) (proceed π) (refuse BadWord)) (refuse BadWord)
-
--- 10, 11, 4, 5, 12, 13, 6
-unfoldable pub firstRefusal : (bs : List ℕ) (n : ℕ) (ch : List ℕ) (points logs : ℕ) → Way
-firstRefusal bs n ch points logs =
-    cond (eqb n 0) (refuse ZeroRounds)
-    (cond (ltb maxRounds n) (refuse TooManyRounds)
-    (cond (ltb (length ch) (4 * challenges n)) (refuse ShortChallenges)
-    (cond (ltb points (4 * n)) (refuse ShortRoom)
-    (cond (ltb logs (log-words true n)) (refuse ShortRoom)
-    (readWay (needed n ch) (parse bs))))))
-
--- a refusal changes nothing
-abbrev pub follow : Way → (n : ℕ) (ch point log : List ℕ) → Outcome
-follow (refuse e) n ch point log = outcome (Refused e) point log
-follow (proceed π) n ch point log = ended (needed n ch) (verdict π n (needed n ch)) point log
-
-unfoldable pub verified : (bs : List ℕ) (n : ℕ) (ch point log : List ℕ) → Outcome
-verified bs n ch point log = follow (firstRefusal bs n ch (length point) (length log)) n ch point log
+unfoldable pub verified : Asked → Lent → Outcome
+verified a b = laid (fronts a (firstOf (tests a (length (b .point)) (length (b .log))))) b

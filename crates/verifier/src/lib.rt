@@ -4,12 +4,11 @@ ghost use mathlib.Core.Bool.{true};
 ghost use mathlib.Core.List.{_++_};
 ghost use Prim.Native.Nat.{_+_, _*_, _≤_};
 ghost use lib.ListN.{length, take, drop};
-ghost use Rattle.stored.specs.Parse.{proofOf};
 ghost use Rattle.stored.specs.ParseLaws.{Shaped};
 ghost use Rattle.gkr.specs.Sizes.{challenges, log-words};
 ghost use Rattle.refusal.specs.Limits.{maxRounds};
 ghost use Rattle.round.specs.declared.Verdict.the-variants.{Accepted};
-ghost use Rattle.verifier.specs.Verified.{outcome, needed, verdict, ended, verified};
+ghost use Rattle.verifier.specs.Verified.{asked, lent, outcome, verified};
 ghost use Rattle.verifier.specs.Gates.{wordsGate, Gated, Opened, Ready, Counted, pointLeft, answered};
 use refusal::Refusal;
 use round::Advance;
@@ -17,6 +16,7 @@ use round::Layer;
 use round::Verdict;
 use stored::Outline;
 use stored::Shape;
+use transcript::Pos;
 
 // What the checks before the run answer.
 pub enum Gate {
@@ -56,7 +56,7 @@ fn check_words(proof: &[u8], outline: Outline, needs: &[u32]) -> Gate
 
 // The first refusal, in document 01's order.
 fn check(proof: &[u8], rounds: usize, challenges: &[u32], points: usize, logs: usize) -> Gate
-    ensures { λ r. ⌜ Gated (now (proof .entry)) rounds (now (challenges .entry)) points logs r ⌝ }
+    ensures { λ r. ⌜ Gated (asked (now (proof .entry)) rounds (now (challenges .entry))) points logs r ⌝ }
 {
     if rounds == 0 {
         return Gate::Shut(Refusal::ZeroRounds);
@@ -107,7 +107,8 @@ fn verify_counted(
             actual: entries,
         });
     }
-    all_rounds::verify_all(proof, outline.polys, rounds, xi, log, challenges)
+    let pos = Pos { put: 0, used: 0 };
+    all_rounds::verify_all(proof, outline.polys, rounds, xi, log, challenges, pos)
 }
 
 // The first n words of the point found go to the front of the room for it.
@@ -159,8 +160,8 @@ fn run(
     point: &mut [u32],
     log: &mut [u32],
 ) -> Verdict
-    requires { ⌜ Opened (now proof) rounds (now challenges) (length (now point)) (length (now log)) outline ⌝ }
-    ensures { λ r. ⌜ outcome r (now (point .exit)) (now (log .exit)) ≡ ended (needed rounds (now (challenges .entry))) (verdict (proofOf (now (proof .entry))) rounds (needed rounds (now (challenges .entry)))) (now (point .entry)) (now (log .entry)) ⌝ }
+    requires { ⌜ Opened (asked (now proof) rounds (now challenges)) (length (now point)) (length (now log)) outline ⌝ }
+    ensures { λ r. ⌜ outcome r (now (point .exit)) (now (log .exit)) ≡ verified (asked (now (proof .entry)) rounds (now (challenges .entry))) (lent (now (point .entry)) (now (log .entry))) ⌝ }
 {
     let needs = challenge_words(rounds);
     let mut xi = [0u32; 4 * refusal::MAX_ROUNDS];
@@ -177,7 +178,7 @@ pub fn verify_gkr(
     point: &mut [u32],
     log: &mut [u32],
 ) -> Verdict
-    ensures { λ r. ⌜ outcome r (now (point .exit)) (now (log .exit)) ≡ verified (now (proof .entry)) rounds (now (challenges .entry)) (now (point .entry)) (now (log .entry)) ⌝ }
+    ensures { λ r. ⌜ outcome r (now (point .exit)) (now (log .exit)) ≡ verified (asked (now (proof .entry)) rounds (now (challenges .entry))) (lent (now (point .entry)) (now (log .entry))) ⌝ }
 {
     match check(proof, rounds, challenges, point.len(), log.len()) {
         Gate::Shut(refusal) => Verdict::Refused(refusal),

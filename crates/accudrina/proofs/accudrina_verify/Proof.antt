@@ -23,7 +23,7 @@ same-length-2 c = search needs
 returns : tie.Need-returns
 returns c =
     let verdict = c .before .before .before .before .before .before .before .verify-gkr .ensures in
-    returned (c .tell .ensures) (c .before .before .number-and-values .ensures ∙ ap (λ e. verdictReport (e .answer)) verdict) (λ i. record { point = verdict i .point; log = verdict i .log })
+    returned (c .tell .ensures) (c .before .before .number-and-values .ensures ∙ ap (λ e. verdictReport (e .answer)) verdict) (ap (λ e. e .buffers) verdict)
 
 pub accudrina-verify-spec : {M : Type 1} → statement M
 accudrina-verify-spec =

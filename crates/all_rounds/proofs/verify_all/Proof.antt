@@ -29,8 +29,8 @@ verify-rounds-requires : tie.Need-verify-rounds-requires
 verify-rounds-requires c κs =
     let p = c .before .before .before .before .before .before .before .before .before .before .before .before .before .before .before .before .before .before .pre in
     let k = c .before .before .before .before .before .before .before .before .before .verify-root .kept in
-    let g = root-goes (c .before .before .before .before .before .before .before .before .before .before .before .before .before .before .before .before .before .before .args .proof .now) _ _ _ (c .before .before .before .before .before .before .before .before .before .before .before .before .before .before .before .before .before .before .args .polys) (c .before .before .before .before .before .before .before .before .before .before .before .before .before .before .before .before .before .before .args .rounds) _ _ _ _ (c .before .before .before .before .before .before .before .before .before .before .before .before .before .element-at .ensures) (c .before .before .before .before .before .before .before .before .before .before .before .before .read-claims .ensures) (c .before .before .before .before .before .before .before .before .before .verify-root .ensures) _ (c .before .before .before .s .given .1) in
-    ((p .0 .0, p .0 .2), ((omega (arith, p .1 .0 .0, k), root-space (c .before .before .before .before .before .before .before .before .before .before .before .before .before .before .before .before .before .before .args .proof .now) _ _ _ (c .before .before .before .before .before .before .before .before .before .before .before .before .before .before .before .before .before .before .args .polys) (c .before .before .before .before .before .before .before .before .before .before .before .before .before .before .before .before .before .before .args .rounds) _ _ _ _ (c .before .before .before .before .before .before .before .before .before .before .before .before .before .element-at .ensures) (c .before .before .before .before .before .before .before .before .before .before .before .before .read-claims .ensures) (c .before .before .before .before .before .before .before .before .before .verify-root .ensures) _ (c .before .before .before .s .given .1) (k .1 .1 .1 .0) _ _ (p .1 .0 .1)), (g .clean, p .1 .1 .0 .1, g .numer, g .denom)))
+    let g = root-goes (c .before .before .before .before .before .before .before .before .before .before .before .before .before .before .before .before .before .before .args .proof .now) _ _ _ (c .before .before .before .before .before .before .before .before .before .before .before .before .before .before .before .before .before .before .args .polys) (c .before .before .before .before .before .before .before .before .before .before .before .before .before .before .before .before .before .before .args .rounds) (c .before .before .before .before .before .before .before .before .before .before .before .before .before .before .before .before .before .before .args .pos) _ _ _ _ (c .before .before .before .before .before .before .before .before .before .before .before .before .before .element-at .ensures) (c .before .before .before .before .before .before .before .before .before .before .before .before .read-claims .ensures) (c .before .before .before .before .before .before .before .before .before .verify-root .ensures) _ (c .before .before .before .s .given .1) in
+    ((p .0 .0, p .0 .2), ((omega (arith, p .1 .0 .0, k), root-space (c .before .before .before .before .before .before .before .before .before .before .before .before .before .before .before .before .before .before .args .proof .now) _ _ _ (c .before .before .before .before .before .before .before .before .before .before .before .before .before .before .before .before .before .before .args .polys) (c .before .before .before .before .before .before .before .before .before .before .before .before .before .before .before .before .before .before .args .rounds) (c .before .before .before .before .before .before .before .before .before .before .before .before .before .before .before .before .before .before .args .pos) _ _ _ _ (c .before .before .before .before .before .before .before .before .before .before .before .before .before .element-at .ensures) (c .before .before .before .before .before .before .before .before .before .before .before .before .read-claims .ensures) (c .before .before .before .before .before .before .before .before .before .verify-root .ensures) _ (c .before .before .before .s .given .1) (k .1 .1 .1 .0) _ _ (p .1 .0 .1)), (g .clean, p .1 .1 .0 .1, g .numer, g .denom)))
 
 enum-known-refusal : tie.Need-enum-known-refusal
 enum-known-refusal c = search needs
@@ -42,7 +42,7 @@ same-length-2 : tie.Need-same-length-2
 same-length-2 c = omega (arith, c .before .before .before .before .before .before .before .before .before .before .before .before .before .before .verify-root .kept, c .before .before .before .before .verify-rounds .kept)
 
 returns : tie.Need-returns
-returns c = root-end (c .before .before .before .before .before .before .before .before .before .before .before .before .before .before .before .before .before .before .before .before .before .before .before .args .proof .now) _ _ _ (c .before .before .before .before .before .before .before .before .before .before .before .before .before .before .before .before .before .before .before .before .before .before .before .args .polys) (c .before .before .before .before .before .before .before .before .before .before .before .before .before .before .before .before .before .before .before .before .before .before .before .args .rounds) _ _ _ _ (c .before .before .before .before .before .before .before .before .before .before .before .before .before .before .before .before .before .before .element-at .ensures) (c .before .before .before .before .before .before .before .before .before .before .before .before .before .before .before .before .before .read-claims .ensures) (c .before .before .before .before .before .before .before .before .before .before .before .before .before .before .verify-root .ensures) (c .before .before .before .before .verify-rounds .last .1 .1 .1 .1 .0) (c .before .before .before .before .verify-rounds .last .1 .1 .1 .1 .1 .0) _ (c .before .before .before .before .verify-rounds .result) (c .before .before .before .before .before .before .before .before .s .given .1) (c .before .before .before .before .before .before .before .before .before .before .before .before .before .before .verify-root .kept .1 .1 .1 .0) (c .before .before .before .before .verify-rounds .ensures)
+returns c = root-end (c .before .before .before .before .before .before .before .before .before .before .before .before .before .before .before .before .before .before .before .before .before .before .before .args .proof .now) _ _ _ (c .before .before .before .before .before .before .before .before .before .before .before .before .before .before .before .before .before .before .before .before .before .before .before .args .polys) (c .before .before .before .before .before .before .before .before .before .before .before .before .before .before .before .before .before .before .before .before .before .before .before .args .rounds) (c .before .before .before .before .before .before .before .before .before .before .before .before .before .before .before .before .before .before .before .before .before .before .before .args .pos) _ _ _ _ (c .before .before .before .before .before .before .before .before .before .before .before .before .before .before .before .before .before .before .element-at .ensures) (c .before .before .before .before .before .before .before .before .before .before .before .before .before .before .before .before .before .read-claims .ensures) (c .before .before .before .before .before .before .before .before .before .before .before .before .before .before .verify-root .ensures) (c .before .before .before .before .verify-rounds .last .1 .1 .1 .1 .0) (c .before .before .before .before .verify-rounds .last .1 .1 .1 .1 .1 .0) _ (c .before .before .before .before .verify-rounds .result) (c .before .before .before .before .before .before .before .before .s .given .1) (c .before .before .before .before .before .before .before .before .before .before .before .before .before .before .verify-root .kept .1 .1 .1 .0) (c .before .before .before .before .verify-rounds .ensures)
 
 same-length-3 : tie.Need-same-length-3
 same-length-3 c = search needs
@@ -51,7 +51,7 @@ same-length-4 : tie.Need-same-length-4
 same-length-4 c = search needs
 
 returns-2 : tie.Need-returns-2
-returns-2 c = root-stop (c .before .before .before .before .before .before .before .before .before .before .before .before .before .before .before .before .args .proof .now) _ _ _ (c .before .before .before .before .before .before .before .before .before .before .before .before .before .before .before .before .args .polys) (c .before .before .before .before .before .before .before .before .before .before .before .before .before .before .before .before .args .rounds) _ _ _ _ (c .before .before .before .before .before .before .before .before .before .before .before .element-at .ensures) (c .before .before .before .before .before .before .before .before .before .before .read-claims .ensures) (c .before .before .before .before .before .before .before .verify-root .ensures) (c .before .before .before .before .before .before .before .verify-root .last .1 .1 .0) _ (c .before .refusal .given .1)
+returns-2 c = root-stop (c .before .before .before .before .before .before .before .before .before .before .before .before .before .before .before .before .args .proof .now) _ _ _ (c .before .before .before .before .before .before .before .before .before .before .before .before .before .before .before .before .args .polys) (c .before .before .before .before .before .before .before .before .before .before .before .before .before .before .before .before .args .rounds) (c .before .before .before .before .before .before .before .before .before .before .before .before .before .before .before .before .args .pos) _ _ _ _ (c .before .before .before .before .before .before .before .before .before .before .before .element-at .ensures) (c .before .before .before .before .before .before .before .before .before .before .read-claims .ensures) (c .before .before .before .before .before .before .before .verify-root .ensures) (c .before .before .before .before .before .before .before .verify-root .last .1 .1 .0) _ (c .before .refusal .given .1)
 
 pub verify-all-spec : {M : Type 1} → statement M
 verify-all-spec =

@@ -1,7 +1,9 @@
 use mathlib.Core.Path.{sym}
 use lib.Seq.{length-take-le}
 use Rattle.field.specs.CellLaws.{clean-zeros}
-use Rattle.verifier.proofs.EndLaws.{ready-of, over-needed, ended-is}
+use Rattle.verifier.specs.Verified.{asked, lent}
+use Rattle.verifier.proofs.GateLaws.{passes}
+use Rattle.verifier.proofs.EndLaws.{ready-of, ended-is, run-is}
 use native.Mathlib.Omega.{arith}
 use borrow.Author.Needs.{needs}
 use Rattle.verifier.proofs.run.Statement.{statement}
@@ -14,25 +16,25 @@ use Rattle.verifier.proofs.leave_point.Reads as leave-point-reads
 use Rattle.verifier.proofs.verify_counted.Reads as verify-counted-reads
 
 challenge-words-requires : tie.Need-challenge-words-requires
-challenge-words-requires c κs = (c .before .before .before .before .pre .some, c .before .before .before .before .pre .few)
+challenge-words-requires c κs = (passes (c .before .before .before .before .pre) .some, passes (c .before .before .before .before .pre) .few)
 
 slice-aggregate-verify-counted : tie.Need-slice-aggregate-verify-counted
 slice-aggregate-verify-counted c = search needs
 
 slice-aggregate-verify-counted-2 : tie.Need-slice-aggregate-verify-counted-2
-slice-aggregate-verify-counted-2 c = sym (length-take-le _ (c .before .before .before .before .before .before .before .before .args .challenges .now) (omega (arith, c .before .before .before .before .before .before .before .before .pre .chals, c .before .before .before .challenge-words .ensures)))
+slice-aggregate-verify-counted-2 c = sym (length-take-le _ (c .before .before .before .before .before .before .before .before .args .challenges .now) (omega (arith, passes (c .before .before .before .before .before .before .before .before .pre) .chals, c .before .before .before .challenge-words .ensures)))
 
 verify-counted-requires : tie.Need-verify-counted-requires
-verify-counted-requires c κs = ready-of _ _ _ _ _ _ _ _ (c .before .before .before .before .before .before .before .before .pre) (c .before .before .before .challenge-words .ensures) (omega arith) (clean-zeros 40)
+verify-counted-requires c κs = ready-of _ _ _ _ _ _ (c .before .before .before .before .before .before .before .before .pre) (c .before .before .before .challenge-words .ensures) (omega arith) (clean-zeros 40)
 
 slice-aggregate-leave-point : tie.Need-slice-aggregate-leave-point
 slice-aggregate-leave-point c = search needs
 
 mul-leave-point : tie.Need-mul-leave-point
-mul-leave-point c = omega (arith, c .before .before .before .before .before .before .before .before .before .before .before .before .before .before .pre .few)
+mul-leave-point c = omega (arith, passes (c .before .before .before .before .before .before .before .before .before .before .before .before .before .before .pre) .few)
 
 leave-point-requires : tie.Need-leave-point-requires
-leave-point-requires c κs = (omega (arith, c .before .before .before .before .before .before .before .before .before .before .before .before .before .before .pre .few, c .before .before .before .before .before .verify-counted .kept), c .before .before .before .before .before .before .before .before .before .before .before .before .before .before .pre .room)
+leave-point-requires c κs = (omega (arith, passes (c .before .before .before .before .before .before .before .before .before .before .before .before .before .before .pre) .few, c .before .before .before .before .before .verify-counted .kept), passes (c .before .before .before .before .before .before .before .before .before .before .before .before .before .before .pre) .room)
 
 answer-requires : tie.Need-answer-requires
 answer-requires c κs = search needs
@@ -44,7 +46,7 @@ same-length-2 : tie.Need-same-length-2
 same-length-2 c = search needs
 
 returns : tie.Need-returns
-returns c = over-needed (c .before .before .before .before .before .before .before .before .before .before .before .before .before .before .before .before .before .before .args .proof .now) (c .before .before .before .before .before .before .before .before .before .before .before .before .before .before .before .before .before .before .args .rounds) _ (c .before .before .before .before .before .before .before .before .before .before .before .before .before .before .before .before .before .before .args .challenges .now) (c .before .before .before .before .before .before .before .before .before .before .before .before .before .before .before .before .before .before .args .point .now) (c .before .before .before .before .before .before .before .before .before .before .before .before .before .before .before .before .before .before .args .log .now) _ (c .before .before .before .before .before .before .before .before .before .before .before .before .before .challenge-words .ensures) (ended-is _ _ _ _ _ (c .before .before .before .before .before .before .before .before .before .verify-counted .kept .1 .1 .1 .1 .0) (c .before .before .before .before .before .before .before .before .before .before .before .before .before .before .before .before .before .before .args .rounds) _ _ (c .before .before .before .before .before .before .before .before .before .verify-counted .result) _ (c .before .before .before .before .before .before .before .before .before .verify-counted .ensures) (omega (arith, c .before .before .before .before .before .before .before .before .before .before .before .before .before .before .before .before .before .before .pre .few, c .before .before .before .before .before .before .before .before .before .verify-counted .kept)) (c .before .before .before .leave-point .ensures) (c .answer .ensures))
+returns c = run-is (asked (c .before .before .before .before .before .before .before .before .before .before .before .before .before .before .before .before .before .before .args .proof .now) (c .before .before .before .before .before .before .before .before .before .before .before .before .before .before .before .before .before .before .args .rounds) (c .before .before .before .before .before .before .before .before .before .before .before .before .before .before .before .before .before .before .args .challenges .now)) (lent (c .before .before .before .before .before .before .before .before .before .before .before .before .before .before .before .before .before .before .args .point .now) (c .before .before .before .before .before .before .before .before .before .before .before .before .before .before .before .before .before .before .args .log .now)) _ _ _ (c .before .before .before .before .before .before .before .before .before .before .before .before .before .before .before .before .before .before .pre) (c .before .before .before .before .before .before .before .before .before .before .before .before .before .challenge-words .ensures) (ended-is _ _ _ _ _ (c .before .before .before .before .before .before .before .before .before .verify-counted .kept .1 .1 .1 .1 .0) (c .before .before .before .before .before .before .before .before .before .before .before .before .before .before .before .before .before .before .args .rounds) _ _ (c .before .before .before .before .before .before .before .before .before .verify-counted .result) _ (c .before .before .before .before .before .before .before .before .before .verify-counted .ensures) (omega (arith, passes (c .before .before .before .before .before .before .before .before .before .before .before .before .before .before .before .before .before .before .pre) .few, c .before .before .before .before .before .before .before .before .before .verify-counted .kept)) (c .before .before .before .leave-point .ensures) (c .answer .ensures))
 
 pub run-spec : {M : Type 1} → statement M
 run-spec =

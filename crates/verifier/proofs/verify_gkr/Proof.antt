@@ -1,4 +1,5 @@
-use Rattle.verifier.proofs.EndLaws.{opened-of, shut-of, shut-is, open-is}
+use Rattle.verifier.specs.Verified.{asked, lent}
+use Rattle.verifier.proofs.EndLaws.{opened-of, shut-is}
 use lib.ListN.{length}
 use borrow.Author.Needs.{needs}
 use Rattle.verifier.proofs.verify_gkr.Statement.{statement}
@@ -18,10 +19,10 @@ enum-known-outline : tie.Need-enum-known-outline
 enum-known-outline c = search needs
 
 run-requires : tie.Need-run-requires
-run-requires c κs = opened-of (c .before .before .before .before .before .before .before .before .before .before .args .proof .now) (c .before .before .before .before .before .before .before .before .before .before .args .rounds) (c .before .before .before .before .before .before .before .before .before .before .args .challenges .now) (length (c .before .before .before .before .before .before .before .before .before .before .args .point .now)) (length (c .before .before .before .before .before .before .before .before .before .before .args .log .now)) (c .before .before .before .before .before .check .result) _ (c .before .before .before .outline .given .1) (c .before .before .before .before .before .check .ensures)
+run-requires c κs = opened-of (asked (c .before .before .before .before .before .before .before .before .before .before .args .proof .now) (c .before .before .before .before .before .before .before .before .before .before .args .rounds) (c .before .before .before .before .before .before .before .before .before .before .args .challenges .now)) (length (c .before .before .before .before .before .before .before .before .before .before .args .point .now)) (length (c .before .before .before .before .before .before .before .before .before .before .args .log .now)) (c .before .before .before .before .before .check .result) _ (c .before .before .before .outline .given .1) (c .before .before .before .before .before .check .ensures)
 
 returns : tie.Need-returns
-returns c = shut-is (c .before .before .before .before .before .before .before .before .args .proof .now) (c .before .before .before .before .before .before .before .before .args .rounds) (c .before .before .before .before .before .before .before .before .args .challenges .now) (c .before .before .before .before .before .before .before .before .args .point .now) (c .before .before .before .before .before .before .before .before .args .log .now) _ (shut-of (c .before .before .before .before .before .before .before .before .args .proof .now) (c .before .before .before .before .before .before .before .before .args .rounds) (c .before .before .before .before .before .before .before .before .args .challenges .now) (length (c .before .before .before .before .before .before .before .before .args .point .now)) (length (c .before .before .before .before .before .before .before .before .args .log .now)) (c .before .before .before .check .result) _ (c .before .refusal .given .1) (c .before .before .before .check .ensures))
+returns c = shut-is (asked (c .before .before .before .before .before .before .before .before .args .proof .now) (c .before .before .before .before .before .before .before .before .args .rounds) (c .before .before .before .before .before .before .before .before .args .challenges .now)) (lent (c .before .before .before .before .before .before .before .before .args .point .now) (c .before .before .before .before .before .before .before .before .args .log .now)) (c .before .before .before .check .result) _ (c .before .refusal .given .1) (c .before .before .before .check .ensures)
 
 same-length : tie.Need-same-length
 same-length c = search needs
@@ -30,7 +31,7 @@ same-length-2 : tie.Need-same-length-2
 same-length-2 c = search needs
 
 returns-2 : tie.Need-returns-2
-returns-2 c = open-is (c .before .before .before .before .before .before .before .before .before .before .before .before .before .before .before .args .proof .now) (c .before .before .before .before .before .before .before .before .before .before .before .before .before .before .before .args .rounds) (c .before .before .before .before .before .before .before .before .before .before .before .before .before .before .before .args .challenges .now) (c .before .before .before .before .before .before .before .before .before .before .before .before .before .before .before .args .point .now) (c .before .before .before .before .before .before .before .before .before .before .before .before .before .before .before .args .log .now) _ _ (opened-of (c .before .before .before .before .before .before .before .before .before .before .before .before .before .before .before .args .proof .now) (c .before .before .before .before .before .before .before .before .before .before .before .before .before .before .before .args .rounds) (c .before .before .before .before .before .before .before .before .before .before .before .before .before .before .before .args .challenges .now) (length (c .before .before .before .before .before .before .before .before .before .before .before .before .before .before .before .args .point .now)) (length (c .before .before .before .before .before .before .before .before .before .before .before .before .before .before .before .args .log .now)) (c .before .before .before .before .before .before .before .before .before .before .check .result) _ (c .before .before .before .before .before .before .before .before .outline .given .1) (c .before .before .before .before .before .before .before .before .before .before .check .ensures)) (c .before .before .before .before .run .ensures)
+returns-2 c = c .before .before .before .before .run .ensures
 
 pub verify-gkr-spec : {M : Type 1} → statement M
 verify-gkr-spec =

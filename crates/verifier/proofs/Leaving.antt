@@ -1,0 +1,67 @@
+-- Isolation and what a refusal leaves, from what is laid at the fronts.
+-- Assumes nothing.
+use mathlib.Core.Path.{_≡_, refl, sym, ap, ap₂}
+use mathlib.Core.List.{List}
+use Prim.Native.Nat.{ℕ, _<_}
+use native.Mathlib.Omega.{arith}
+use lib.ListN.{length}
+use Rattle.gkr.specs.Gkr.{accepted, zero-rounds, layer-count, poly-count, zero-check, root-check, subround-count, layer-check}
+use Rattle.refusal.specs.declared.Refusal.{Refusal}
+use Rattle.refusal.specs.Numbers.{reportOf}
+use Rattle.refusal.specs.Tests.{Tested, passed, refused, firstOf}
+use Rattle.round.specs.declared.Verdict.{Verdict}
+use Rattle.round.specs.declared.Verdict.the-variants.{Refused}
+use Rattle.round.specs.Verdicts.{Model}
+use Rattle.verifier.specs.Verified.{Asked, Lent, Outcome, needed, tests, ended, fronts, laid, verified}
+use Rattle.verifier.specs.Gates.{verdict}
+use Rattle.verifier.specs.Companions.{Isolation, Untouched}
+
+pub isolation : Isolation
+unfolding verified
+isolation a b b′ p l =
+    record {
+      front = fronts a (firstOf (tests a (length (b .point)) (length (b .log))));
+      here = refl;
+      there = ap₂ (λ m k. laid (fronts a (firstOf (tests a m k))) b′) (sym p) (sym l);
+    }
+
+-- the number of a refusal that is told
+number : (e e′ : Refusal) → Refused e ≡ Refused e′ → reportOf e′ .number ≡ reportOf e .number
+number e e′ h = let q : e ≡ e′ = cc in ap (λ x. reportOf x .number) (sym q)
+
+module _ (b : Lent) (e : Refusal) where
+  -- a run that is refused leaves the point
+  run-point : (ch : List ℕ) (v : Model ch) → ended ch v .answer ≡ Refused e → laid (ended ch v) b .buffers .point ≡ b .point
+  run-point ch (accepted x z t) h = absurd (let z : _≡_ {A = ℕ} 0 1 = cc in omega arith)
+  run-point ch zero-rounds h = refl
+  run-point ch (layer-count expected actual) h = refl
+  run-point ch (poly-count expected actual) h = refl
+  run-point ch (zero-check actual t) h = refl
+  run-point ch (root-check expected actual t) h = refl
+  run-point ch (subround-count round expected actual t) h = refl
+  run-point ch (layer-check round expected actual t) h = refl
+
+  -- and the log, unless it is refused by 16 to 19
+  run-both : (ch : List ℕ) (v : Model ch) → ended ch v .answer ≡ Refused e → reportOf e .number < 16 → laid (ended ch v) b .buffers ≡ b
+  run-both ch (accepted x z t) h l = absurd (let z : _≡_ {A = ℕ} 0 1 = cc in omega arith)
+  run-both ch zero-rounds h l = refl
+  run-both ch (layer-count expected actual) h l = refl
+  run-both ch (poly-count expected actual) h l = refl
+  run-both ch (zero-check actual t) h l = absurd (omega (arith, number _ e h))
+  run-both ch (root-check expected actual t) h l = absurd (omega (arith, number _ e h))
+  run-both ch (subround-count round expected actual t) h l = absurd (omega (arith, number _ e h))
+  run-both ch (layer-check round expected actual t) h l = absurd (omega (arith, number _ e h))
+
+  point-left : (a : Asked) (w : Tested) → fronts a w .answer ≡ Refused e → laid (fronts a w) b .buffers .point ≡ b .point
+  point-left a (refused r) h = refl
+  point-left a passed h = run-point (needed a) (verdict (a .proof) (a .rounds) (needed a)) h
+
+  both-left : (a : Asked) (w : Tested) → fronts a w .answer ≡ Refused e → reportOf e .number < 16 → laid (fronts a w) b .buffers ≡ b
+  both-left a (refused r) h l = refl
+  both-left a passed h l = run-both (needed a) (verdict (a .proof) (a .rounds) (needed a)) h l
+
+pub untouched : (a : Asked) (b : Lent) → Untouched a b
+unfolding verified
+untouched a b =
+    let w = firstOf (tests a (length (b .point)) (length (b .log))) in
+    record { point = λ e h. point-left b e a w h; both = λ e h l. both-left b e a w h l }
