@@ -9,10 +9,12 @@ use lib.Dec.{eqb}
 use lib.ListN.{take, replicate}
 use Rattle.field.specs.Ext as E
 use Rattle.field.specs.Extension.{Extension}
+use Rattle.field.specs.Element.{pointWords}
+use Rattle.gkr.specs.Transcripts.{empty, Source}
 use Rattle.gkr.specs.Sizes.{challenges}
 use Rattle.gkr.specs.Gkr as Gkr
 use Rattle.gkr.specs.Gkr.{done, non-zero-root-sum}
-use Rattle.transcript.specs.Log.{Supplied}
+use Rattle.transcript.specs.Log.{Drawing, supplied, Observing}
 use Rattle.refusal.specs.declared.Refusal.{Refusal}
 use Rattle.refusal.specs.declared.Refusal.the-variants.{NonZeroRootSum, ZeroDenominator}
 use Rattle.refusal.specs.Numbers.{reportOf}
@@ -23,7 +25,7 @@ use Rattle.stored.specs.Elements.{encoded}
 use Rattle.gate.specs.declared.Gate.{Gate}
 use Rattle.gate.specs.declared.Gate.the-variants.{Open, Shut}
 use Rattle.gate.specs.Refusals.{Call, Rooms, rowCount, roundsOf, workRoom, degenerate, checkRows, firstRefusal}
-use Rattle.prover.specs.Proved.{Buffers, Outcome, roomsOf, pointWords, wiped, refused, finished, after, oneRow, nothing, ran, entered, proved}
+use Rattle.prover.specs.Proved.{Buffers, Outcome, roomsOf, wiped, refused, finished, after, oneRow, ran, entered, proved}
 use Rattle.prover.specs.declared.Answer.the-variants.{Done, Refused}
 use Rattle.agreement.specs.Companions.{Alike, Isolation, Wiping}
 use Rattle.agreement.proofs.Modes.{shut-open, Test, gated, tests, gate-tests}
@@ -37,7 +39,7 @@ module _ (b b′ : Buffers) where
   unfolding none
   alike-refused r = record { answer = refl; words = none; here = refl; there = refl }
 
-  alike-finished : (ch : List ℕ) (n : ℕ) (P : Gkr.Proved Extension (Supplied ch)) → Alike b b′ (finished ch n b P) (finished ch n b′ P)
+  alike-finished : (ch : Source E.Ext) (n : ℕ) (P : Gkr.Proved Extension (Drawing ch)) → Alike b b′ (finished ch n b P) (finished ch n b′ P)
   alike-finished ch n P =
       record {
         answer = refl;
@@ -46,7 +48,7 @@ module _ (b b′ : Buffers) where
         there = refl;
       }
 
-  alike-after : (ch : List ℕ) (n : ℕ) (a : Gkr.Answer Extension (Supplied ch)) → Alike b b′ (after ch n b a) (after ch n b′ a)
+  alike-after : (ch : Source E.Ext) (n : ℕ) (a : Gkr.Answer Extension (Drawing ch)) → Alike b b′ (after ch n b a) (after ch n b′ a)
   alike-after ch n (done P) = alike-finished ch n P
   alike-after ch n non-zero-root-sum =
       record { answer = refl; words = record { proof = []; point = []; log = []; work = replicate (workRoom n) 0 }; here = refl; there = refl }
@@ -54,12 +56,12 @@ module _ (b b′ : Buffers) where
   alike-ran : (c : Call) (n : ℕ) → Alike b b′ (ran (c .rows) (c .asserted) (c .challenges) n b) (ran (c .rows) (c .asserted) (c .challenges) n b′)
   alike-ran c zero = go (eqb (rowCount (c .rows)) 0)
     where
-      go : (t : Bool) → Alike b b′ (cond t (finished [] 0 b (Gkr.no-rows Extension (Supplied []) nothing)) (refused (oneRow (c .rows) (c .asserted)) b))
-          (cond t (finished [] 0 b′ (Gkr.no-rows Extension (Supplied []) nothing)) (refused (oneRow (c .rows) (c .asserted)) b′))
-      go true = alike-finished [] 0 (Gkr.no-rows Extension (Supplied []) nothing)
+      go : (t : Bool) → Alike b b′ (cond t (finished (supplied []) 0 b (Gkr.no-rows Extension Observing empty)) (refused (oneRow (c .rows) (c .asserted)) b))
+          (cond t (finished (supplied []) 0 b′ (Gkr.no-rows Extension Observing empty)) (refused (oneRow (c .rows) (c .asserted)) b′))
+      go true = alike-finished (supplied []) 0 (Gkr.no-rows Extension Observing empty)
       go false = alike-refused (oneRow (c .rows) (c .asserted))
-  alike-ran c (suc m) = alike-after (take (4 * challenges (suc m)) (c .challenges)) (suc m)
-      (Gkr.fractional-sumcheck Extension (Supplied (take (4 * challenges (suc m)) (c .challenges))) (c .asserted) m (node (c .rows)) nothing)
+  alike-ran c (suc m) = alike-after (supplied (take (4 * challenges (suc m)) (c .challenges))) (suc m)
+      (Gkr.fractional-sumcheck Extension (Drawing (supplied (take (4 * challenges (suc m)) (c .challenges)))) (c .asserted) m (node (c .rows)) empty)
 
   alike-entered : (c : Call) (g : Gate) → Alike b b′ (entered c b g) (entered c b′ g)
   alike-entered c (Shut r) = alike-refused r
@@ -81,7 +83,7 @@ pub record Leaves (n : ℕ) (b : Buffers) (o : Outcome) : Type 0 where
 done-refused : (n : ℕ) (s : Frac) (e : Refusal) → Done n s ≡ Refused e → ⊥
 done-refused n s e h = let z : _≡_ {A = ℕ} 0 1 = cc in omega arith
 
-leaves-finished : (b : Buffers) (ch : List ℕ) (n : ℕ) (P : Gkr.Proved Extension (Supplied ch)) → Leaves n b (finished ch n b P)
+leaves-finished : (b : Buffers) (ch : Source E.Ext) (n : ℕ) (P : Gkr.Proved Extension (Drawing ch)) → Leaves n b (finished ch n b P)
 leaves-finished b ch n P =
     record {
       done = λ k s h. let e : n ≡ k = cc in ap (λ (j : ℕ). wiped j (b .work)) e;
@@ -98,7 +100,7 @@ leaves-refused b n r z =
       other = λ e d h. refl;
     }
 
-leaves-after : (b : Buffers) (ch : List ℕ) (n : ℕ) (a : Gkr.Answer Extension (Supplied ch)) → Leaves n b (after ch n b a)
+leaves-after : (b : Buffers) (ch : Source E.Ext) (n : ℕ) (a : Gkr.Answer Extension (Drawing ch)) → Leaves n b (after ch n b a)
 leaves-after b ch n (done P) = leaves-finished b ch n P
 leaves-after b ch n non-zero-root-sum =
     record {
@@ -110,12 +112,12 @@ leaves-after b ch n non-zero-root-sum =
 leaves-ran : (b : Buffers) (c : Call) (n : ℕ) → Leaves n b (ran (c .rows) (c .asserted) (c .challenges) n b)
 leaves-ran b c zero = go (eqb (rowCount (c .rows)) 0)
   where
-    go : (t : Bool) → Leaves 0 b (cond t (finished [] 0 b (Gkr.no-rows Extension (Supplied []) nothing)) (refused (oneRow (c .rows) (c .asserted)) b))
-    go true = leaves-finished b [] 0 (Gkr.no-rows Extension (Supplied []) nothing)
+    go : (t : Bool) → Leaves 0 b (cond t (finished (supplied []) 0 b (Gkr.no-rows Extension Observing empty)) (refused (oneRow (c .rows) (c .asserted)) b))
+    go true = leaves-finished b (supplied []) 0 (Gkr.no-rows Extension Observing empty)
     go false = leaves-refused b 0 (oneRow (c .rows) (c .asserted)) (λ e. refl)
 leaves-ran b c (suc m) =
-    leaves-after b (take (4 * challenges (suc m)) (c .challenges)) (suc m)
-    (Gkr.fractional-sumcheck Extension (Supplied (take (4 * challenges (suc m)) (c .challenges))) (c .asserted) m (node (c .rows)) nothing)
+    leaves-after b (supplied (take (4 * challenges (suc m)) (c .challenges))) (suc m)
+    (Gkr.fractional-sumcheck Extension (Drawing (supplied (take (4 * challenges (suc m)) (c .challenges)))) (c .asserted) m (node (c .rows)) empty)
 
 -- the gate never answers 8
 number : Refusal → ℕ

@@ -9,10 +9,11 @@ use lib.Dec.{eqb}
 use lib.ListN.{length, take, length-take}
 use Rattle.field.specs.Ext as E
 use Rattle.field.specs.Extension.{Extension}
+use Rattle.gkr.specs.Transcripts.{empty, Source}
 use Rattle.gkr.specs.Sizes.{challenges, proof-bytes}
 use Rattle.gkr.specs.Gkr as Gkr
 use Rattle.gkr.specs.Gkr.{done, non-zero-root-sum}
-use Rattle.transcript.specs.Log.{Supplied}
+use Rattle.transcript.specs.Log.{Drawing, supplied, Observing}
 use Rattle.refusal.specs.Limits.{maxRounds}
 use Rattle.refusal.specs.declared.Refusal.{Refusal}
 use Rattle.step.specs.declared.Frac.{Frac}
@@ -21,7 +22,7 @@ use Rattle.gate.specs.declared.Gate.{Gate}
 use Rattle.gate.specs.declared.Gate.the-variants.{Open, Shut}
 use Rattle.gate.specs.Refusals.{Call, rowCount, roundsOf, firstRefusal}
 use Rattle.prover.specs.Proved as Prover
-use Rattle.prover.specs.Proved.{Buffers, roomsOf, finished, after, refused, oneRow, nothing, ran, entered, proved}
+use Rattle.prover.specs.Proved.{Buffers, roomsOf, finished, after, refused, oneRow, ran, entered, proved}
 use Rattle.prover.specs.declared.Answer.{Answer}
 use Rattle.prover.specs.declared.Answer.the-variants.{Done}
 use Rattle.prover.specs.declared.Answer.the-variants.{Refused as Denied}
@@ -41,19 +42,19 @@ denied-done : (e : Refusal) (n : ℕ) (s : Frac) → Denied e ≡ Done n s → �
 denied-done e n s h = let z : _≡_ {A = ℕ} 0 1 = cc in omega arith
 
 module _ (c : Call) (b : Buffers) (n : ℕ) (s : Frac) where
-  after-done : (ch : List ℕ) (k : ℕ) (a : Gkr.Answer Extension (Supplied ch)) → after ch k b a .answer ≡ Done n s → n ≡ k
+  after-done : (ch : Source E.Ext) (k : ℕ) (a : Gkr.Answer Extension (Drawing ch)) → after ch k b a .answer ≡ Done n s → n ≡ k
   after-done ch k (done P) h = cc
   after-done ch k non-zero-root-sum h = absurd (denied-done _ n s h)
 
   ran-done : (k : ℕ) → ran (c .rows) (c .asserted) (c .challenges) k b .answer ≡ Done n s → n ≡ k
   ran-done zero h = go (eqb (rowCount (c .rows)) 0) h
     where
-      go : (t : Bool) → cond t (finished [] 0 b (Gkr.no-rows Extension (Supplied []) nothing)) (refused (oneRow (c .rows) (c .asserted)) b) .answer ≡ Done n s → n ≡ 0
+      go : (t : Bool) → cond t (finished (supplied []) 0 b (Gkr.no-rows Extension Observing empty)) (refused (oneRow (c .rows) (c .asserted)) b) .answer ≡ Done n s → n ≡ 0
       go true k = cc
       go false k = absurd (denied-done (oneRow (c .rows) (c .asserted)) n s k)
   ran-done (suc m) h =
-      after-done (take (4 * challenges (suc m)) (c .challenges)) (suc m)
-      (Gkr.fractional-sumcheck Extension (Supplied (take (4 * challenges (suc m)) (c .challenges))) (c .asserted) m (node (c .rows)) nothing) h
+      after-done (supplied (take (4 * challenges (suc m)) (c .challenges))) (suc m)
+      (Gkr.fractional-sumcheck Extension (Drawing (supplied (take (4 * challenges (suc m)) (c .challenges)))) (c .asserted) m (node (c .rows)) empty) h
 
   pub record Admitted : Type 0 where
     pub opened : firstRefusal c (roomsOf b) ≡ Open

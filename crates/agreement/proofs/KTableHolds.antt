@@ -2,6 +2,7 @@
 -- Assumes nothing.
 use mathlib.Core.Path.{refl}
 use Rattle.field.specs.ExtRing.{arithmetic}
+use Rattle.field.specs.Element.{pointWords}
 use Rattle.field.specs.Cells.{cell}
 use Rattle.gkr.specs.Compute.{model}
 use Rattle.wire.specs.Words.{allCanonical}
@@ -14,5 +15,5 @@ use Rattle.verifier.specs.Verified as Verifier
 use Rattle.agreement.specs.KTable.{Holds, K1-K10}
 
 pub all-hold : Holds K1-K10
-unfolding model arithmetic cell allCanonical bytesOf word claimsWords cubicsWords polysWords entriesBytes layout claimsFrom cubicsFrom entriesFrom entriesFit fits parse roundsFrom isSize shortRoom degenerate checkRows firstRefusal Prover.pointWords Prover.proved Verifier.firstRefusal Verifier.verified
+unfolding model arithmetic cell allCanonical bytesOf word claimsWords cubicsWords polysWords entriesBytes layout claimsFrom cubicsFrom entriesFrom entriesFit fits parse roundsFrom isSize shortRoom degenerate checkRows firstRefusal pointWords Prover.proved Verifier.firstRefusal Verifier.verified
 all-hold = (refl, (refl, (refl, (refl, (refl, (refl, (refl, (refl, (refl, (refl, (refl, (refl, (refl, (refl, (refl, (refl, (refl, (refl, (refl, (refl, (refl, (refl, tt))))))))))))))))))))))

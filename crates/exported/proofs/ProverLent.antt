@@ -2,7 +2,6 @@
 -- Assumes nothing.
 use mathlib.Core.Path.{_≡_, refl, subst}
 use mathlib.Core.Bool.{Bool, true, false, not, _&&_, _||_}
-use mathlib.Core.List.{List}
 use Prim.Native.Nat.{ℕ, zero, suc, _+_, _*_, _%_, _≤_}
 use borrow.Author.Tests.{not-false}
 use lib.Dec.{eqb, ltb}
@@ -10,10 +9,11 @@ use lib.ListN.{length, take}
 use Rattle.field.specs.Ext as E
 use Rattle.field.specs.Extension.{Extension}
 use Rattle.gkr.specs.Tests.{pass, either}
+use Rattle.gkr.specs.Transcripts.{empty, Source}
 use Rattle.gkr.specs.Sizes as Sizes
 use Rattle.gkr.specs.Gkr as Gkr
 use Rattle.gkr.specs.Gkr.{done, non-zero-root-sum}
-use Rattle.transcript.specs.Log.{Supplied}
+use Rattle.transcript.specs.Log.{Drawing, supplied}
 use Rattle.refusal.specs.Limits.{maxRounds, maxRows}
 use Rattle.refusal.specs.declared.Refusal.the-variants.{NonZeroRootSum, SingleRow}
 use Rattle.refusal.specs.Numbers.{reportOf}
@@ -41,7 +41,7 @@ module _ (c : Call) (b : Prover.Buffers) where
   abbrev Fine : Prover.Outcome → Type 0
   Fine o = NotShort (answerReport (o .answer) .number)
 
-  after-all : (ch : List ℕ) (k : ℕ) (a : Gkr.Answer Extension (Supplied ch)) → Fine (Prover.after ch k b a)
+  after-all : (ch : Source E.Ext) (k : ℕ) (a : Gkr.Answer Extension (Drawing ch)) → Fine (Prover.after ch k b a)
   after-all ch k (done P) = other 0 refl refl
   after-all ch k non-zero-root-sum = other 8 refl refl
 
@@ -52,8 +52,8 @@ module _ (c : Call) (b : Prover.Buffers) where
   ran : (k : ℕ) → Fine (Prover.ran (c .rows) (c .asserted) (c .challenges) k b)
   ran zero = either Fine (eqb count 0) _ _ (λ e. other 0 refl refl) (λ e. one-row)
   ran (suc m) =
-      let ch = take (4 * Sizes.challenges (suc m)) (c .challenges) in
-      after-all ch (suc m) (Gkr.fractional-sumcheck Extension (Supplied ch) (c .asserted) m (node (c .rows)) Prover.nothing)
+      let ch = supplied (take (4 * Sizes.challenges (suc m)) (c .challenges)) in
+      after-all ch (suc m) (Gkr.fractional-sumcheck Extension (Drawing ch) (c .asserted) m (node (c .rows)) empty)
 
   abbrev Passed : Gate → Type 0
   Passed g = Fine (Prover.entered c b g)

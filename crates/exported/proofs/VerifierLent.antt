@@ -7,9 +7,12 @@ use Prim.Native.Nat.{ℕ, _*_, _≤_}
 use borrow.Author.Tests.{le-ltb, ltb-false}
 use lib.Dec.{eqb, ltb}
 use lib.ListN.{length}
+use Rattle.field.specs.Ext as E
 use Rattle.gkr.specs.Tests.{either}
+use Rattle.gkr.specs.Transcripts.{Source}
 use Rattle.gkr.specs.Sizes as Sizes
 use Rattle.gkr.specs.Gkr.{accepted, zero-rounds, layer-count, poly-count, zero-check, root-check, subround-count, layer-check}
+use Rattle.transcript.specs.Log.{supplied}
 use Rattle.refusal.specs.Limits.{maxRounds}
 use Rattle.wire.specs.Words.{allCanonical}
 use Rattle.stored.specs.Layout.{proofWords}
@@ -23,7 +26,7 @@ use Rattle.exported.specs.Asked.{ForVerifier, NotShort, VerifierNotShort
 use Rattle.exported.proofs.Lending.{never, fits, lent, log-room, other}
 
 -- what the run answers
-model : (ch : List ℕ) (w : Model ch) → NotShort (verdictReport (answerOf ch w) .number)
+model : (ch : Source E.Ext) (w : Model ch) → NotShort (verdictReport (answerOf ch w) .number)
 model ch (accepted v z t) = other 0 refl refl
 model ch zero-rounds = other 10 refl refl
 model ch (layer-count expected actual) = other 14 refl refl
@@ -45,7 +48,7 @@ module _ (n : ℕ) (ch : List ℕ) (v : Spaces) where
   read bad-length = other 13 refl refl
   read (parsed π) =
       either Passed (allCanonical (proofWords π)) _ _
-      (λ e. either Passed (allCanonical needed) _ _ (λ e. model needed (Verifier.verdict π n needed)) (λ e. other 6 refl refl))
+      (λ e. either Passed (allCanonical needed) _ _ (λ e. model (supplied needed) (Verifier.verdict π n (supplied needed))) (λ e. other 6 refl refl))
       (λ e. other 6 refl refl)
 
   -- the log of one round or more

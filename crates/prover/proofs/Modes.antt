@@ -11,10 +11,11 @@ use lib.Dec.{eqb, ltb}
 use lib.ListN.{length, take}
 use Rattle.field.specs.Ext as E
 use Rattle.field.specs.Extension.{Extension}
+use Rattle.gkr.specs.Transcripts.{empty, Source}
 use Rattle.gkr.specs.Sizes.{challenges}
 use Rattle.gkr.specs.Gkr as Gkr
 use Rattle.gkr.specs.Gkr.{done, non-zero-root-sum}
-use Rattle.transcript.specs.Log.{Supplied}
+use Rattle.transcript.specs.Log.{Drawing, supplied, Observing}
 use Rattle.tree.specs.Nodes.{node}
 use Rattle.refusal.specs.Limits.{maxRows}
 use Rattle.refusal.specs.declared.Refusal.{Refusal}
@@ -25,7 +26,7 @@ use Rattle.gate.specs.declared.Gate.{Gate}
 use Rattle.gate.specs.declared.Gate.the-variants.{Open, Shut}
 use Rattle.gate.specs.Refusals.{Call, Rooms, rowCount, roundsOf, isSize, shortRoom, degenerate, checkRows, firstRefusal}
 use Rattle.prover.specs.declared.Answer.{Answer}
-use Rattle.prover.specs.Proved.{Buffers, roomsOf, refused, finished, after, nothing, ran, entered, proved}
+use Rattle.prover.specs.Proved.{Buffers, roomsOf, refused, finished, after, ran, entered, proved}
 use Rattle.prover.specs.Report.{answerReport}
 
 -- THE ROW CHECK
@@ -142,13 +143,13 @@ sandbox-gate c r =
 run-number : (rows : List ℕ) (asserted : Bool) (ch : List ℕ) (n : ℕ) (b : Buffers) → answerReport (ran rows asserted ch n b .answer) .number ≡ 7 → ⊥
 run-number rows asserted ch zero b = few (eqb (rowCount rows) 0) (asserted && not (E.same (node rows 0 .p) E.nil))
   where
-    few : (t u : Bool) → answerReport (cond t (finished [] 0 b (Gkr.no-rows Extension (Supplied []) nothing)) (refused (cond u NonZeroRootSum SingleRow) b) .answer) .number ≡ 7 → ⊥
+    few : (t u : Bool) → answerReport (cond t (finished (supplied []) 0 b (Gkr.no-rows Extension Observing empty)) (refused (cond u NonZeroRootSum SingleRow) b) .answer) .number ≡ 7 → ⊥
     few true u = λ e. omega arith
     few false true = λ e. omega arith
     few false false = λ e. omega arith
-run-number rows asserted ch (suc m) b = let needed = take (4 * challenges (suc m)) ch in model needed (Gkr.fractional-sumcheck Extension (Supplied needed) asserted m (node rows) nothing)
+run-number rows asserted ch (suc m) b = let needed = supplied (take (4 * challenges (suc m)) ch) in model needed (Gkr.fractional-sumcheck Extension (Drawing needed) asserted m (node rows) empty)
   where
-    model : (ch : List ℕ) (a : Gkr.Answer Extension (Supplied ch)) → answerReport (after ch (suc m) b a .answer) .number ≡ 7 → ⊥
+    model : (ch : Source E.Ext) (a : Gkr.Answer Extension (Drawing ch)) → answerReport (after ch (suc m) b a .answer) .number ≡ 7 → ⊥
     model ch (done P) = λ e. omega arith
     model ch non-zero-root-sum = λ e. omega arith
 

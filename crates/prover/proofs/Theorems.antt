@@ -6,11 +6,14 @@ use mathlib.Core.List.{List, []}
 use Prim.Native.Nat.{ℕ, zero, suc, _*_}
 use lib.Dec.{eqb}
 use lib.ListN.{replicate, take}
+use Rattle.field.specs.Ext as E
 use Rattle.field.specs.Extension.{Extension}
+use Rattle.field.specs.Element.{pointWords}
+use Rattle.gkr.specs.Transcripts.{empty, Source}
 use Rattle.gkr.specs.Sizes.{challenges}
 use Rattle.gkr.specs.Gkr as Gkr
 use Rattle.gkr.specs.Gkr.{done, non-zero-root-sum}
-use Rattle.transcript.specs.Log.{Supplied}
+use Rattle.transcript.specs.Log.{Drawing, supplied, Observing}
 use Rattle.tree.specs.Nodes.{node}
 use Rattle.stored.specs.Layout.{layout}
 use Rattle.stored.specs.Elements.{encoded}
@@ -21,7 +24,7 @@ use Rattle.gate.specs.declared.Gate.the-variants.{Open, Shut}
 use Rattle.gate.specs.Refusals.{Call, Rooms, rowCount, roundsOf, workRoom, firstRefusal}
 use Rattle.prover.specs.declared.Answer.{Answer}
 use Rattle.prover.specs.declared.Answer.the-variants.{Done, Refused}
-use Rattle.prover.specs.Proved.{Buffers, Outcome, roomsOf, over, pointWords, encFrac, refused, wiped, finished, after, oneRow, nothing, ran, entered, proved}
+use Rattle.prover.specs.Proved.{Buffers, Outcome, roomsOf, over, encFrac, refused, wiped, finished, after, oneRow, ran, entered, proved}
 
 -- NO SECOND OUTCOME FITS
 
@@ -44,18 +47,18 @@ laid w b = record { answer = w .answer; buffers = record { proof = over (w .proo
 abbrev untouched : Refusal → Fronts
 untouched r = record { answer = Refused r; proof = []; point = []; log = []; work = [] }
 
-abbrev doneFronts : (ch : List ℕ) (n : ℕ) → Gkr.Proved Extension (Supplied ch) → Fronts
+abbrev doneFronts : (ch : Source E.Ext) (n : ℕ) → Gkr.Proved Extension (Drawing ch) → Fronts
 doneFronts ch n P = record { answer = Done n (encFrac (P .sum)); proof = layout (encoded (P .proof)); point = pointWords (P .point); log = P .log .log; work = replicate (workRoom n) 0 }
 
-abbrev modelFronts : (ch : List ℕ) (n : ℕ) → Gkr.Answer Extension (Supplied ch) → Fronts
+abbrev modelFronts : (ch : Source E.Ext) (n : ℕ) → Gkr.Answer Extension (Drawing ch) → Fronts
 modelFronts ch n (done P) = doneFronts ch n P
 modelFronts ch n non-zero-root-sum = record { answer = Refused NonZeroRootSum; proof = []; point = []; log = []; work = replicate (workRoom n) 0 }
 
 abbrev runFronts : (rows : List ℕ) (asserted : Bool) (ch : List ℕ) (n : ℕ) → Fronts
-runFronts rows asserted ch zero = cond (eqb (rowCount rows) 0) (doneFronts [] 0 (Gkr.no-rows Extension (Supplied []) nothing)) (untouched (oneRow rows asserted))
+runFronts rows asserted ch zero = cond (eqb (rowCount rows) 0) (doneFronts (supplied []) 0 (Gkr.no-rows Extension Observing empty)) (untouched (oneRow rows asserted))
 runFronts rows asserted ch (suc m) =
-    let needed = take (4 * challenges (suc m)) ch in
-    modelFronts needed (suc m) (Gkr.fractional-sumcheck Extension (Supplied needed) asserted m (node rows) nothing)
+    let needed = supplied (take (4 * challenges (suc m)) ch) in
+    modelFronts needed (suc m) (Gkr.fractional-sumcheck Extension (Drawing needed) asserted m (node rows) empty)
 
 abbrev gateFronts : Call → Gate → Fronts
 gateFronts c (Shut r) = untouched r
@@ -65,7 +68,7 @@ gateFronts c Open = runFronts (c .rows) (c .asserted) (c .challenges) (roundsOf 
 pub fronts : Call → Rooms → Fronts
 fronts c r = gateFronts c (firstRefusal c r)
 
-model-laid : (ch : List ℕ) (n : ℕ) (b : Buffers) (a : Gkr.Answer Extension (Supplied ch)) → after ch n b a ≡ laid (modelFronts ch n a) b
+model-laid : (ch : Source E.Ext) (n : ℕ) (b : Buffers) (a : Gkr.Answer Extension (Drawing ch)) → after ch n b a ≡ laid (modelFronts ch n a) b
 model-laid ch n b (done P) = refl
 model-laid ch n b non-zero-root-sum = refl
 
@@ -73,10 +76,10 @@ run-laid : (rows : List ℕ) (asserted : Bool) (ch : List ℕ) (n : ℕ) (b : Bu
 unfolding pointWords
 run-laid rows asserted ch zero b = go (eqb (rowCount rows) 0)
   where
-    go : (t : Bool) → cond t (finished [] 0 b (Gkr.no-rows Extension (Supplied []) nothing)) (refused (oneRow rows asserted) b) ≡ laid (cond t (doneFronts [] 0 (Gkr.no-rows Extension (Supplied []) nothing)) (untouched (oneRow rows asserted))) b
+    go : (t : Bool) → cond t (finished (supplied []) 0 b (Gkr.no-rows Extension Observing empty)) (refused (oneRow rows asserted) b) ≡ laid (cond t (doneFronts (supplied []) 0 (Gkr.no-rows Extension Observing empty)) (untouched (oneRow rows asserted))) b
     go true = refl
     go false = refl
-run-laid rows asserted ch (suc m) b = let needed = take (4 * challenges (suc m)) ch in model-laid needed (suc m) b (Gkr.fractional-sumcheck Extension (Supplied needed) asserted m (node rows) nothing)
+run-laid rows asserted ch (suc m) b = let needed = supplied (take (4 * challenges (suc m)) ch) in model-laid needed (suc m) b (Gkr.fractional-sumcheck Extension (Drawing needed) asserted m (node rows) empty)
 
 pub proved-laid : (c : Call) (b : Buffers) → proved c b ≡ laid (fronts c (roomsOf b)) b
 unfolding proved fronts
@@ -105,14 +108,14 @@ pub wiped-after : (c : Call) (b : Buffers) → firstRefusal c (roomsOf b) ≡ Op
 unfolding proved
 wiped-after c b h = ap (λ g. entered c b g .buffers .work) h ∙ rounds (roundsOf (rowCount (c .rows)))
   where
-    model : (ch : List ℕ) (n : ℕ) (a : Gkr.Answer Extension (Supplied ch)) → after ch n b a .buffers .work ≡ wiped n (b .work)
+    model : (ch : Source E.Ext) (n : ℕ) (a : Gkr.Answer Extension (Drawing ch)) → after ch n b a .buffers .work ≡ wiped n (b .work)
     model ch n (done P) = refl
     model ch n non-zero-root-sum = refl
 
-    few : (t : Bool) → cond t (finished [] 0 b (Gkr.no-rows Extension (Supplied []) nothing)) (refused (oneRow (c .rows) (c .asserted)) b) .buffers .work ≡ b .work
+    few : (t : Bool) → cond t (finished (supplied []) 0 b (Gkr.no-rows Extension Observing empty)) (refused (oneRow (c .rows) (c .asserted)) b) .buffers .work ≡ b .work
     few true = refl
     few false = refl
 
     rounds : (n : ℕ) → ran (c .rows) (c .asserted) (c .challenges) n b .buffers .work ≡ wiped n (b .work)
     rounds zero = few (eqb (rowCount (c .rows)) 0)
-    rounds (suc m) = model (take (4 * challenges (suc m)) (c .challenges)) (suc m) (Gkr.fractional-sumcheck Extension (Supplied (take (4 * challenges (suc m)) (c .challenges))) (c .asserted) m (node (c .rows)) nothing)
+    rounds (suc m) = model (supplied (take (4 * challenges (suc m)) (c .challenges))) (suc m) (Gkr.fractional-sumcheck Extension (Drawing (supplied (take (4 * challenges (suc m)) (c .challenges)))) (c .asserted) m (node (c .rows)) empty)

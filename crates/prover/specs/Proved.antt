@@ -1,19 +1,19 @@
 -- What a call of the prover answers, and what every buffer holds after it: the refusals in their order, the model's run, and the stored forms.
 -- Assumes nothing.
 use mathlib.Core.Bool.{Bool, cond, not, _&&_}
-use mathlib.Core.List.{List, [], _∷_, _++_}
+use mathlib.Core.List.{List, [], _++_}
 use Prim.Native.Nat.{ℕ, zero, suc, _*_}
 use lib.Dec.{eqb}
 use lib.ListN.{length, take, drop, replicate}
 use Rattle.field.specs.Ext as E
 use Rattle.field.specs.Extension.{Extension}
-use Rattle.field.specs.Element.{enc, words}
+use Rattle.field.specs.Element.{enc, pointWords}
 use Rattle.gkr.specs.Run.{Frac}
-use Rattle.gkr.specs.Transcripts.{Words}
+use Rattle.gkr.specs.Transcripts.{empty, Source}
 use Rattle.gkr.specs.Sizes.{challenges}
 use Rattle.gkr.specs.Gkr as Gkr
 use Rattle.gkr.specs.Gkr.{done, non-zero-root-sum}
-use Rattle.transcript.specs.Log.{Supplied}
+use Rattle.transcript.specs.Log.{Drawing, supplied}
 use Rattle.step.specs.declared.Frac.{Frac as FracW}
 use Rattle.tree.specs.Nodes.{node}
 use Rattle.stored.specs.Layout.{layout}
@@ -44,11 +44,6 @@ pub record Outcome : Type 0 where
 abbrev pub over : (ws buffer : List ℕ) → List ℕ
 over ws buffer = ws ++ drop (length ws) buffer
 
--- the words of a point, in order
-unfoldable pub pointWords : List E.Ext → List ℕ
-pointWords [] = []
-pointWords (x ∷ xs) = words x ++ pointWords xs
-
 abbrev pub encFrac : Frac E.Ext → FracW
 encFrac x = record { p = enc (x .p); q = enc (x .q) }
 
@@ -59,7 +54,7 @@ refused r b = record { answer = Refused r; buffers = b }
 abbrev pub wiped : (n : ℕ) (work : List ℕ) → List ℕ
 wiped n work = over (replicate (workRoom n) 0) work
 
-abbrev pub finished : (ch : List ℕ) (n : ℕ) (b : Buffers) → Gkr.Proved Extension (Supplied ch) → Outcome
+abbrev pub finished : (ch : Source E.Ext) (n : ℕ) (b : Buffers) → Gkr.Proved Extension (Drawing ch) → Outcome
 finished ch n b P = record {
   answer = Done n (encFrac (P .sum));
   buffers = record {
@@ -71,7 +66,7 @@ finished ch n b P = record {
 }
 
 -- what the model answers over n rounds, with the challenges ch
-abbrev pub after : (ch : List ℕ) (n : ℕ) (b : Buffers) → Gkr.Answer Extension (Supplied ch) → Outcome
+abbrev pub after : (ch : Source E.Ext) (n : ℕ) (b : Buffers) → Gkr.Answer Extension (Drawing ch) → Outcome
 after ch n b (done P) = finished ch n b P
 after ch n b non-zero-root-sum = record { answer = Refused NonZeroRootSum; buffers = record { proof = b .proof; point = b .point; log = b .log; work = wiped n (b .work) } }
 
@@ -79,15 +74,12 @@ after ch n b non-zero-root-sum = record { answer = Refused NonZeroRootSum; buffe
 abbrev pub oneRow : (rows : List ℕ) (asserted : Bool) → Refusal
 oneRow rows asserted = cond (asserted && not (E.same (node rows 0 .p) E.nil)) NonZeroRootSum SingleRow
 
-abbrev pub nothing : Words
-nothing = record { log = []; used = 0 }
-
 -- n rounds: 0 for no rows and for one row; else over 2 ^ n rows
 abbrev pub ran : (rows : List ℕ) (asserted : Bool) (ch : List ℕ) (n : ℕ) (b : Buffers) → Outcome
-ran rows asserted ch zero b = cond (eqb (rowCount rows) 0) (finished [] 0 b (Gkr.no-rows Extension (Supplied []) nothing)) (refused (oneRow rows asserted) b)
+ran rows asserted ch zero b = cond (eqb (rowCount rows) 0) (finished (supplied []) 0 b (Gkr.no-rows Extension (Drawing (supplied [])) empty)) (refused (oneRow rows asserted) b)
 ran rows asserted ch (suc m) b =
-    let needed = take (4 * challenges (suc m)) ch in
-    after needed (suc m) b (Gkr.fractional-sumcheck Extension (Supplied needed) asserted m (node rows) nothing)
+    let needed = supplied (take (4 * challenges (suc m)) ch) in
+    after needed (suc m) b (Gkr.fractional-sumcheck Extension (Drawing needed) asserted m (node rows) empty)
 
 abbrev pub entered : (c : Call) (b : Buffers) → Gate → Outcome
 entered c b (Shut r) = refused r b

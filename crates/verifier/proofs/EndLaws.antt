@@ -2,18 +2,19 @@
 -- Assumes nothing.
 use mathlib.Core.Path.{_≡_, refl, sym, _∙_, ap, ap₂, subst}
 use mathlib.Core.List.{List, [], _++_}
-use Prim.Native.Nat.{ℕ, zero, suc, _+_, _*_, _≤_}
+use Prim.Native.Nat.{ℕ, _*_, _≤_}
 use native.Mathlib.Omega.{arith}
 use lib.ListN.{length, take, drop, take-append-drop}
-use lib.Seq.{take-add, drop-drop, length-take-le}
+use lib.Seq.{length-take-le}
 use Rattle.field.specs.Ext as E
-use Rattle.field.specs.Element.{dec, enc, words}
+use Rattle.field.specs.Element.{dec, enc, pointWords}
 use Rattle.field.specs.ElementLaws.{enc-dec}
-use Rattle.field.specs.Cells.{cell, Clean, cells}
-use Rattle.field.specs.CellLaws.{words-cell}
+use Rattle.field.specs.Cells.{Clean, cells}
+use Rattle.field.specs.PointLaws.{point-is}
 use Rattle.gkr.specs.Gkr.{accepted}
 use Rattle.gkr.specs.Sizes.{challenges}
-use Rattle.transcript.specs.Log.{logOf}
+use Rattle.gkr.specs.Transcripts.{Source}
+use Rattle.transcript.specs.Log.{supplied, logOf}
 use Rattle.refusal.specs.Limits.{maxRounds}
 use Rattle.wire.specs.Words.{allCanonical}
 use Rattle.wire.specs.WordLaws.{canonical-below}
@@ -25,21 +26,12 @@ use Rattle.round.specs.declared.Advance.the-variants.{Next, Stopped}
 use Rattle.round.specs.declared.Verdict.{Verdict}
 use Rattle.round.specs.declared.Verdict.the-variants.{Accepted, Refused}
 use Rattle.round.specs.Values.{columns}
-use Rattle.round.specs.Verdicts.{Model, answerOf, pointOf, loggedBy, pointWords}
+use Rattle.round.specs.Verdicts.{Model, answerOf, pointOf, loggedBy}
 use Rattle.all_rounds.specs.Runs.{Ends}
 use Rattle.verifier.specs.Verified.{Outcome, outcome, written, needed, verdict, ended, Way, refuse, proceed, firstRefusal, follow, verified}
 use Rattle.verifier.specs.declared.Gate.{Gate}
 use Rattle.verifier.specs.declared.Gate.the-variants.{Open, Shut}
 use Rattle.verifier.specs.Gates.{Opened, Gated, Ready, pointLeft, answered}
-
--- a clean point's words are those of its coordinates
-pub point-is : (ws : List ℕ) (i k : ℕ) → Clean ws → 4 * i + 4 * k ≤ length ws → pointWords (cells ws i k) ≡ take (4 * k) (drop (4 * i) ws)
-point-is ws i zero c h = refl
-point-is ws i (suc k) c h =
-    let e : 4 * suc k ≡ 4 + 4 * k = omega arith in
-    let f : 4 * i + 4 ≡ 4 * suc i = omega arith in
-    ap₂ _++_ (sym (words-cell ws i c (omega arith))) (point-is ws (suc i) k c (omega arith) ∙ ap (λ n. take (4 * k) (drop n ws)) (sym f) ∙ ap (take (4 * k)) (sym (drop-drop 4 (4 * i) ws)))
-    ∙ sym (take-add 4 (4 * k) (drop (4 * i) ws)) ∙ ap (λ n. take n (drop (4 * i) ws)) (sym e)
 
 -- what is written up to a place, and as before past it
 front : (l l' : List ℕ) (n : ℕ) (ws : List ℕ) → n ≤ length l' → take n l' ≡ ws → drop n l' ≡ drop n l → l' ≡ written ws l
@@ -47,7 +39,7 @@ front l l' n ws h e d =
     let len : n ≡ length ws = sym (length-take-le n l' h) ∙ ap length e in
     sym (take-append-drop n l') ∙ ap₂ _++_ e (d ∙ ap (λ k. drop k l) len)
 
-module _ (p lg lg' ch : List ℕ) (v : Model ch) (l : length lg' ≡ length lg) where
+module _ (p lg lg' : List ℕ) (ch : Source E.Ext) (v : Model ch) (l : length lg' ≡ length lg) where
   -- what a run's end leaves and answers is the definition's
   pub ended-is : (n : ℕ) (pt' p' : List ℕ) (r : Advance) (x : Verdict) → Ends lg lg' pt' ch (record { put = 0; used = 0 }) n v r → 4 * n ≤ length pt' → p' ≡ pointLeft r (4 * n) pt' p → x ≡ answered r
       → outcome x p' lg' ≡ ended ch v p lg
@@ -87,16 +79,16 @@ ready-of bs pt lg ch n k points o g ke h c =
     }
 
 -- over the needed challenges
-pub over-needed : (bs : List ℕ) (n k : ℕ) (ch p lg : List ℕ) (x : Outcome) → k ≡ 4 * challenges n → x ≡ ended (take k ch) (verdict (proofOf bs) n (take k ch)) p lg
-    → x ≡ ended (needed n ch) (verdict (proofOf bs) n (needed n ch)) p lg
-over-needed bs n k ch p lg x e h = h ∙ ap (λ m. ended (take m ch) (verdict (proofOf bs) n (take m ch)) p lg) e
+pub over-needed : (bs : List ℕ) (n k : ℕ) (ch p lg : List ℕ) (x : Outcome) → k ≡ 4 * challenges n → x ≡ ended (supplied (take k ch)) (verdict (proofOf bs) n (supplied (take k ch))) p lg
+    → x ≡ ended (supplied (needed n ch)) (verdict (proofOf bs) n (supplied (needed n ch))) p lg
+over-needed bs n k ch p lg x e h = h ∙ ap (λ m. ended (supplied (take m ch)) (verdict (proofOf bs) n (supplied (take m ch))) p lg) e
 
 -- ---- the whole
 pub shut-is : (bs : List ℕ) (n : ℕ) (ch p lg : List ℕ) (e : Refusal) → firstRefusal bs n ch (length p) (length lg) ≡ refuse e → outcome (Refused e) p lg ≡ verified bs n ch p lg
 unfolding verified
 shut-is bs n ch p lg e h = ap (λ w. follow w n ch p lg) (sym h)
 
-pub open-is : (bs : List ℕ) (n : ℕ) (ch p lg : List ℕ) (o : Outline) (x : Outcome) → Opened bs n ch (length p) (length lg) o → x ≡ ended (needed n ch) (verdict (proofOf bs) n (needed n ch)) p lg → x ≡ verified bs n ch p lg
+pub open-is : (bs : List ℕ) (n : ℕ) (ch p lg : List ℕ) (o : Outline) (x : Outcome) → Opened bs n ch (length p) (length lg) o → x ≡ ended (supplied (needed n ch)) (verdict (proofOf bs) n (supplied (needed n ch))) p lg → x ≡ verified bs n ch p lg
 unfolding verified
 open-is bs n ch p lg o x g h = h ∙ ap (λ w. follow w n ch p lg) (sym (g .way))
 
@@ -117,8 +109,9 @@ pub record Alike (p q lg mg : List ℕ) (x y : Outcome) : Type 0 where
 alike : (w : Way) (n : ℕ) (ch p q lg mg : List ℕ) → Alike p q lg mg (follow w n ch p lg) (follow w n ch q mg)
 alike (refuse e) n ch p q lg mg = record { answer = refl; points = []; logs = []; point-x = refl; point-y = refl; log-x = refl; log-y = refl }
 alike (proceed π) n ch p q lg mg =
-    let v = verdict π n (needed n ch) in
-    record { answer = refl; points = pointOf (needed n ch) v; logs = loggedBy (needed n ch) v; point-x = refl; point-y = refl; log-x = refl; log-y = refl }
+    let s = supplied (needed n ch) in
+    let v = verdict π n s in
+    record { answer = refl; points = pointOf s v; logs = loggedBy s v; point-x = refl; point-y = refl; log-x = refl; log-y = refl }
 
 pub same-answer : (bs : List ℕ) (n : ℕ) (ch p q lg mg : List ℕ) → length p ≡ length q → length lg ≡ length mg → Alike p q lg mg (verified bs n ch p lg) (verified bs n ch q mg)
 unfolding verified

@@ -5,7 +5,9 @@ use mathlib.Core.Bool.{true, cond}
 use mathlib.Core.List.{List, _++_}
 use Prim.Native.Nat.{ℕ, _*_, _≤_}
 use lib.ListN.{length, take, drop}
+use Rattle.field.specs.Ext as E
 use Rattle.field.specs.Cells.{Clean}
+use Rattle.gkr.specs.Transcripts.{Source}
 use Rattle.gkr.specs.Sizes.{challenges, log-words}
 use Rattle.refusal.specs.Limits.{maxRounds}
 use Rattle.refusal.specs.declared.Refusal.the-variants.{BadWord}
@@ -54,7 +56,7 @@ pub record Ready (bs pt lg ch : List ℕ) (n : ℕ) (o : Outline) : Type 0 where
   pub clean : Clean ch
 
 -- the run ends as the model's does
-abbrev pub Counted : (bs pt' lg lg' ch : List ℕ) (n : ℕ) → Advance → Type 0
+abbrev pub Counted : (bs pt' lg lg' : List ℕ) (ch : Source E.Ext) (n : ℕ) → Advance → Type 0
 Counted bs pt' lg lg' ch n r = Ends lg lg' pt' ch (record { put = 0; used = 0 }) n (verdict (proofOf bs) n ch) r
 
 -- what a run's end leaves of the point found, n words of it or none

@@ -1,7 +1,7 @@
 -- What verify_gkr answers, and what it leaves in point and log, for every proof, rounds, challenges and room.
 -- Assumes nothing.
 use mathlib.Core.Bool.{true, cond}
-use mathlib.Core.List.{List, [], _++_, map}
+use mathlib.Core.List.{List, _++_, map}
 use Prim.Native.Nat.{ℕ, _*_}
 use lib.Dec.{eqb, ltb}
 use lib.ListN.{length, take, drop}
@@ -12,7 +12,8 @@ use Rattle.field.specs.Element.{dec}
 use Rattle.gkr.specs.Run.{Proof}
 use Rattle.gkr.specs.Sizes.{challenges, log-words}
 use Rattle.gkr.specs.Gkr as Gkr
-use Rattle.transcript.specs.Log.{Supplied}
+use Rattle.gkr.specs.Transcripts.{empty, Source}
+use Rattle.transcript.specs.Log.{Drawing, supplied}
 use Rattle.refusal.specs.Limits.{maxRounds}
 use Rattle.refusal.specs.declared.Refusal.{Refusal}
 use Rattle.refusal.specs.declared.Refusal.the-variants.{ShortChallenges, ShortRoom, BadWord, ZeroRounds, TooManyRounds, BadVersion, BadLength}
@@ -46,11 +47,11 @@ abbrev pub decoded : Proof Ext → Proof E.Ext
 decoded π = record { q0 = dec (π .q0); claims = map decClaims (π .claims); polys = map (map decCubic) (π .polys) }
 
 -- the model's verifier over an empty log
-abbrev pub verdict : (π : Proof Ext) (n : ℕ) (ch : List ℕ) → Model ch
-verdict π n ch = Gkr.verify-gkr Extension (Supplied ch) n (decoded π) (record { log = []; used = 0 })
+abbrev pub verdict : (π : Proof Ext) (n : ℕ) (ch : Source E.Ext) → Model ch
+verdict π n ch = Gkr.verify-gkr Extension (Drawing ch) n (decoded π) empty
 
 -- its answer, point and log
-abbrev pub ended : (ch : List ℕ) → Model ch → (point log : List ℕ) → Outcome
+abbrev pub ended : (ch : Source E.Ext) → Model ch → (point log : List ℕ) → Outcome
 ended ch v point log = outcome (answerOf ch v) (written (pointOf ch v) point) (written (loggedBy ch v) log)
 
 -- the first refusal, or a proof to run on
@@ -77,7 +78,7 @@ firstRefusal bs n ch points logs =
 -- a refusal changes nothing
 abbrev pub follow : Way → (n : ℕ) (ch point log : List ℕ) → Outcome
 follow (refuse e) n ch point log = outcome (Refused e) point log
-follow (proceed π) n ch point log = ended (needed n ch) (verdict π n (needed n ch)) point log
+follow (proceed π) n ch point log = ended (supplied (needed n ch)) (verdict π n (supplied (needed n ch))) point log
 
 unfoldable pub verified : (bs : List ℕ) (n : ℕ) (ch point log : List ℕ) → Outcome
 verified bs n ch point log = follow (firstRefusal bs n ch (length point) (length log)) n ch point log

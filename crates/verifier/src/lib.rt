@@ -8,6 +8,7 @@ ghost use Rattle.stored.specs.Parse.{proofOf};
 ghost use Rattle.stored.specs.ParseLaws.{Shaped};
 ghost use Rattle.gkr.specs.Sizes.{challenges, log-words};
 ghost use Rattle.refusal.specs.Limits.{maxRounds};
+ghost use Rattle.transcript.specs.Log.{supplied};
 ghost use Rattle.round.specs.declared.Verdict.the-variants.{Accepted};
 ghost use Rattle.verifier.specs.Verified.{outcome, needed, verdict, ended, verified};
 ghost use Rattle.verifier.specs.Gates.{wordsGate, Gated, Opened, Ready, Counted, pointLeft, answered};
@@ -90,7 +91,7 @@ fn verify_counted(
     challenges: &[u32],
 ) -> Advance
     requires { ⌜ Ready (now proof) (now xi) (now log) (now challenges) rounds outline ⌝ }
-    ensures { λ r. ⌜ Counted (now (proof .entry)) (now (xi .exit)) (now (log .entry)) (now (log .exit)) (now (challenges .entry)) rounds r ⌝ }
+    ensures { λ r. ⌜ Counted (now (proof .entry)) (now (xi .exit)) (now (log .entry)) (now (log .exit)) (supplied (now (challenges .entry))) rounds r ⌝ }
 {
     let layers = outline.layers;
     let entries = outline.entries;
@@ -160,7 +161,7 @@ fn run(
     log: &mut [u32],
 ) -> Verdict
     requires { ⌜ Opened (now proof) rounds (now challenges) (length (now point)) (length (now log)) outline ⌝ }
-    ensures { λ r. ⌜ outcome r (now (point .exit)) (now (log .exit)) ≡ ended (needed rounds (now (challenges .entry))) (verdict (proofOf (now (proof .entry))) rounds (needed rounds (now (challenges .entry)))) (now (point .entry)) (now (log .entry)) ⌝ }
+    ensures { λ r. ⌜ outcome r (now (point .exit)) (now (log .exit)) ≡ ended (supplied (needed rounds (now (challenges .entry)))) (verdict (proofOf (now (proof .entry))) rounds (supplied (needed rounds (now (challenges .entry))))) (now (point .entry)) (now (log .entry)) ⌝ }
 {
     let needs = challenge_words(rounds);
     let mut xi = [0u32; 4 * refusal::MAX_ROUNDS];
