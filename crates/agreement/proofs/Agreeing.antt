@@ -2,8 +2,8 @@
 -- Assumes nothing.
 use mathlib.Core.Path.{_≡_, refl, sym, _∙_, ap, ap₂, subst}
 use mathlib.Core.Bool.{Bool, true, false, cond, not, _||_}
-use mathlib.Core.List.{List, [], _∷_, _++_}
-use Prim.Native.Nat.{ℕ, zero, suc, _+_, _*_, _^_, _<_, _≤_}
+use mathlib.Core.List.{List}
+use Prim.Native.Nat.{ℕ, zero, suc, _*_, _^_, _<_, _≤_}
 use native.Mathlib.Omega.{arith}
 use native.Mathlib.Nat.{zero-add}
 use lib.ListN.{length, take, drop}
@@ -13,7 +13,7 @@ use Rattle.field.specs.ExtRing.{ExtRing, same-true}
 use Rattle.field.specs.Extension.{Extension}
 use Rattle.field.specs.Element.{words}
 use Rattle.gkr.specs.Run.{Transcript, Frac, Proof}
-use Rattle.gkr.specs.Transcripts.{Words}
+use Rattle.gkr.specs.Transcripts.{Words, empty, Source}
 use Rattle.gkr.specs.Sizes.{challenges, proof-bytes, log-words}
 use Rattle.gkr.specs.Tree as Tree
 use Rattle.gkr.specs.Gkr as Gkr
@@ -21,7 +21,7 @@ use Rattle.gkr.specs.Gkr.{done, accepted}
 use Rattle.gkr.specs.Honest as Honest
 use Rattle.gkr.specs.Count as Count
 use Rattle.gkr.specs.TranscriptLaws as TranscriptLaws
-use Rattle.transcript.specs.Log.{Supplied, wordsOf}
+use Rattle.transcript.specs.Log.{Drawing, supplied}
 use Rattle.wire.specs.Words.{allCanonical}
 use Rattle.stored.specs.Layout.{layout, proofWords}
 use Rattle.stored.specs.ParseLaws.{parse-reads}
@@ -32,7 +32,6 @@ use Rattle.refusal.specs.Fronts.{over}
 use Rattle.gate.specs.Refusals.{Call, rowCount, roundsOf}
 use Rattle.prover.specs.Proved as Prover
 use Rattle.prover.specs.declared.Answer.the-variants.{Done}
-use Rattle.round.specs.Verdicts as Verdicts
 use Rattle.verifier.specs.Verified as Verifier
 use Rattle.verifier.specs.Verified.{Lent}
 use Rattle.verifier.proofs.GateLaws.{opens-all}
@@ -42,12 +41,6 @@ use Rattle.stored.specs.ElementLaws.{decoded-encoded, encoded-canonical}
 use Rattle.agreement.proofs.HonestSize.{honest-size}
 use Rattle.agreement.proofs.Opening.{opens, rounds-taken-are}
 
--- both write a point alike
-points : (z : List E.Ext) → Verdicts.pointWords z ≡ Prover.pointWords z
-unfolding Prover.pointWords
-points [] = refl
-points (x ∷ z) = ap (λ l. words x ++ l) (points z)
-
 -- The run over a sheet that is taken, zero asserted or not: t is the log before root q.
 module _ (c : Call) (m : ℕ) (b : Prover.Buffers) (v : Lent) (h : Taken c (suc m)) (r : Room (c .asserted) (suc m) b v) where
   abbrev needed : List ℕ
@@ -56,23 +49,26 @@ module _ (c : Call) (m : ℕ) (b : Prover.Buffers) (v : Lent) (h : Taken c (suc 
   abbrev rows : ℕ → Frac E.Ext
   rows = node (c .rows)
 
+  abbrev source : Source E.Ext
+  source = supplied needed
+
   abbrev S : Transcript E.Ext
-  S = Supplied needed
+  S = Drawing source
 
   abbrev ended : Lent → Gkr.Verdict Extension S → Verifier.Outcome
-  ended v w = Verifier.laid (Verifier.ended needed w) v
+  ended v w = Verifier.laid (Verifier.ended source w) v
 
-  module _ (t : Words) (e : Gkr.fractional-sumcheck Extension S (c .asserted) m rows Prover.nothing ≡ done (Gkr.run Extension S m rows t)) where
+  module _ (t : Words) (e : Gkr.fractional-sumcheck Extension S (c .asserted) m rows empty ≡ done (Gkr.run Extension S m rows t)) where
     abbrev run : Gkr.Proved Extension S
     run = Gkr.run Extension S m rows t
 
     -- the prover is done with the model's run
-    pub proved-run : Prover.proved c b ≡ Prover.laid (Prover.finished needed (suc m) run) b
+    pub proved-run : Prover.proved c b ≡ Prover.laid (Prover.finished source (suc m) run) b
     unfolding Prover.proved Prover.fronts
     proved-run =
         ap (λ t. Prover.laid (Prover.entered c t) b) (opens c m b v h r)
         ∙ ap (λ (n : ℕ). Prover.laid (Prover.ran (c .rows) (c .asserted) (c .challenges) n) b) (rounds-taken-are c m b v h r)
-        ∙ ap (λ a. Prover.laid (Prover.after needed (suc m) a) b) e
+        ∙ ap (λ a. Prover.laid (Prover.after source (suc m) a) b) e
 
     abbrev bytes : List ℕ
     bytes = layout (encoded (run .proof))
@@ -84,7 +80,7 @@ module _ (c : Call) (m : ℕ) (b : Prover.Buffers) (v : Lent) (h : Taken c (suc 
         ∙ take-at bytes (drop (length bytes) (b .proof)) (proof-bytes (suc m)) (honest-size S m rows t)
 
     -- which the verifier reads as that proof
-    verified-run : Verifier.verified (Verifier.asked bytes (suc m) (c .challenges)) v ≡ ended v (Gkr.verify-gkr Extension S (suc m) (run .proof) Prover.nothing)
+    verified-run : Verifier.verified (Verifier.asked bytes (suc m) (c .challenges)) v ≡ ended v (Gkr.verify-gkr Extension S (suc m) (run .proof) empty)
     unfolding Verifier.verified
     verified-run =
         let a = Verifier.asked bytes (suc m) (c .challenges) in
@@ -93,10 +89,10 @@ module _ (c : Call) (m : ℕ) (b : Prover.Buffers) (v : Lent) (h : Taken c (suc 
         ap (λ w. Verifier.laid (Verifier.fronts a w) v)
         (opens-all a _ _ (back .reads)
         (record { some = h .some; few = h .few; chals = h .enough; room = r .point-again; log-room = r .log-again; canon = canon; clean = h .valid-challenges }))
-        ∙ ap (λ π. ended v (Gkr.verify-gkr Extension S (suc m) (decoded π) Prover.nothing)) (back .proof)
-        ∙ ap (λ π. ended v (Gkr.verify-gkr Extension S (suc m) π Prover.nothing)) (decoded-encoded (run .proof))
+        ∙ ap (λ π. ended v (Gkr.verify-gkr Extension S (suc m) (decoded π) empty)) (back .proof)
+        ∙ ap (λ π. ended v (Gkr.verify-gkr Extension S (suc m) π empty)) (decoded-encoded (run .proof))
 
-    pub verdict-run : verdict c (suc m) (Prover.proved c b) v ≡ ended v (Gkr.verify-gkr Extension S (suc m) (run .proof) Prover.nothing)
+    pub verdict-run : verdict c (suc m) (Prover.proved c b) v ≡ ended v (Gkr.verify-gkr Extension S (suc m) (run .proof) empty)
     verdict-run = ap (λ bs. Verifier.verified (Verifier.asked bs (suc m) (c .challenges)) v) front ∙ verified-run
 
     pub sum-run : Prover.proved c b .answer ≡ Done (suc m) (Prover.encFrac (root c (suc m)))
@@ -106,39 +102,39 @@ module _ (c : Call) (m : ℕ) (b : Prover.Buffers) (v : Lent) (h : Taken c (suc 
 -- ZERO ASSERTED, AND THE ROOT NUMERATOR ZERO
 
 module _ (c : Call) (m : ℕ) (b : Prover.Buffers) (v : Lent) (h : Taken c (suc m)) (a : c .asserted ≡ true) (z : root c (suc m) .p ≡ E.nil) (r : Room true (suc m) b v) where
-  abbrev ch : List ℕ
-  ch = take (4 * challenges (suc m)) (c .challenges)
+  abbrev ch : Source E.Ext
+  ch = supplied (take (4 * challenges (suc m)) (c .challenges))
 
-  abbrev P : Gkr.Proved Extension (Supplied ch)
-  P = Gkr.run Extension (Supplied ch) m (node (c .rows)) Prover.nothing
+  abbrev P : Gkr.Proved Extension (Drawing ch)
+  P = Gkr.run Extension (Drawing ch) m (node (c .rows)) empty
 
-  theorem : (Gkr.fractional-sumcheck Extension (Supplied ch) true m (node (c .rows)) Prover.nothing ≡ done P)
-      × (Gkr.verify-gkr Extension (Supplied ch) (suc m) (P .proof) Prover.nothing ≡ accepted (Tree.value ExtRing (node (c .rows)) (P .point)) (P .point) (P .log))
-  theorem = Honest.honest Extension (Supplied ch) m (node (c .rows)) Prover.nothing z
+  theorem : (Gkr.fractional-sumcheck Extension (Drawing ch) true m (node (c .rows)) empty ≡ done P)
+      × (Gkr.verify-gkr Extension (Drawing ch) (suc m) (P .proof) empty ≡ accepted (Tree.value ExtRing (node (c .rows)) (P .point)) (P .point) (P .log))
+  theorem = Honest.honest Extension (Drawing ch) m (node (c .rows)) empty z
 
-  is-done : Gkr.fractional-sumcheck Extension (Supplied ch) (c .asserted) m (node (c .rows)) Prover.nothing ≡ done P
-  is-done = ap (λ s. Gkr.fractional-sumcheck Extension (Supplied ch) s m (node (c .rows)) Prover.nothing) a ∙ theorem .0
+  is-done : Gkr.fractional-sumcheck Extension (Drawing ch) (c .asserted) m (node (c .rows)) empty ≡ done P
+  is-done = ap (λ s. Gkr.fractional-sumcheck Extension (Drawing ch) s m (node (c .rows)) empty) a ∙ theorem .0
 
   r′ : Room (c .asserted) (suc m) b v
   r′ = subst (λ s. Room s (suc m) b v) (sym a) r
 
   run-is : Prover.proved c b ≡ Prover.laid (Prover.finished ch (suc m) P) b
-  run-is = proved-run c m b v h r′ Prover.nothing is-done
+  run-is = proved-run c m b v h r′ empty is-done
 
   verdict-is : verdict c (suc m) (Prover.proved c b) v ≡ Verifier.laid (Verifier.ended ch (accepted (Tree.value ExtRing (node (c .rows)) (P .point)) (P .point) (P .log))) v
-  verdict-is = verdict-run c m b v h r′ Prover.nothing is-done ∙ ap (λ w. Verifier.laid (Verifier.ended ch w) v) (theorem .1)
+  verdict-is = verdict-run c m b v h r′ empty is-done ∙ ap (λ w. Verifier.laid (Verifier.ended ch w) v) (theorem .1)
 
   pub agreed : Agreed c (suc m) b v (Prover.proved c b) (verdict c (suc m) (Prover.proved c b) v)
   agreed =
       record {
         point = P .point;
         logged = P .log .log;
-        done = sum-run c m b v h r′ Prover.nothing is-done;
+        done = sum-run c m b v h r′ empty is-done;
         accepted = ap (λ o. o .answer) verdict-is;
-        coordinates = Count.point-length Extension (Supplied ch) m (node (c .rows)) Prover.nothing;
+        coordinates = Count.point-length Extension (Drawing ch) m (node (c .rows)) empty;
         proved-point = ap (λ o. o .buffers .point) run-is;
-        verified-point = ap (λ o. o .buffers .point) verdict-is ∙ ap (λ l. over l (v .point)) (points (P .point));
-        size = TranscriptLaws.done-words Extension wordsOf _ (λ x. refl) true m (node (c .rows)) Prover.nothing P (theorem .0) ∙ zero-add _;
+        verified-point = ap (λ o. o .buffers .point) verdict-is;
+        size = TranscriptLaws.done-words Extension words _ (λ x. refl) true m (node (c .rows)) empty P (theorem .0) ∙ zero-add _;
         proved-log = ap (λ o. o .buffers .log) run-is;
         verified-log = ap (λ o. o .buffers .log) verdict-is;
       }
@@ -164,11 +160,11 @@ pub other-sum : OtherSum
 unfolding Gkr.fractional-sumcheck
 other-sum c zero b v h a z r = absurd (none 0 refl (h .some))
 other-sum c (suc m) b v h a z r =
-    let ch = take (4 * challenges (suc m)) (c .challenges) in
+    let ch = supplied (take (4 * challenges (suc m)) (c .challenges)) in
     let f = node (c .rows) in
-    let t = Supplied ch .observe (root c (suc m) .p) Prover.nothing in
-    let e : Gkr.fractional-sumcheck Extension (Supplied ch) (c .asserted) m f Prover.nothing ≡ done (Gkr.run Extension (Supplied ch) m f t) =
-    ap (λ s. Gkr.fractional-sumcheck Extension (Supplied ch) s m f Prover.nothing) a in
+    let t = Drawing ch .observe (root c (suc m) .p) empty in
+    let e : Gkr.fractional-sumcheck Extension (Drawing ch) (c .asserted) m f empty ≡ done (Gkr.run Extension (Drawing ch) m f t) =
+    ap (λ s. Gkr.fractional-sumcheck Extension (Drawing ch) s m f empty) a in
     let r′ : Room (c .asserted) (suc m) b v = subst (λ s. Room s (suc m) b v) (sym a) r in
-    let n = Honest.not-zero Extension (Supplied ch) m f t Prover.nothing (differs (root c (suc m) .p) z) in
+    let n = Honest.not-zero Extension (Drawing ch) m f t empty (differs (root c (suc m) .p) z) in
     (sum-run c m b v h r′ t e, ap (λ o. o .answer) (verdict-run c m b v h r′ t e ∙ ap (λ w. Verifier.laid (Verifier.ended ch w) v) n))

@@ -2,6 +2,7 @@
 -- Assumes nothing.
 use mathlib.Core.Path.{refl}
 use Rattle.field.specs.ExtRing.{arithmetic}
+use Rattle.field.specs.Element.{pointWords}
 use Rattle.field.specs.Cells.{cell}
 use Rattle.gkr.specs.Compute.{model}
 use Rattle.refusal.specs.Tests.{firstOf}
@@ -15,5 +16,5 @@ use Rattle.verifier.specs.Verified as Verifier
 use Rattle.agreement.specs.KTable.{Holds, K1-K10}
 
 pub all-hold : Holds K1-K10
-unfolding model arithmetic cell allCanonical bytesOf word claimsWords cubicsWords polysWords entriesBytes layout claimsFrom cubicsFrom entriesFrom entriesFit fits roundsFrom isSize shortRoom degenerate lowest firstOf firstRefusal Prover.pointWords Prover.fronts Prover.proved Verifier.verified
+unfolding model arithmetic cell allCanonical bytesOf word claimsWords cubicsWords polysWords entriesBytes layout claimsFrom cubicsFrom entriesFrom entriesFit fits roundsFrom isSize shortRoom degenerate lowest firstOf firstRefusal pointWords Prover.fronts Prover.proved Verifier.verified
 all-hold = (refl, (refl, (refl, (refl, (refl, (refl, (refl, (refl, (refl, (refl, (refl, (refl, (refl, (refl, (refl, (refl, (refl, (refl, (refl, (refl, (refl, (refl, (refl, (refl, (refl, tt)))))))))))))))))))))))))

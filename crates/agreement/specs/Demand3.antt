@@ -7,7 +7,7 @@ use Prim.Native.Nat.{ℕ, _*_, _^_, _<_, _≤_}
 use lib.ListN.{length, take}
 use Rattle.field.specs.Ext as E
 use Rattle.field.specs.ExtRing.{ExtRing}
-use Rattle.field.specs.Element.{enc}
+use Rattle.field.specs.Element.{enc, pointWords}
 use Rattle.gkr.specs.Run.{Frac}
 use Rattle.gkr.specs.Sizes.{challenges, proof-bytes, point-words, log-words}
 use Rattle.gkr.specs.Tree as Tree
@@ -56,8 +56,8 @@ pub record Agreed (c : Call) (n : ℕ) (b : Prover.Buffers) (v : Lent) (P : Prov
   pub accepted : Q .answer ≡ (let claims = Tree.value ExtRing (node (c .rows)) point in Accepted (enc (claims .p)) (enc (claims .q)))
   -- the point is one, and so is the log
   pub coordinates : length point ≡ n
-  pub proved-point : P .buffers .point ≡ over (Prover.pointWords point) (b .point)
-  pub verified-point : Q .buffers .point ≡ over (Prover.pointWords point) (v .point)
+  pub proved-point : P .buffers .point ≡ over (pointWords point) (b .point)
+  pub verified-point : Q .buffers .point ≡ over (pointWords point) (v .point)
   pub size : length logged ≡ log-words true n
   pub proved-log : P .buffers .log ≡ over logged (b .log)
   pub verified-log : Q .buffers .log ≡ over logged (v .log)

@@ -8,7 +8,7 @@ use lib.ListN.{take, drop, replicate}
 use Rattle.field.specs.Ext as E
 use Rattle.field.specs.Ext.{ext}
 use Rattle.field.specs.Extension.{Extension}
-use Rattle.field.specs.Element.{enc, words}
+use Rattle.field.specs.Element.{enc, words, pointWords}
 use Rattle.multilinear.specs.Interpolate as Interpolate
 use Rattle.gkr.specs.Run.{Frac, Proof}
 use Rattle.gkr.specs.Compute.{el, minus, frac, claims, cubic}
@@ -45,7 +45,7 @@ rowWords [] = []
 rowWords (f ∷ fs) = words (f .p) ++ (words (f .q) ++ rowWords fs)
 
 abbrev pub sheet : (live asserted : Bool) (fs : List (Frac E.Ext)) (challenges : List E.Ext) → Call
-sheet live asserted fs ch = record { rows = rowWords fs; live = live; asserted = asserted; challenges = Prover.pointWords ch }
+sheet live asserted fs ch = record { rows = rowWords fs; live = live; asserted = asserted; challenges = pointWords ch }
 
 -- buffers of zeros, as long as n rounds need
 abbrev pub room : ℕ → Prover.Buffers
@@ -80,7 +80,7 @@ abbrev pub verifies : Call → ℕ → Verdict → Case
 verifies c n a = record { Answers = Verdict; asked = verdictOf c n; expected = a }
 
 abbrev pub ends-at : Call → ℕ → List E.Ext → Case
-ends-at c n z = record { Answers = List ℕ; asked = point c n; expected = Prover.pointWords z }
+ends-at c n z = record { Answers = List ℕ; asked = point c n; expected = pointWords z }
 
 abbrev pub equals : (x y : E.Ext) → Case
 equals x y = record { Answers = E.Ext; asked = x; expected = y }
@@ -161,5 +161,5 @@ K1-K10 =
     ∷ equals (E.mul x² x²) (el 11)
     ∷ equals (E.mul x³ x³) (ext 0 0 11 0)
     ∷ equals (Interpolate.cubic Extension (el 0) (el 1) (el 8) (el 27) (el 4)) (el 64)
-    ∷ record { Answers = Verdict; asked = Verifier.verified (Verifier.asked K10 1 (Prover.pointWords (el 5 ∷ []))) (room-again 1) .answer; expected = TurnedAway (RootConsistencyCheckFailed (enc (el 5)) (enc (el 4))) }
+    ∷ record { Answers = Verdict; asked = Verifier.verified (Verifier.asked K10 1 (pointWords (el 5 ∷ []))) (room-again 1) .answer; expected = TurnedAway (RootConsistencyCheckFailed (enc (el 5)) (enc (el 4))) }
     ∷ []

@@ -22,11 +22,11 @@ use Rattle.stored.specs.Parse.{claimsOf, cubicsFrom}
 use Rattle.stored.specs.ParseLaws.{cubics-count}
 use Rattle.multilinear.specs.RoundSum.{Claims}
 use Rattle.gkr.specs.Run.{Frac, Cubic}
-use Rattle.gkr.specs.Transcripts.{Words}
+use Rattle.gkr.specs.Transcripts.{Words, Source}
 use Rattle.gkr.specs.Sumcheck as Sumcheck
 use Rattle.gkr.specs.Gkr as Gkr
 use Rattle.gkr.specs.Gkr.{subround-count}
-use Rattle.transcript.specs.Log.{Supplied, logOf}
+use Rattle.transcript.specs.Log.{Drawing, logOf}
 use Rattle.transcript.proofs.Logs.{then}
 use Rattle.refusal.specs.declared.Refusal.the-variants.{IncorrectSubroundCount}
 use Rattle.round.specs.declared.Layer.{Layer}
@@ -59,12 +59,12 @@ claims-told c d e h = subst CanonClaims (sym e) h
 pub canon-told : (q r : Ext) → q ≡ r → Canon r → Canon q
 canon-told q r e h = subst Canon (sym e) h
 
-came : (bs pt pt' lg lg₁ lg₂ ch : List ℕ) (polys round : ℕ) (s : Layer) (o : Opened) (last : Sums) → getD bs polys 0 ≡ round → Opens pt lg lg₁ ch s o
+came : (bs pt pt' lg lg₁ lg₂ : List ℕ) (ch : Source E.Ext) (polys round : ℕ) (s : Layer) (o : Opened) (last : Sums) → getD bs polys 0 ≡ round → Opens pt lg lg₁ ch s o
     → Summed bs pt pt' lg₁ lg₂ ch (polys + 1) round (o .first) last → Came pt' lg₂ ch round (o .lambda) last (entryAt bs polys) (columns s) (cells pt 0 round) (logOf lg (s .pos))
 came bs pt pt' lg lg₁ lg₂ ch polys round s o last e a b =
     let z : cells pt 0 round ≡ ahead (dec (o .first .xi)) pt 0 round = sym (ahead-all pt round) ∙ ap (λ x. ahead x pt 0 round) (sym (a .xi .value)) in
     let here : _ ≡ summing bs pt lg₁ ch (polys + 1) 0 round (o .first) =
-    (λ i. Sumcheck.verify-gkr-sumcheck Extension (Supplied ch) (cubicsAt bs (polys + 1) (e i)) (z i) (sym (a .claim .value) i) (sym (a .eq .value) i) (sym (a .steps .log) i)) in
+    (λ i. Sumcheck.verify-gkr-sumcheck Extension (Drawing ch) (cubicsAt bs (polys + 1) (e i)) (z i) (sym (a .claim .value) i) (sym (a .eq .value) i) (sym (a .steps .log) i)) in
     record {
       counted = entry-count bs polys ∙ e;
       long = cells-length pt 0 round;
@@ -73,7 +73,7 @@ came bs pt pt' lg lg₁ lg₂ ch polys round s o last e a b =
     }
 
 -- ---- the count is right
-pub round-closed : (bs pt pt₁ pt₂ lg lg₁ lg₂ lg₃ ch : List ℕ) (claims polys round : ℕ) (s : Layer) (o : Opened) (last : Sums) (c : LayerClaims) (r : Advance)
+pub round-closed : (bs pt pt₁ pt₂ lg lg₁ lg₂ lg₃ : List ℕ) (ch : Source E.Ext) (claims polys round : ℕ) (s : Layer) (o : Opened) (last : Sums) (c : LayerClaims) (r : Advance)
     → getD bs polys 0 ≡ round → length lg₂ ≡ length lg → Opens pt lg lg₁ ch s o → Summed bs pt pt₁ lg₁ lg₂ ch (polys + 1) round (o .first) last → claimsIn c ≡ claimsOf (drop claims bs)
     → Closed pt₁ pt₂ lg₂ lg₃ ch (decClaims (claimsIn c)) round (o .lambda) last r → RoundDone bs pt pt₂ lg lg₃ ch claims polys round s r
 round-closed bs pt pt₁ pt₂ lg lg₁ lg₂ lg₃ ch claims polys round s o last c r e l a b q h =
@@ -87,17 +87,17 @@ round-closed bs pt pt₁ pt₂ lg lg₁ lg₂ lg₃ ch claims polys round s o la
     }
 
 -- ---- the count is wrong
-count-fails : (ch : List ℕ) (ms : List (Cubic E.Ext)) (c : Claims E.Ext) (v : Frac E.Ext) (z : List E.Ext) (t : Words) (mss : List (List (Cubic E.Ext))) (cs : List (Claims E.Ext)) (k r : ℕ)
-    → length ms ≡ k → length z ≡ r → (k ≡ r → ⊥) → Gkr.rounds Extension (Supplied ch) (ms ∷ mss) (c ∷ cs) v z t ≡ subround-count r r k (Supplied ch .drawn t)
+count-fails : (ch : Source E.Ext) (ms : List (Cubic E.Ext)) (c : Claims E.Ext) (v : Frac E.Ext) (z : List E.Ext) (t : Words) (mss : List (List (Cubic E.Ext))) (cs : List (Claims E.Ext)) (k r : ℕ)
+    → length ms ≡ k → length z ≡ r → (k ≡ r → ⊥) → Gkr.rounds Extension (Drawing ch) (ms ∷ mss) (c ∷ cs) v z t ≡ subround-count r r k (Drawing ch .drawn t)
 unfolding Gkr.rounds
 count-fails ch ms c v z t mss cs k r a b h =
     let f : eqb (length ms) (length z) ≡ false = ne-eqb (length ms) (length z) (λ q. h (sym a ∙ q ∙ b)) in
-    rw f (λ i. subround-count (b i) (b i) (a i) (Supplied ch .drawn t))
+    rw f (λ i. subround-count (b i) (b i) (a i) (Drawing ch .drawn t))
 
 never : (e : _) (t : Layer) → Stopped e ≡ Next t → ⊥
 never e t q = let z : _≡_ {A = ℕ} 0 1 = cc in omega arith
 
-pub round-stopped : (bs pt lg lg₁ ch : List ℕ) (claims polys round count : ℕ) (s : Layer) (o : Opened) → count ≡ getD bs polys 0 → (count ≡ round → ⊥)
+pub round-stopped : (bs pt lg lg₁ : List ℕ) (ch : Source E.Ext) (claims polys round count : ℕ) (s : Layer) (o : Opened) → count ≡ getD bs polys 0 → (count ≡ round → ⊥)
     → s .pos .put + (16 * round + 24) ≤ length lg → Opens pt lg lg₁ ch s o → RoundDone bs pt pt lg lg₁ ch claims polys round s (Stopped (IncorrectSubroundCount round round count))
 round-stopped bs pt lg lg₁ ch claims polys round count s o e h room a =
     record {

@@ -9,7 +9,7 @@ use lib.Seq.{drop-drop}
 use Rattle.field.specs.Ext as E
 use Rattle.multilinear.specs.RoundSum.{Claims}
 use Rattle.gkr.specs.Run.{Cubic}
-use Rattle.gkr.specs.Transcripts.{Words}
+use Rattle.gkr.specs.Transcripts.{Words, Source}
 use Rattle.transcript.specs.declared.Pos.{Pos}
 use Rattle.transcript.specs.Log.{Steps}
 use Rattle.transcript.proofs.Logs.{then, retold}
@@ -26,7 +26,7 @@ further l m p q h e =
     let n : p + (q - p) ≡ q = omega arith in
     ap (λ k. drop k l) (sym n) ∙ sym (drop-drop (q - p) p l) ∙ ap (drop (q - p)) e ∙ drop-drop (q - p) p m ∙ ap (λ k. drop k m) n
 
-module _ (lg₀ lg lg' ch : List ℕ) (pos₀ pos : Pos) (m : pos₀ .put ≤ pos .put) (d : drop (pos .put) lg ≡ drop (pos .put) lg₀) (l : length lg ≡ length lg₀) where
+module _ (lg₀ lg lg' : List ℕ) (ch : Source E.Ext) (pos₀ pos : Pos) (m : pos₀ .put ≤ pos .put) (d : drop (pos .put) lg ≡ drop (pos .put) lg₀) (l : length lg ≡ length lg₀) where
   pub stopped-before : (v₀ v : Model ch) (e : Refusal) → v₀ ≡ v → Stops lg lg' ch pos v e → Stops lg₀ lg' ch pos₀ v₀ e
   stopped-before v₀ v e q s =
       record {
@@ -52,7 +52,7 @@ module _ (lg₀ lg lg' ch : List ℕ) (pos₀ pos : Pos) (m : pos₀ .put ≤ po
       }
   ended-before pt' n v₀ v (Stopped e) q a = stopped-before v₀ v e q a
 
-pub advanced-before : (lg₀ lg lg' pt' ch : List ℕ) (pos₀ pos : Pos) (k n m n' m' N M : ℕ) (t : Words) (v : List (List (Cubic E.Ext)) → List (Claims E.Ext) → Model ch) (r : Advance)
+pub advanced-before : (lg₀ lg lg' pt' : List ℕ) (ch : Source E.Ext) (pos₀ pos : Pos) (k n m n' m' N M : ℕ) (t : Words) (v : List (List (Cubic E.Ext)) → List (Claims E.Ext) → Model ch) (r : Advance)
     → Steps lg₀ lg pos₀ pos n m t → length lg ≡ length lg₀ → n + n' ≡ N → m + m' ≡ M → Advances lg lg' pt' ch pos k n' m' v r → Advances lg₀ lg' pt' ch pos₀ k N M v r
 advanced-before lg₀ lg lg' pt' ch pos₀ pos k n m n' m' N M t v (Next s) a l x y g =
     record {

@@ -12,6 +12,7 @@ use Rattle.field.specs.declared.Ext.{Ext}
 use Rattle.field.specs.Element.{dec, Canon}
 use Rattle.field.specs.Cells.{cell, Clean, cells}
 use Rattle.wire.specs.Words.{allCanonical}
+use Rattle.gkr.specs.Transcripts.{Source}
 use Rattle.stored.specs.declared.SubroundEvals.{SubroundEvals}
 use Rattle.stored.specs.Shapes.{cubicIn}
 use Rattle.stored.specs.Layout.{cubicsWords}
@@ -19,7 +20,7 @@ use Rattle.stored.specs.Parse.{cubicOf, cubicsFrom}
 use Rattle.stored.specs.ParseLaws.{cubics-step}
 use Rattle.gkr.specs.Run.{Cubic}
 use Rattle.gkr.specs.Sumcheck as Sumcheck
-use Rattle.transcript.specs.Log.{Supplied, logOf}
+use Rattle.transcript.specs.Log.{Drawing, logOf}
 use Rattle.transcript.proofs.Logs.{then, retold, no-steps}
 use Rattle.round.specs.declared.Sums.{Sums}
 use Rattle.round.specs.Values.{decCubic, CanonCubic, CanonSums}
@@ -33,11 +34,11 @@ use Rattle.all_rounds.proofs.Messages.{cubic-first, cubics-rest}
 pub cubic-told : (m : SubroundEvals) (n : Cubic Ext) → cubicIn m ≡ n → CanonCubic n → CanonCubic (cubicIn m)
 cubic-told m n e h = subst CanonCubic (sym e) h
 
-pub told-again : (pt pt' lg lg' ch : List ℕ) (j : ℕ) (m : SubroundEvals) (n : Cubic Ext) (s r : Sums) → cubicIn m ≡ n → SubRound pt pt' lg lg' ch j (decCubic (cubicIn m)) s r
+pub told-again : (pt pt' lg lg' : List ℕ) (ch : Source E.Ext) (j : ℕ) (m : SubroundEvals) (n : Cubic Ext) (s r : Sums) → cubicIn m ≡ n → SubRound pt pt' lg lg' ch j (decCubic (cubicIn m)) s r
     → SubRound pt pt' lg lg' ch j (decCubic n) s r
 told-again pt pt' lg lg' ch j m n s r e h = subst (λ k. SubRound pt pt' lg lg' ch j (decCubic k) s r) e h
 
-pub sub-start : (bs pt lg ch : List ℕ) (from k : ℕ) (s : Sums) → Clean pt → CanonSums s → allCanonical (cubicsWords (cubicsFrom k (drop from bs))) ≡ true
+pub sub-start : (bs pt lg : List ℕ) (ch : Source E.Ext) (from k : ℕ) (s : Sums) → Clean pt → CanonSums s → allCanonical (cubicsWords (cubicsFrom k (drop from bs))) ≡ true
     → Summing bs pt pt lg lg ch from from k 0 s s
 sub-start bs pt lg ch from k s c d w =
     let z : k - 0 ≡ k = omega arith in
@@ -57,24 +58,24 @@ sub-start bs pt lg ch from k s c d w =
     }
 
 -- the model's next sub-round is the one that the code made
-one-sub : (bs pt pt' lg lg' ch : List ℕ) (at j n : ℕ) (s r : Sums) → SubRound pt pt' lg lg' ch j (decCubic (cubicOf (drop at bs))) s r
+one-sub : (bs pt pt' lg lg' : List ℕ) (ch : Source E.Ext) (at j n : ℕ) (s r : Sums) → SubRound pt pt' lg lg' ch j (decCubic (cubicOf (drop at bs))) s r
     → summing bs pt lg ch at j (suc n) s
     ≡ record {
       claim = summing bs pt' lg' ch (at + 48) (j + 1) n r .claim;
-      point = Supplied ch .draw (told (decCubic (cubicOf (drop at bs))) lg (s .pos)) ∷ summing bs pt' lg' ch (at + 48) (j + 1) n r .point;
+      point = ch (told (decCubic (cubicOf (drop at bs))) lg (s .pos)) ∷ summing bs pt' lg' ch (at + 48) (j + 1) n r .point;
       eq = summing bs pt' lg' ch (at + 48) (j + 1) n r .eq;
       log = summing bs pt' lg' ch (at + 48) (j + 1) n r .log;
     }
 unfolding Sumcheck.verify-gkr-sumcheck
 one-sub bs pt pt' lg lg' ch at j n s r h =
-    let x = Supplied ch .draw (told (decCubic (cubicOf (drop at bs))) lg (s .pos)) in
+    let x = ch (told (decCubic (cubicOf (drop at bs))) lg (s .pos)) in
     let z : cells pt (suc j) n ≡ ahead (dec (r .xi)) pt' (j + 1) n = ahead-next pt pt' j n (dec (r .xi)) x (h .xi .value) (h .rho) in
-    let same : Sumcheck.verify-gkr-sumcheck Extension (Supplied ch) (cubicsAt bs (at + 48) n) (cells pt (suc j) n) _ _ _ ≡ summing bs pt' lg' ch (at + 48) (j + 1) n r =
-    (λ i. Sumcheck.verify-gkr-sumcheck Extension (Supplied ch) (cubicsAt bs (at + 48) n) (z i) (sym (h .claim .value) i) (sym (h .eq .value) i) (sym (h .steps .log) i)) in
-    ap (λ ms. Sumcheck.verify-gkr-sumcheck Extension (Supplied ch) (map decCubic ms) (ahead (dec (s .xi)) pt j (suc n)) (dec (s .claim)) (dec (s .eq)) (logOf lg (s .pos))) (cubics-step n at bs)
+    let same : Sumcheck.verify-gkr-sumcheck Extension (Drawing ch) (cubicsAt bs (at + 48) n) (cells pt (suc j) n) _ _ _ ≡ summing bs pt' lg' ch (at + 48) (j + 1) n r =
+    (λ i. Sumcheck.verify-gkr-sumcheck Extension (Drawing ch) (cubicsAt bs (at + 48) n) (z i) (sym (h .claim .value) i) (sym (h .eq .value) i) (sym (h .steps .log) i)) in
+    ap (λ ms. Sumcheck.verify-gkr-sumcheck Extension (Drawing ch) (map decCubic ms) (ahead (dec (s .xi)) pt j (suc n)) (dec (s .claim)) (dec (s .eq)) (logOf lg (s .pos))) (cubics-step n at bs)
     ∙ (λ i. record { claim = same i .claim; point = x ∷ same i .point; eq = same i .eq; log = same i .log })
 
-module _ (bs pt₀ pt lg₀ lg ch : List ℕ) (from at k j : ℕ) (s₀ s : Sums) (i : Summing bs pt₀ pt lg₀ lg ch from at k j s₀ s) where
+module _ (bs pt₀ pt lg₀ lg : List ℕ) (ch : Source E.Ext) (from at k j : ℕ) (s₀ s : Sums) (i : Summing bs pt₀ pt lg₀ lg ch from at k j s₀ s) where
   pub sub-canon : j < k → CanonCubic (cubicOf (drop at bs))
   sub-canon h =
       let e : k - j ≡ suc (k - (j + 1)) = omega arith in
@@ -85,7 +86,7 @@ module _ (bs pt₀ pt lg₀ lg ch : List ℕ) (from at k j : ℕ) (s₀ s : Sums
   sub-turn pt' lg' r h p l d =
       let e : k - j ≡ suc (k - (j + 1)) = omega arith in
       let n = k - (j + 1) in
-      let x = Supplied ch .draw (told (decCubic (cubicOf (drop at bs))) lg (s .pos)) in
+      let x = ch (told (decCubic (cubicOf (drop at bs))) lg (s .pos)) in
       let o = ap (λ n. summing bs pt lg ch at j n s) e ∙ one-sub bs pt pt' lg lg' ch at j n s r d in
       record {
         upto = omega arith;

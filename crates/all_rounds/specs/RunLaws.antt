@@ -9,7 +9,7 @@ use lib.Seq.{length-take-le}
 use Rattle.field.specs.Ext as E
 use Rattle.field.specs.ElementLaws.{is-unique}
 use Rattle.gkr.specs.Run.{Frac}
-use Rattle.gkr.specs.Transcripts.{Words}
+use Rattle.gkr.specs.Transcripts.{Words, Source}
 use Rattle.refusal.specs.declared.Refusal.{Refusal}
 use Rattle.transcript.specs.declared.Pos.{Pos}
 use Rattle.transcript.specs.LogLaws.{log-unique, steps-unique}
@@ -23,11 +23,11 @@ use Rattle.round.specs.AdvanceLaws.{canon-unique, accepted-parts, accepted-or-r
 use Rattle.all_rounds.specs.Runs.{Summed, Accepts, Ends}
 
 -- the claim, eq, where the run stands, and the log
-pub summed-unique : {bs pt pt' pt″ lg lg' lg″ ch : List ℕ} {from k : ℕ} {s₀ r s : Sums} → Summed bs pt pt' lg lg' ch from k s₀ r → Summed bs pt pt″ lg lg″ ch from k s₀ s
+pub summed-unique : {bs pt pt' pt″ lg lg' lg″ : List ℕ} {ch : Source E.Ext} {from k : ℕ} {s₀ r s : Sums} → Summed bs pt pt' lg lg' ch from k s₀ r → Summed bs pt pt″ lg lg″ ch from k s₀ s
     → (r .claim ≡ s .claim) × (r .eq ≡ s .eq) × (r .pos ≡ s .pos) × (lg' ≡ lg″)
 summed-unique h h' = let e = steps-unique (h .steps) (h' .steps) in (is-unique (h .claim) (h' .claim), is-unique (h .eq) (h' .eq), e .0, e .1)
 
-module _ (lg ch : List ℕ) (pos : Pos) (n : ℕ) (v : Model ch) where
+module _ (lg : List ℕ) (ch : Source E.Ext) (pos : Pos) (n : ℕ) (v : Model ch) where
   -- where the log ends
   accepts-put : {l p : List ℕ} {s : Layer} → length l ≡ length lg → Accepts lg l p ch pos n v s → length (take (s .pos .put) l) ≡ s .pos .put
   accepts-put {l} {s = s} q h = length-take-le (s .pos .put) l (omega (arith, h .room, q))

@@ -10,11 +10,12 @@ use lib.ListN.{length, take, drop}
 use lib.Seq.{take-at}
 use Rattle.field.specs.Ext as E
 use Rattle.field.specs.ExtRing.{ExtRing}
-use Rattle.field.specs.Element.{enc, words}
+use Rattle.field.specs.Element.{enc, words, pointWords}
 use Rattle.field.specs.ElementLaws.{is-enc, canon-enc}
 use Rattle.field.specs.Cells as Cells
 use Rattle.field.specs.Cells.{cells}
 use Rattle.field.specs.CellLaws.{cell-right, cell-words}
+use Rattle.field.specs.PointLaws.{point-length}
 use Rattle.gkr.specs.Tree as Tree
 use Rattle.refusal.specs.Fronts.{over}
 use Rattle.refusal.specs.Limits as Limits
@@ -26,7 +27,6 @@ use Rattle.tree.specs.Nodes.{node}
 use Rattle.gate.specs.Refusals as Refusals
 use Rattle.gate.specs.Refusals.{rowCount}
 use Rattle.prover.specs.Proved as Prover
-use Rattle.prover.proofs.Writing.{point-length}
 use Rattle.agreement.specs.Demand3.{Taken, Agreed}
 use Rattle.agreement.proofs.Sizing.{rounds-taken, size-taken, rows-taken, whole, counted}
 use Rattle.agreement.proofs.Agreeing.{demand-3}
@@ -44,25 +44,25 @@ shifted x l at (suc k) = ap₂ _∷_ (ap (Cells.cell (words x ++ l)) (next at) �
     next i = omega arith
 
 -- they stand for it
-point-cells : (zs : List E.Ext) → cells (Prover.pointWords zs) 0 (length zs) ≡ zs
-unfolding Prover.pointWords
+point-cells : (zs : List E.Ext) → cells (pointWords zs) 0 (length zs) ≡ zs
+unfolding pointWords
 point-cells [] = refl
-point-cells (x ∷ xs) = ap₂ _∷_ (cell-words x (Prover.pointWords xs)) (shifted x (Prover.pointWords xs) 0 (length xs) ∙ point-cells xs)
+point-cells (x ∷ xs) = ap₂ _∷_ (cell-words x (pointWords xs)) (shifted x (pointWords xs) 0 (length xs) ∙ point-cells xs)
 
 both : (a b : Bool) → a ≡ true → b ≡ true → cond a b false ≡ true
 both a b h k = rw h k
 
 -- and are canonical
-point-canonical : (zs : List E.Ext) → allCanonical (Prover.pointWords zs) ≡ true
-unfolding Prover.pointWords allCanonical
+point-canonical : (zs : List E.Ext) → allCanonical (pointWords zs) ≡ true
+unfolding pointWords allCanonical
 point-canonical [] = refl
-point-canonical (x ∷ xs) = canonical-append (words x) (Prover.pointWords xs) ∙ both _ _ (elem-canonical (enc x) (canon-enc x)) (point-canonical xs)
+point-canonical (x ∷ xs) = canonical-append (words x) (pointWords xs) ∙ both _ _ (elem-canonical (enc x) (canon-enc x)) (point-canonical xs)
 
 -- A SHEET THAT IS TAKEN
 
 module _ (rows : List ℕ) (n : ℕ) (some : 1 ≤ n) (few : n ≤ Limits.maxRounds) (len : length rows ≡ 8 * 2 ^ n) (valid : allCanonical rows ≡ true) (zs : List E.Ext) (coordinates : length zs ≡ n) where
   abbrev ws : List ℕ
-  ws = Prover.pointWords zs
+  ws = pointWords zs
 
   long : length ws ≡ 4 * n
   long = point-length zs ∙ ap (λ k. 4 * k) coordinates

@@ -7,9 +7,12 @@ use Prim.Native.Nat.{ℕ, _*_, _≤_}
 use borrow.Author.Tests.{le-ltb, ltb-false}
 use lib.Dec.{eqb, ltb}
 use lib.ListN.{length, getD}
+use Rattle.field.specs.Ext as E
 use Rattle.gkr.specs.Tests.{either}
+use Rattle.gkr.specs.Transcripts.{Source}
 use Rattle.gkr.specs.Sizes as Sizes
 use Rattle.gkr.specs.Gkr.{accepted, zero-rounds, layer-count, poly-count, zero-check, root-check, subround-count, layer-check}
+use Rattle.transcript.specs.Log.{supplied}
 use Rattle.refusal.specs.Limits.{maxRounds}
 use Rattle.refusal.specs.Tests.{Tested, firstOf}
 use Rattle.wire.specs.Words.{allCanonical}
@@ -26,7 +29,7 @@ use Rattle.exported.specs.Asked.{ForVerifier, NotShort, VerifierNotShort
 use Rattle.exported.proofs.Lending.{never, fits, lent, log-room, other}
 
 -- what the run answers
-model : (ch : List ℕ) (w : Model ch) → NotShort (verdictReport (answerOf ch w) .number)
+model : (ch : Source E.Ext) (w : Model ch) → NotShort (verdictReport (answerOf ch w) .number)
 model ch (accepted v z t) = other 0 refl refl
 model ch zero-rounds = other 10 refl refl
 model ch (layer-count expected actual) = other 14 refl refl
@@ -57,4 +60,4 @@ verifier-not-short a v h =
     either P (not (eqb (getD (a .proof) 0 0) 1)) _ _ (λ e. other 12 refl refl) (λ e5.
     either P (not (Parse.fits (a .proof))) _ _ (λ e. other 13 refl refl) (λ e6.
     either P (not (allCanonical (proofWords (proofOf (a .proof))))) _ _ (λ e. other 6 refl refl) (λ e7.
-    either P (not (allCanonical (needed a))) _ _ (λ e. other 6 refl refl) (λ e8. model (needed a) (verdict (a .proof) (a .rounds) (needed a))))))))))
+    either P (not (allCanonical (needed a))) _ _ (λ e. other 6 refl refl) (λ e8. model (supplied (needed a)) (verdict (a .proof) (a .rounds) (supplied (needed a)))))))))))

@@ -6,6 +6,7 @@ use Prim.Native.Nat.{ℕ, zero, suc, _<_}
 use native.Mathlib.Omega.{arith}
 use borrow.Author.Tests.{leb-true}
 use Rattle.field.specs.ExtRing.{arithmetic}
+use Rattle.field.specs.Element.{pointWords}
 use Rattle.field.specs.Cells.{cell}
 use Rattle.gkr.specs.Compute.{model, el, minus, frac}
 use Rattle.refusal.specs.Tests.{firstOf}
@@ -38,7 +39,7 @@ sound (suc (suc (suc zero))) h = refl
 sound (suc (suc (suc (suc i)))) h = absurd (omega arith)
 
 sheet : (live : Bool) → Sheet (in-mode live K3) n
-unfolding model arithmetic cell allCanonical Prover.pointWords
+unfolding model arithmetic cell allCanonical pointWords
 sheet live =
     record {
       some = leb-true _ _ refl;
@@ -53,7 +54,7 @@ sheet live =
 
 -- buffers of zeros, and K3's own challenges
 for-prover : (live : Bool) → ForProver n (in-mode live K3) (room n)
-unfolding Prover.pointWords
+unfolding pointWords
 for-prover live =
     record {
       proof = leb-true _ _ refl;
@@ -64,7 +65,7 @@ for-prover live =
     }
 
 for-verifier : ForVerifier n (K3 .challenges) (room-again n)
-unfolding Prover.pointWords
+unfolding pointWords
 for-verifier = record { point = leb-true _ _ refl; log = leb-true _ _ refl; challenges = leb-true _ _ refl }
 
 pub K3-met : K3Met
@@ -78,7 +79,7 @@ K3-met live =
     }
 
 claims : (live : Bool) → handed (in-mode live K3) n (proving (in-mode live K3) (room n)) (room-again n) .told ≡ done 0 (frac (minus 25) (el 1))
-unfolding model arithmetic cell allCanonical bytesOf word claimsWords cubicsWords polysWords entriesBytes layout claimsFrom cubicsFrom entriesFrom entriesFit fits roundsFrom isSize shortRoom degenerate lowest firstOf firstRefusal Prover.pointWords Prover.fronts Prover.proved Verifier.verified answerWords
+unfolding model arithmetic cell allCanonical bytesOf word claimsWords cubicsWords polysWords entriesBytes layout claimsFrom cubicsFrom entriesFrom entriesFit fits roundsFrom isSize shortRoom degenerate lowest firstOf firstRefusal pointWords Prover.fronts Prover.proved Verifier.verified answerWords
 claims true = refl
 claims false = refl
 

@@ -7,14 +7,14 @@ use Prim.Native.Nat.{ℕ}
 use lib.ListN.{length, take}
 use Rattle.field.specs.Ext as E
 use Rattle.field.specs.ExtRing.{ExtRing}
-use Rattle.field.specs.Element.{words}
+use Rattle.field.specs.Element.{words, pointWords}
 use Rattle.gkr.specs.Run.{Frac}
 use Rattle.gkr.specs.Sizes.{proof-bytes, log-words}
 use Rattle.gkr.specs.Tree as Tree
 use Rattle.tree.specs.Nodes.{node}
 use Rattle.gate.specs.Refusals.{Call}
 use Rattle.refusal.specs.Fronts.{over}
-use Rattle.prover.specs.Proved.{Buffers, pointWords}
+use Rattle.prover.specs.Proved.{Buffers}
 use Rattle.verifier.specs.Verified.{Lent, asked}
 use Rattle.agreement.specs.Demand3.{Taken, root, Room}
 use Rattle.accudrina.specs.Answer.{Told}

@@ -1,8 +1,8 @@
--- The element of the extension that four words stand for, and the words of an element.
+-- The element of the extension that four words stand for, and the words of an element and of a point.
 -- Assumes nothing.
 use mathlib.Core.Path.{_≡_}
 use mathlib.Core.Bool.{Bool, _&&_}
-use mathlib.Core.List.{List, [], _∷_}
+use mathlib.Core.List.{List, [], _∷_, _++_}
 use Prim.Native.Nat.{ℕ, _<_}
 use lib.Dec.{eqb, ltb}
 use Rattle.field.specs.Base.{P}
@@ -20,6 +20,11 @@ enc x = record { c0 = x .c0 .val; c1 = x .c1 .val; c2 = x .c2 .val; c3 = x .c3 .
 -- the same as a list, in the order in which they are stored
 abbrev pub words : E.Ext → List ℕ
 words x = x .c0 .val ∷ x .c1 .val ∷ x .c2 .val ∷ x .c3 .val ∷ []
+
+-- the words of a point, in order
+unfoldable pub pointWords : List E.Ext → List ℕ
+pointWords [] = []
+pointWords (x ∷ xs) = words x ++ pointWords xs
 
 -- the four words are canonical
 pub record Canon (e : Ext) : Type 0 where

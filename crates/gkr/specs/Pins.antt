@@ -7,10 +7,11 @@ use mathlib.Core.List.{List, [], _∷_}
 use Prim.Native.Nat.{ℕ}
 use Rattle.field.specs.Ext.{Ext}
 use Rattle.field.specs.ExtRing.{arithmetic}
+use Rattle.field.specs.Element.{words}
 use Rattle.field.specs.Extension.{Extension}
 use Rattle.gkr.specs.Run.{Transcript, Frac, Proof}
 use Rattle.gkr.specs.Compute.{model, el, minus, frac, claims, cubic, rows}
-use Rattle.gkr.specs.Transcripts.{Event, observed, sampled, supplied, lent}
+use Rattle.gkr.specs.Transcripts.{Event, observed, sampled, supplied, empty, drawing}
 use Rattle.gkr.specs.Gkr
 use Rattle.gkr.specs.Gkr.{done, non-zero-root-sum, accepted, zero-check, root-check}
 
@@ -39,9 +40,9 @@ opposites-run·verdict = refl
 
 -- the same log in words
 abbrev pub fives : Transcript Ext
-fives = lent (λ x. x .c0 .val ∷ x .c1 .val ∷ x .c2 .val ∷ x .c3 .val ∷ []) (λ _. el 5)
+fives = drawing words (λ _. el 5)
 
-pub opposites-run·words : Gkr.run Extension fives 0 opposites (record { log = []; used = 0 }) .log
+pub opposites-run·words : Gkr.run Extension fives 0 opposites empty .log
     ≡ record { log = 4 ∷ 0 ∷ 0 ∷ 0 ∷ 1 ∷ 0 ∷ 0 ∷ 0 ∷ 2 ∷ 0 ∷ 0 ∷ 0 ∷ 2013265920 ∷ 0 ∷ 0 ∷ 0 ∷ 2 ∷ 0 ∷ 0 ∷ 0 ∷ 2147483653 ∷ 2147483648 ∷ 2147483648 ∷ 2147483648 ∷ []; used = 1 }
 unfolding model arithmetic
 opposites-run·words = refl

@@ -1,4 +1,4 @@
--- Over challenges lent or supplied beforehand: how many a run samples, how many words it leaves in the log, and that the k-th sample is the k-th challenge.
+-- Over challenges from any source: how many a run samples, and how many words it leaves in the log. Over supplied ones: the k-th sample is the k-th challenge.
 -- Assumes nothing.
 use mathlib.Core.Path.{_≡_, refl, _∙_, ap, ap₂, subst}
 use mathlib.Core.Bool.{Bool, true, false, cond}
@@ -14,7 +14,7 @@ use Rattle.gkr.specs.Run.{Frac, Proof, Transcript}
 use Rattle.gkr.specs.Sizes.{challenges, log-words}
 use Rattle.gkr.specs.Gkr
 use Rattle.gkr.specs.Gkr.{done, accepted}
-use Rattle.gkr.specs.Transcripts.{Event, observed, sampled, count, supplied, mark, Words, lent}
+use Rattle.gkr.specs.Transcripts.{Event, observed, sampled, count, supplied, mark, Words, empty, Source, drawing}
 use Rattle.gkr.specs.Count
 use Rattle.gkr.specs.VerifierCount
 use Rattle.gkr.specs.Keeps
@@ -38,12 +38,12 @@ unfolding sampled-words
 sampled-mark [] = refl
 sampled-mark (w ∷ ws) = ap (λ t. cond t (mark w ∷ sampled-words (map mark ws)) (sampled-words (map mark ws))) (le-leb (2 ^ 31) (mark w) (omega arith)) ∙ ap (λ l. mark w ∷ l) (sampled-mark ws)
 
-module _ (F : Field) (words : F .ring .carrier → List ℕ) (challenge : ℕ → F .ring .carrier) where
+module _ (F : Field) (words : F .ring .carrier → List ℕ) (source : Source (F .ring .carrier)) where
   abbrev R : Type 0
   R = F .ring .carrier
 
   abbrev S : Transcript R
-  S = lent words challenge
+  S = drawing words source
 
   -- HOW MANY CHALLENGES ARE SAMPLED
 
@@ -86,7 +86,7 @@ module _ (F : Field) (words : F .ring .carrier → List ℕ) (challenge : ℕ �
     drawn-words : (t : Words) → length (S .drawn t .log) ≡ length (t .log) + 4
     drawn-words t =
         length-append (t .log) _
-        ∙ ap (λ k. length (t .log) + k) (length-map (words (challenge (t .used))) mark ∙ four (challenge (t .used)))
+        ∙ ap (λ k. length (t .log) + k) (length-map (words (source t)) mark ∙ four (source t))
 
     pub done-words : (asserted : Bool) (m : ℕ) (f : ℕ → Frac R) (t : Words) (P : Gkr.Proved F S)
         → Gkr.fractional-sumcheck F S asserted m f t ≡ done P → length (P .log .log) ≡ length (t .log) + log-words asserted (suc m)
@@ -110,7 +110,17 @@ module _ (F : Field) (words : F .ring .carrier → List ℕ) (challenge : ℕ �
         subst (λ k. length (Gkr.log-after F S t (Gkr.verify-gkr F S (suc m) π t) .log) ≤ length (t .log) + k) (Count.words m)
         (VerifierCount.left-size F S (λ u. length (u .log)) 4 4 observe-words drawn-words m π t)
 
-  -- THE ORDER, where no word of an element has its top bit set
+-- THE ORDER, where no word of an element has its top bit set
+
+module _ (F : Field) (words : F .ring .carrier → List ℕ) (challenge : ℕ → F .ring .carrier) where
+  abbrev A : Type 0
+  A = F .ring .carrier
+
+  abbrev next : Source A
+  next t = challenge (t .used)
+
+  abbrev T : Transcript A
+  T = drawing words next
 
   -- the first k challenges as they stand in the log
   unfoldable pub firsts : (k : ℕ) → List ℕ
@@ -121,35 +131,35 @@ module _ (F : Field) (words : F .ring .carrier → List ℕ) (challenge : ℕ �
   abbrev pub Ordered : Words → Type 0
   Ordered t = sampled-words (t .log) ≡ firsts (t .used)
 
-  module _ (plain : (x : R) → sampled-words (words x) ≡ []) where
-    observe-ordered : (x : R) (t : Words) → Ordered t → Ordered (S .observe x t)
+  module _ (plain : (x : A) → sampled-words (words x) ≡ []) where
+    observe-ordered : (x : A) (t : Words) → Ordered t → Ordered (T .observe x t)
     observe-ordered x t h = sampled-append (t .log) (words x) ∙ ap₂ _++_ h (plain x) ∙ append-nil _
 
-    drawn-ordered : (t : Words) → Ordered t → Ordered (S .drawn t)
+    drawn-ordered : (t : Words) → Ordered t → Ordered (T .drawn t)
     unfolding firsts
     drawn-ordered t h = sampled-append (t .log) _ ∙ ap₂ _++_ h (sampled-mark (words (challenge (t .used))))
 
     -- along the prover's run, and along the verifier's
-    pub done-ordered : (asserted : Bool) (m : ℕ) (f : ℕ → Frac R) (t : Words) (P : Gkr.Proved F S)
-        → Gkr.fractional-sumcheck F S asserted m f t ≡ done P → Ordered t → Ordered (P .log)
-    done-ordered = Keeps.done-keeps F S Ordered observe-ordered drawn-ordered
+    pub done-ordered : (asserted : Bool) (m : ℕ) (f : ℕ → Frac A) (t : Words) (P : Gkr.Proved F T)
+        → Gkr.fractional-sumcheck F T asserted m f t ≡ done P → Ordered t → Ordered (P .log)
+    done-ordered = Keeps.done-keeps F T Ordered observe-ordered drawn-ordered
 
-    pub left-ordered : (n : ℕ) (π : Proof R) (t : Words) → Ordered t → Ordered (Gkr.log-after F S t (Gkr.verify-gkr F S n π t))
-    left-ordered = Keeps.verify-keeps F S Ordered observe-ordered drawn-ordered
+    pub left-ordered : (n : ℕ) (π : Proof A) (t : Words) → Ordered t → Ordered (Gkr.log-after F T t (Gkr.verify-gkr F T n π t))
+    left-ordered = Keeps.verify-keeps F T Ordered observe-ordered drawn-ordered
 
     -- from an empty log: the sampled words are the first C(n) challenges, in order
-    pub done-samples : (asserted : Bool) (m : ℕ) (f : ℕ → Frac R) (P : Gkr.Proved F S)
-        → Gkr.fractional-sumcheck F S asserted m f (record { log = []; used = 0 }) ≡ done P → sampled-words (P .log .log) ≡ firsts (challenges (suc m))
+    pub done-samples : (asserted : Bool) (m : ℕ) (f : ℕ → Frac A) (P : Gkr.Proved F T)
+        → Gkr.fractional-sumcheck F T asserted m f empty ≡ done P → sampled-words (P .log .log) ≡ firsts (challenges (suc m))
     unfolding sampled-words firsts
     done-samples asserted m f P e =
-        done-ordered asserted m f (record { log = []; used = 0 }) P e refl ∙ ap firsts (done-draws asserted m f _ P e ∙ zero-add _)
+        done-ordered asserted m f empty P e refl ∙ ap firsts (done-draws F words next asserted m f _ P e ∙ zero-add _)
 
-    pub accepted-samples : (m : ℕ) (π : Proof R) (v : Frac R) (xi : List R) (u : Words)
-        → Gkr.verify-gkr F S (suc m) π (record { log = []; used = 0 }) ≡ accepted v xi u → sampled-words (u .log) ≡ firsts (challenges (suc m))
+    pub accepted-samples : (m : ℕ) (π : Proof A) (v : Frac A) (xi : List A) (u : Words)
+        → Gkr.verify-gkr F T (suc m) π empty ≡ accepted v xi u → sampled-words (u .log) ≡ firsts (challenges (suc m))
     unfolding sampled-words firsts
     accepted-samples m π v xi u e =
-        subst (λ w. Ordered (Gkr.log-after F S (record { log = []; used = 0 }) w)) e (left-ordered (suc m) π (record { log = []; used = 0 }) refl)
-        ∙ ap firsts (accepted-draws m π _ v xi u e ∙ zero-add _)
+        subst (λ w. Ordered (Gkr.log-after F T empty w)) e (left-ordered (suc m) π empty refl)
+        ∙ ap firsts (accepted-draws F words next m π _ v xi u e ∙ zero-add _)
 
 -- IN A LOG OF EVENTS: the k-th sample is the k-th challenge
 

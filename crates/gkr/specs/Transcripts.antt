@@ -1,4 +1,4 @@
--- Transcripts: challenges from any source over a log of events; and supplied ones over a log of words.
+-- Transcripts: challenges from any source, over a log of events and over a log of words.
 -- Assumes nothing.
 use mathlib.Core.List.{List, [], _∷_, _++_, map}
 use Prim.Native.Nat.{ℕ, suc, _+_, _^_}
@@ -41,11 +41,18 @@ pub record Words : Type 0 where
   pub log : List ℕ
   pub used : ℕ
 
--- challenges lent beforehand, used in their order; `words x` is x as words
-abbrev pub lent : {A : Type 0} (words : A → List ℕ) (challenge : ℕ → A) → Transcript A
-lent words challenge = record {
+abbrev pub empty : Words
+empty = record { log = []; used = 0 }
+
+-- what gives the next challenge from the words so far
+abbrev pub Source : (A : Type 0) → Type 0
+Source A = Words → A
+
+-- a log of words, with challenges from a source; `words x` is x as words
+abbrev pub drawing : {A : Type 0} (words : A → List ℕ) (source : Source A) → Transcript A
+drawing words source = record {
   Log = Words;
   observe = λ x t. record { log = t .log ++ words x; used = t .used };
-  draw = λ t. challenge (t .used);
-  drawn = λ t. record { log = t .log ++ map mark (words (challenge (t .used))); used = suc (t .used) };
+  draw = source;
+  drawn = λ t. record { log = t .log ++ map mark (words (source t)); used = suc (t .used) };
 }

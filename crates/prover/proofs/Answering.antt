@@ -11,13 +11,14 @@ use Rattle.field.specs.Base as B
 use Rattle.field.specs.Ext as E
 use Rattle.field.specs.ExtRing.{ExtRing}
 use Rattle.field.specs.Extension.{Extension}
-use Rattle.field.specs.Element.{dec, enc}
+use Rattle.field.specs.Element.{dec, enc, pointWords}
 use Rattle.field.specs.ElementLaws.{enc-of-is}
+use Rattle.gkr.specs.Transcripts.{empty, Source}
 use Rattle.gkr.specs.Run.{Frac}
 use Rattle.gkr.specs.Tree as Tree
 use Rattle.gkr.specs.Gkr as Gkr
 use Rattle.gkr.specs.Gkr.{done, non-zero-root-sum}
-use Rattle.transcript.specs.Log.{Supplied}
+use Rattle.transcript.specs.Log.{Drawing}
 use Rattle.step.specs.declared.Frac.{Frac as FracW}
 use Rattle.step.specs.Values.{IsFrac}
 use Rattle.tree.specs.Nodes.{node}
@@ -33,7 +34,7 @@ use Rattle.stored.specs.Layout.{layout}
 use Rattle.stored_writer.specs.Messages.{noRows}
 use Rattle.prover.specs.declared.Answer.{Answer}
 use Rattle.prover.specs.declared.Answer.the-variants.{Done, Refused}
-use Rattle.prover.specs.Proved.{Buffers, Outcome, lent, outcome, laid, encFrac, nothing, untouched, after, oneRow, ran, entered, fronts, proved, roomsOf, pointWords}
+use Rattle.prover.specs.Proved.{Buffers, Outcome, lent, outcome, laid, encFrac, untouched, after, oneRow, ran, entered, fronts, proved, roomsOf}
 use Rattle.prover.specs.Inner.{runOf, Written}
 use Rattle.prover.proofs.Writing.{drop-all, whole-proof}
 
@@ -45,12 +46,12 @@ deny-asserted b s h e = rw (h, e)
 pub deny-open : (b s : Bool) → b ≡ false → false ≡ (b && not s)
 deny-open b s h = rw h
 
-module _ (ch : List ℕ) (f : ℕ → Frac E.Ext) (m : ℕ) where
+module _ (ch : Source E.Ext) (f : ℕ → Frac E.Ext) (m : ℕ) where
   abbrev root : Frac E.Ext
   root = Tree.tree ExtRing f (suc m) 0
 
-  abbrev model : Bool → Gkr.Answer Extension (Supplied ch)
-  model b = Gkr.fractional-sumcheck Extension (Supplied ch) b m f nothing
+  abbrev model : Bool → Gkr.Answer Extension (Drawing ch)
+  model b = Gkr.fractional-sumcheck Extension (Drawing ch) b m f empty
 
   pub sumcheck-refused : (b : Bool) → (b && not (E.same (root .p) E.nil)) ≡ true → model b ≡ non-zero-root-sum
   unfolding Gkr.fractional-sumcheck
@@ -66,7 +67,7 @@ pub zeros-length : (n : ℕ) → length (replicate {A = ℕ} n 0) ≡ n
 zeros-length n = let z : ℕ = 0 in length-replicate n z
 
 -- the same workspace room, and the same tree, under the other number
-pub rewritten : {f : ℕ → Frac E.Ext} {asserted : Bool} {m : ℕ} {ch pf pt lg ws ws₁ : List ℕ} {b' : Buffers} → length ws₁ ≡ length ws
+pub rewritten : {f : ℕ → Frac E.Ext} {asserted : Bool} {m : ℕ} {ch : Source E.Ext} {pf pt lg ws ws₁ : List ℕ} {b' : Buffers} → length ws₁ ≡ length ws
     → Written f asserted m ch (lent pf pt lg ws₁) b' → Written f asserted m ch (lent pf pt lg ws) b'
 rewritten e w = record { proof = w .proof; point = w .point; log = w .log; work = w .work ∙ ap (λ k. replicate k 0) e }
 
@@ -80,7 +81,7 @@ whole-work ws ws' m n size e s l h =
     h ∙ ap (λ k. replicate k 0) k ∙ sym (append-nil (replicate (workRoom n) 0))
     ∙ ap (λ r. replicate (workRoom n) 0 ++ r) (sym (drop-all (length (replicate (workRoom n) 0)) ws (omega (arith, k, zeros-length (workRoom n)))))
 
-module _ (rows ch pf pt lg ws : List ℕ) (asserted : Bool) (m n size : ℕ) (root : FracW) (e : n ≡ suc m) (se : size ≡ 2 ^ n) (lw : length ws ≡ 32 * size)
+module _ (rows : List ℕ) (ch : Source E.Ext) (pf pt lg ws : List ℕ) (asserted : Bool) (m n size : ℕ) (root : FracW) (e : n ≡ suc m) (se : size ≡ 2 ^ n) (lw : length ws ≡ 32 * size)
     (R : IsFrac root (Tree.tree ExtRing (node rows) (suc m) 0)) {t : Bool} (te : t ≡ (asserted && not (E.same (dec (root .p)) E.nil))) where
   abbrev f : ℕ → Frac E.Ext
   f = node rows
@@ -88,8 +89,8 @@ module _ (rows ch pf pt lg ws : List ℕ) (asserted : Bool) (m n size : ℕ) (ro
   abbrev before : Buffers
   before = lent pf pt lg ws
 
-  abbrev told : Bool → Gkr.Answer Extension (Supplied ch)
-  told b = Gkr.fractional-sumcheck Extension (Supplied ch) b m f nothing
+  abbrev told : Bool → Gkr.Answer Extension (Drawing ch)
+  told b = Gkr.fractional-sumcheck Extension (Drawing ch) b m f empty
 
   tested : t ≡ (asserted && not (E.same (Tree.tree ExtRing f (suc m) 0 .p) E.nil))
   tested = te ∙ ap (λ x. asserted && not (E.same x E.nil)) (R .p .value)

@@ -7,18 +7,22 @@ use Prim.Native.Nat.{ℕ, suc, _*_, _-_, _^_, _≤_}
 use native.Mathlib.Omega.{arith}
 use lib.ListN.{length, take, drop, replicate, take-append-drop}
 use lib.Seq.{length-take-le}
+use Rattle.field.specs.Ext as E
 use Rattle.field.specs.Extension.{Extension}
+use Rattle.field.specs.Element.{pointWords}
+use Rattle.field.specs.PointLaws.{point-length}
+use Rattle.gkr.specs.Transcripts.{empty, Source}
 use Rattle.gkr.specs.Sizes.{challenges}
 use Rattle.gkr.specs.Count as Count
 use Rattle.gkr.specs.Gkr as Gkr
 use Rattle.gkr.specs.Gkr.{done, non-zero-root-sum}
-use Rattle.transcript.specs.Log.{Supplied}
+use Rattle.transcript.specs.Log.{Drawing, supplied}
 use Rattle.tree.specs.Nodes.{node}
 use Rattle.gate.specs.Refusals.{rowCount, roundsOf, workRoom}
 use Rattle.prover.specs.declared.Answer.{Answer}
 use Rattle.refusal.specs.Fronts.{over}
-use Rattle.prover.specs.Proved.{Buffers, Outcome, lent, outcome, laid, nothing, after, ran, pointWords}
-use Rattle.prover.proofs.Writing.{drop-all, point-length}
+use Rattle.prover.specs.Proved.{Buffers, Outcome, lent, outcome, laid, after, ran}
+use Rattle.prover.proofs.Writing.{drop-all}
 use Rattle.prover.proofs.Answering.{zeros-length}
 
 over-part : (ws l : List ℕ) (k : ℕ) → length ws ≡ k → k ≤ length l → over ws (take k l) ++ drop k l ≡ over ws l
@@ -26,7 +30,7 @@ over-part ws l k e h =
     let z : drop (length ws) (take k l) ≡ [] = drop-all (length ws) (take k l) (omega (arith, length-take-le k l h)) in
     ap (λ r. (ws ++ r) ++ drop k l) z ∙ ap (λ r. r ++ drop k l) (append-nil ws) ∙ ap (λ n. ws ++ drop n l) (sym e)
 
-module _ (ch : List ℕ) (n k w : ℕ) (pf pt lg ws : List ℕ) (ke : k ≡ 4 * n) (we : w ≡ workRoom n) (kl : k ≤ length pt) (wl : w ≤ length ws) where
+module _ (ch : Source E.Ext) (n k w : ℕ) (pf pt lg ws : List ℕ) (ke : k ≡ 4 * n) (we : w ≡ workRoom n) (kl : k ≤ length pt) (wl : w ≤ length ws) where
   abbrev whole : Buffers
   whole = lent pf pt lg ws
 
@@ -40,7 +44,7 @@ module _ (ch : List ℕ) (n k w : ℕ) (pf pt lg ws : List ℕ) (ke : k ≡ 4 * 
   wipes : over (replicate (workRoom n) 0) (take w ws) ++ drop w ws ≡ over (replicate (workRoom n) 0) ws
   wipes = over-part (replicate (workRoom n) 0) ws w (zeros-length (workRoom n) ∙ sym we) wl
 
-  pub glued : (a : Gkr.Answer Extension (Supplied ch)) → ((P : Gkr.Proved Extension (Supplied ch)) → a ≡ done P → length (P .point) ≡ n) → glue (laid (after ch n a) cut) ≡ laid (after ch n a) whole
+  pub glued : (a : Gkr.Answer Extension (Drawing ch)) → ((P : Gkr.Proved Extension (Drawing ch)) → a ≡ done P → length (P .point) ≡ n) → glue (laid (after ch n a) cut) ≡ laid (after ch n a) whole
   glued (done P) h =
       let p = over-part (pointWords (P .point)) pt k (point-length (P .point) ∙ ap (λ j. 4 * j) (h P refl) ∙ sym ke) kl in
       let o = laid (after ch n (done P)) whole in
@@ -52,19 +56,19 @@ module _ (ch : List ℕ) (n k w : ℕ) (pf pt lg ws : List ℕ) (ke : k ≡ 4 * 
 pub run-parts : (rows ch pf pt lg ws : List ℕ) (asserted : Bool) (n need size k w : ℕ) (r : Answer) (pf' xi' lg' ws' : List ℕ)
     → n ≡ roundsOf (rowCount rows) → (n ≡ 0 → ⊥) → size ≡ 2 ^ n → need ≡ 4 * challenges n → k ≡ 4 * n → w ≡ 32 * size → k ≤ length pt → w ≤ length ws
     → ((m : ℕ) → n ≡ suc m → outcome r pf' xi' lg' ws'
-    ≡ laid (after (take need ch) n (Gkr.fractional-sumcheck Extension (Supplied (take need ch)) asserted m (node rows) nothing)) (lent pf (take k pt) lg (take w ws)))
+    ≡ laid (after (supplied (take need ch)) n (Gkr.fractional-sumcheck Extension (Drawing (supplied (take need ch))) asserted m (node rows) empty)) (lent pf (take k pt) lg (take w ws)))
     → outcome r pf' (xi' ++ drop k pt) lg' (ws' ++ drop w ws) ≡ laid (ran rows asserted ch (roundsOf (rowCount rows))) (lent pf pt lg ws)
 run-parts rows ch pf pt lg ws asserted n need size k w r pf' xi' lg' ws' ne nz se de ke we kl wl h =
     let m = n - 1 in
     let e : n ≡ suc m = omega arith in
-    let c = take need ch in
+    let c = supplied (take need ch) in
     let wr : w ≡ workRoom n = we ∙ ap (λ j. 32 * j) (se ∙ ap (λ j. 2 ^ j) e) ∙ ap workRoom (sym e) in
-    let a = Gkr.fractional-sumcheck Extension (Supplied c) asserted m (node rows) nothing in
+    let a = Gkr.fractional-sumcheck Extension (Drawing c) asserted m (node rows) empty in
     let b : Buffers = lent pf pt lg ws in
     ap (glue c n k w pf pt lg ws ke wr kl wl) (h m e)
-    ∙ glued c n k w pf pt lg ws ke wr kl wl a (λ P q. Count.done-point Extension (Supplied c) asserted m (node rows) nothing P q ∙ sym e)
-    ∙ (λ i. laid (after (take (de i) ch) (e i) (Gkr.fractional-sumcheck Extension (Supplied (take (de i) ch)) asserted m (node rows) nothing)) b)
-    ∙ ap (λ j. laid (after (take (4 * challenges j) ch) (suc m) (Gkr.fractional-sumcheck Extension (Supplied (take (4 * challenges j) ch)) asserted m (node rows) nothing)) b) e
+    ∙ glued c n k w pf pt lg ws ke wr kl wl a (λ P q. Count.done-point Extension (Drawing c) asserted m (node rows) empty P q ∙ sym e)
+    ∙ (λ i. laid (after (supplied (take (de i) ch)) (e i) (Gkr.fractional-sumcheck Extension (Drawing (supplied (take (de i) ch))) asserted m (node rows) empty)) b)
+    ∙ ap (λ j. laid (after (supplied (take (4 * challenges j) ch)) (suc m) (Gkr.fractional-sumcheck Extension (Drawing (supplied (take (4 * challenges j) ch))) asserted m (node rows) empty)) b) e
     ∙ ap (λ j. laid (ran rows asserted ch j) b) (sym e ∙ ne)
 
 -- no rounds take no challenges

@@ -10,10 +10,11 @@ use lib.ListN.{replicate, take}
 use Rattle.field.specs.Ext as E
 use Rattle.field.specs.Extension.{Extension}
 use Rattle.gkr.specs.Tests.{either}
+use Rattle.gkr.specs.Transcripts.{empty, Source}
 use Rattle.gkr.specs.Sizes.{challenges}
 use Rattle.gkr.specs.Gkr as Gkr
 use Rattle.gkr.specs.Gkr.{done, non-zero-root-sum}
-use Rattle.transcript.specs.Log.{Supplied}
+use Rattle.transcript.specs.Log.{Drawing, supplied, Observing}
 use Rattle.step.specs.declared.Frac.{Frac}
 use Rattle.tree.specs.Nodes.{node}
 use Rattle.refusal.specs.TestWays.{Ways, each-way}
@@ -23,7 +24,7 @@ use Rattle.gate.specs.Refusals.{Call, Rooms, rowCount, roundsOf, workRoom, test
 use Rattle.gate.proofs.Admitting.{both}
 use Rattle.prover.specs.declared.Answer.{Answer}
 use Rattle.prover.specs.declared.Answer.the-variants.{Done, Refused}
-use Rattle.prover.specs.Proved.{Buffers, Outcome, outcome, laid, untouched, finished, after, nothing, ran, entered, fronts, proved}
+use Rattle.prover.specs.Proved.{Buffers, Outcome, outcome, laid, untouched, finished, after, ran, entered, fronts, proved}
 use Rattle.prover.specs.Report.{answerReport}
 use Rattle.prover.specs.Companions.{Isolation, Left, Wiping}
 
@@ -42,17 +43,17 @@ isolation c b b′ e = (refl, ap (λ r. laid (fronts c r) b′) (sym e))
 
 -- Q of each end of a run over n rounds
 pub record Ends (Q : Outcome → Type 0) (n : ℕ) : Type 0 where
-  pub finishes : (ch : List ℕ) (P : Gkr.Proved Extension (Supplied ch)) → Q (finished ch n P)
+  pub finishes : (ch : Source E.Ext) (P : Gkr.Proved Extension (Drawing ch)) → Q (finished ch n P)
   pub eight : Q (outcome (Refused NonZeroRootSum) [] [] [] (replicate (workRoom n) 0))
   pub nine : Q (untouched SingleRow)
 
 pub each-end : (Q : Outcome → Type 0) (rows : List ℕ) (asserted : Bool) (ch : List ℕ) (n : ℕ) → Ends Q n → Q (ran rows asserted ch n)
 each-end Q rows asserted ch zero w =
-    either Q (eqb (rowCount rows) 0) _ _ (λ e. w .finishes [] (Gkr.no-rows Extension (Supplied []) nothing))
+    either Q (eqb (rowCount rows) 0) _ _ (λ e. w .finishes (supplied []) (Gkr.no-rows Extension Observing empty))
     (λ e. either (λ r. Q (untouched r)) (asserted && not (E.same (node rows 0 .p) E.nil)) NonZeroRootSum SingleRow (λ h. w .eight) (λ h. w .nine))
-each-end Q rows asserted ch (suc m) w = let needed = take (4 * challenges (suc m)) ch in model needed (Gkr.fractional-sumcheck Extension (Supplied needed) asserted m (node rows) nothing)
+each-end Q rows asserted ch (suc m) w = let needed = supplied (take (4 * challenges (suc m)) ch) in model needed (Gkr.fractional-sumcheck Extension (Drawing needed) asserted m (node rows) empty)
   where
-    model : (ch : List ℕ) (a : Gkr.Answer Extension (Supplied ch)) → Q (after ch (suc m) a)
+    model : (ch : Source E.Ext) (a : Gkr.Answer Extension (Drawing ch)) → Q (after ch (suc m) a)
     model ch (done P) = w .finishes ch P
     model ch non-zero-root-sum = w .eight
 

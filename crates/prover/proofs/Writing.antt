@@ -3,23 +3,22 @@
 use mathlib.Core.Path.{_≡_, refl, sym, _∙_, ap, ap₂}
 use mathlib.Core.Bool.{Bool, true, false, cond}
 use mathlib.Core.List.{List, [], _∷_, _++_, append-nil}
-use Prim.Native.Nat.{ℕ, zero, suc, _+_, _*_, _-_, _/_, _≤_}
+use Prim.Native.Nat.{ℕ, suc, _+_, _*_, _-_, _/_, _≤_}
 use native.Mathlib.Omega.{arith}
 use lib.ListN.{length, take, drop, replicate, length-append, length-drop, take-append-drop}
-use lib.Seq.{take-add, drop-drop, length-take-le, take-all}
+use lib.Seq.{length-take-le, take-all}
 use Rattle.field.specs.Ext as E
 use Rattle.field.specs.ExtRing.{ExtRing}
 use Rattle.field.specs.Extension.{Extension}
-use Rattle.field.specs.Element.{dec, words}
-use Rattle.field.specs.Cells.{cell, Clean, cells}
-use Rattle.field.specs.CellLaws.{words-cell}
-use Rattle.field.specs.PointLaws.{cells-length}
+use Rattle.field.specs.Element.{dec, pointWords}
+use Rattle.field.specs.Cells.{Clean, cells}
+use Rattle.field.specs.PointLaws.{cells-length, point-length, point-is}
 use Rattle.gkr.specs.Run.{Frac}
-use Rattle.gkr.specs.Transcripts.{Words}
+use Rattle.gkr.specs.Transcripts.{Words, Source}
 use Rattle.gkr.specs.Tree as Tree
 use Rattle.gkr.specs.Gkr as Gkr
 use Rattle.transcript.specs.declared.Pos.{Pos}
-use Rattle.transcript.specs.Log.{Supplied, logOf, Steps}
+use Rattle.transcript.specs.Log.{Drawing, logOf, Steps}
 use Rattle.step.specs.declared.Frac.{Frac as FracW}
 use Rattle.step.specs.Values.{IsFrac}
 use Rattle.stored.specs.Layout.{layout}
@@ -29,27 +28,11 @@ use Rattle.stored_writer.specs.Messages.{storedProof, readProof}
 use Rattle.run.specs.Runs.{origin, begun, RunOf}
 use Rattle.run.proofs.Whole.{past}
 use Rattle.refusal.specs.Fronts.{over}
-use Rattle.prover.specs.Proved.{lent, pointWords}
+use Rattle.prover.specs.Proved.{lent}
 use Rattle.prover.specs.Inner.{runOf, Written}
 use Rattle.prover.proofs.Transcribed.{Extends, proof-there}
 
 -- THE POINT
-
-pub point-length : (xs : List E.Ext) → length (pointWords xs) ≡ 4 * length xs
-unfolding pointWords
-point-length [] = refl
-point-length (x ∷ xs) = length-append (words x) (pointWords xs) ∙ omega (arith, point-length xs)
-
-cells-words : (ws : List ℕ) (at n : ℕ) → Clean ws → 4 * (at + n) ≤ length ws → take (4 * n) (drop (4 * at) ws) ≡ pointWords (cells ws at n)
-unfolding pointWords
-cells-words ws at zero c h = refl
-cells-words ws at (suc n) c h =
-    let e : 4 * suc n ≡ 4 + 4 * n = omega arith in
-    let d : 4 * at + 4 ≡ 4 * suc at = omega arith in
-    ap (λ k. take k (drop (4 * at) ws)) e
-    ∙ take-add 4 (4 * n) (drop (4 * at) ws)
-    ∙ ap₂ (λ a b. a ++ b) (words-cell ws at c (omega arith))
-    (ap (take (4 * n)) (drop-drop 4 (4 * at) ws ∙ ap (λ k. drop k ws) d) ∙ cells-words ws (suc at) n c (omega arith))
 
 pub drop-all : (n : ℕ) (l : List ℕ) → length l ≤ n → drop n l ≡ []
 drop-all n l h = empty (drop n l) (omega (arith, length-drop n l))
@@ -62,7 +45,7 @@ drop-all n l h = empty (drop n l) (omega (arith, length-drop n l))
 pub whole-point : (pt pt' : List ℕ) (n : ℕ) (zs : List E.Ext) → Clean pt' → length pt ≡ 4 * n → length pt' ≡ 4 * n → cells pt' 0 n ≡ zs → pt' ≡ over (pointWords zs) pt
 whole-point pt pt' n zs c h h' e =
     let l : length (pointWords zs) ≡ 4 * n = point-length zs ∙ ap (λ k. 4 * k) (ap length (sym e) ∙ cells-length pt' 0 n) in
-    sym (take-all (4 * n) pt' (omega arith)) ∙ cells-words pt' 0 n c (omega arith) ∙ ap pointWords e
+    sym (take-all (4 * n) pt' (omega arith)) ∙ sym (point-is pt' 0 n c (omega arith)) ∙ ap pointWords e
     ∙ sym (append-nil (pointWords zs)) ∙ ap (λ r. pointWords zs ++ r) (sym (drop-all (length (pointWords zs)) pt (omega arith)))
 
 -- THE LOG
@@ -86,7 +69,7 @@ quarter false put h = omega arith
 
 -- ALL
 
-pub written : (f : ℕ → Frac E.Ext) (asserted : Bool) (m n : ℕ) (ch pf pf' pt pt' lg lg₁ lg₂ ws ws₁ ws' : List ℕ) (pos z : Pos) (root : FracW)
+pub written : (f : ℕ → Frac E.Ext) (asserted : Bool) (m n : ℕ) (ch : Source E.Ext) (pf pf' pt pt' lg lg₁ lg₂ ws ws₁ ws' : List ℕ) (pos z : Pos) (root : FracW)
     → n ≡ suc m → IsFrac root (Tree.tree ExtRing f (suc m) 0)
     → Steps lg lg₁ origin pos (cond asserted 0 4) 0 (begun asserted (dec (root .p))) → pos .put ≤ length lg₁
     → RunOf f pt' lg₁ lg₂ ch m pos z → pos .put ≤ z .put → z .put ≤ length lg₂
@@ -95,7 +78,7 @@ pub written : (f : ℕ → Frac E.Ext) (asserted : Bool) (m n : ℕ) (ch pf pf' 
     → ws' ≡ replicate (length ws₁) 0 → length ws₁ ≡ length ws
     → Written f asserted m ch (lent pf pt lg ws) (lent pf' pt' lg₂ ws')
 written f asserted m n ch pf pf' pt pt' lg lg₁ lg₂ ws ws₁ ws' pos z root e h s l₁ R u l₂ c lp lp' kp kf ep ew lw =
-    let run : Words → Gkr.Proved Extension (Supplied ch) = Gkr.run Extension (Supplied ch) m f in
+    let run : Words → Gkr.Proved Extension (Drawing ch) = Gkr.run Extension (Drawing ch) m f in
     let t : logOf lg₁ pos ≡ begun asserted (Tree.tree ExtRing f (suc m) 0 .p) = s .log ∙ ap (begun asserted) (h .p .value) in
     let i = pos .put / 4 in
     let q : n - 1 ≡ m = omega arith in

@@ -9,12 +9,14 @@ use lib.ListN.{length, take, replicate}
 use Rattle.field.specs.Ext as E
 use Rattle.field.specs.ExtRing.{ExtRing}
 use Rattle.field.specs.Extension.{Extension}
+use Rattle.field.specs.Element.{pointWords}
 use Rattle.field.specs.Cells.{Clean}
+use Rattle.gkr.specs.Transcripts.{Source}
 use Rattle.gkr.specs.Run.{Frac}
 use Rattle.gkr.specs.Sizes as Sizes
 use Rattle.gkr.specs.Tree as Tree
 use Rattle.gkr.specs.Gkr as Gkr
-use Rattle.transcript.specs.Log.{Supplied}
+use Rattle.transcript.specs.Log.{Drawing}
 use Rattle.stored.specs.Layout.{layout}
 use Rattle.stored.specs.Elements.{encoded}
 use Rattle.stored.specs.Lengths.{proofSize}
@@ -22,14 +24,14 @@ use Rattle.run.specs.Runs.{begun}
 use Rattle.rounds.specs.Layers.{logUpTo, usedUpTo}
 use Rattle.gate.specs.Refusals.{Rooms, rowCount, roundsOf, logRoom, workRoom}
 use Rattle.refusal.specs.Fronts.{over}
-use Rattle.prover.specs.Proved.{Buffers, pointWords}
+use Rattle.prover.specs.Proved.{Buffers}
 
 -- the model's run over 2 ^ suc m rows f
-abbrev pub runOf : (f : ℕ → Frac E.Ext) (asserted : Bool) (m : ℕ) (ch : List ℕ) → Gkr.Proved Extension (Supplied ch)
-runOf f asserted m ch = Gkr.run Extension (Supplied ch) m f (begun asserted (Tree.tree ExtRing f (suc m) 0 .p))
+abbrev pub runOf : (f : ℕ → Frac E.Ext) (asserted : Bool) (m : ℕ) (ch : Source E.Ext) → Gkr.Proved Extension (Drawing ch)
+runOf f asserted m ch = Gkr.run Extension (Drawing ch) m f (begun asserted (Tree.tree ExtRing f (suc m) 0 .p))
 
 -- it is written, and the workspace wiped
-pub record Written (f : ℕ → Frac E.Ext) (asserted : Bool) (m : ℕ) (ch : List ℕ) (b b' : Buffers) : Type 0 where
+pub record Written (f : ℕ → Frac E.Ext) (asserted : Bool) (m : ℕ) (ch : Source E.Ext) (b b' : Buffers) : Type 0 where
   pub proof : b' .proof ≡ over (layout (encoded (runOf f asserted m ch .proof))) (b .proof)
   pub point : b' .point ≡ over (pointWords (runOf f asserted m ch .point)) (b .point)
   pub log : b' .log ≡ over (runOf f asserted m ch .log .log) (b .log)

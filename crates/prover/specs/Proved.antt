@@ -1,19 +1,19 @@
 -- What a call of the prover answers and writes at the front of every buffer, and what these hold after it: the refusals in their order, the model's run, and the stored forms.
 -- Assumes nothing.
 use mathlib.Core.Bool.{Bool, cond, not, _&&_}
-use mathlib.Core.List.{List, [], _∷_, _++_}
+use mathlib.Core.List.{List, []}
 use Prim.Native.Nat.{ℕ, zero, suc, _*_}
 use lib.Dec.{eqb}
 use lib.ListN.{length, take, replicate}
 use Rattle.field.specs.Ext as E
 use Rattle.field.specs.Extension.{Extension}
-use Rattle.field.specs.Element.{enc, words}
+use Rattle.field.specs.Element.{enc, pointWords}
 use Rattle.gkr.specs.Run.{Frac}
-use Rattle.gkr.specs.Transcripts.{Words}
+use Rattle.gkr.specs.Transcripts.{empty, Source}
 use Rattle.gkr.specs.Sizes.{challenges}
 use Rattle.gkr.specs.Gkr as Gkr
 use Rattle.gkr.specs.Gkr.{done, non-zero-root-sum}
-use Rattle.transcript.specs.Log.{Supplied}
+use Rattle.transcript.specs.Log.{Drawing, supplied}
 use Rattle.step.specs.declared.Frac.{Frac as FracW}
 use Rattle.tree.specs.Nodes.{node}
 use Rattle.stored.specs.Layout.{layout}
@@ -51,11 +51,6 @@ outcome answer proof point log work = record { answer = answer; buffers = record
 abbrev pub laid : (front : Outcome) → Buffers → Outcome
 laid f b = outcome (f .answer) (over (f .buffers .proof) (b .proof)) (over (f .buffers .point) (b .point)) (over (f .buffers .log) (b .log)) (over (f .buffers .work) (b .work))
 
--- the words of a point, in order
-unfoldable pub pointWords : List E.Ext → List ℕ
-pointWords [] = []
-pointWords (x ∷ xs) = words x ++ pointWords xs
-
 abbrev pub encFrac : Frac E.Ext → FracW
 encFrac x = record { p = enc (x .p); q = enc (x .q) }
 
@@ -64,11 +59,11 @@ abbrev pub untouched : Refusal → Outcome
 untouched e = outcome (Refused e) [] [] [] []
 
 -- n rounds are done: the workspace that they need is zero
-abbrev pub finished : (ch : List ℕ) (n : ℕ) → Gkr.Proved Extension (Supplied ch) → Outcome
+abbrev pub finished : (ch : Source E.Ext) (n : ℕ) → Gkr.Proved Extension (Drawing ch) → Outcome
 finished ch n P = outcome (Done n (encFrac (P .sum))) (layout (encoded (P .proof))) (pointWords (P .point)) (P .log .log) (replicate (workRoom n) 0)
 
 -- what the model answers over n rounds, with the challenges ch
-abbrev pub after : (ch : List ℕ) (n : ℕ) → Gkr.Answer Extension (Supplied ch) → Outcome
+abbrev pub after : (ch : Source E.Ext) (n : ℕ) → Gkr.Answer Extension (Drawing ch) → Outcome
 after ch n (done P) = finished ch n P
 after ch n non-zero-root-sum = outcome (Refused NonZeroRootSum) [] [] [] (replicate (workRoom n) 0)
 
@@ -76,13 +71,12 @@ after ch n non-zero-root-sum = outcome (Refused NonZeroRootSum) [] [] [] (replic
 abbrev pub oneRow : (rows : List ℕ) (asserted : Bool) → Refusal
 oneRow rows asserted = cond (asserted && not (E.same (node rows 0 .p) E.nil)) NonZeroRootSum SingleRow
 
-abbrev pub nothing : Words
-nothing = record { log = []; used = 0 }
-
 -- n rounds: 0 for no rows and for one row; else over 2 ^ n rows
 abbrev pub ran : (rows : List ℕ) (asserted : Bool) (ch : List ℕ) (n : ℕ) → Outcome
-ran rows asserted ch zero = cond (eqb (rowCount rows) 0) (finished [] 0 (Gkr.no-rows Extension (Supplied []) nothing)) (untouched (oneRow rows asserted))
-ran rows asserted ch (suc m) = let needed = take (4 * challenges (suc m)) ch in after needed (suc m) (Gkr.fractional-sumcheck Extension (Supplied needed) asserted m (node rows) nothing)
+ran rows asserted ch zero = cond (eqb (rowCount rows) 0) (finished (supplied []) 0 (Gkr.no-rows Extension (Drawing (supplied [])) empty)) (untouched (oneRow rows asserted))
+ran rows asserted ch (suc m) =
+    let needed = supplied (take (4 * challenges (suc m)) ch) in
+    after needed (suc m) (Gkr.fractional-sumcheck Extension (Drawing needed) asserted m (node rows) empty)
 
 abbrev pub entered : Call → Tested → Outcome
 entered c (refused e) = untouched e

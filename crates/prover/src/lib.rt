@@ -10,14 +10,15 @@ ghost use Rattle.field.specs.Extension.{Extension};
 ghost use Rattle.field.specs.Element.{dec};
 ghost use Rattle.field.specs.Cells.{Clean};
 ghost use Rattle.gkr.specs.Run.{Frac as Fraction};
+ghost use Rattle.gkr.specs.Transcripts.{empty};
 ghost use Rattle.gkr.specs.Tree as Tree;
 ghost use Rattle.gkr.specs.Gkr as Gkr;
-ghost use Rattle.transcript.specs.Log.{Supplied};
+ghost use Rattle.transcript.specs.Log.{Drawing, supplied};
 ghost use Rattle.step.specs.Values.{CanonFrac, IsFrac};
 ghost use Rattle.tree.specs.Nodes.{node};
 ghost use Rattle.rounds.specs.Layers.{Levels};
 ghost use Rattle.gate.specs.Refusals.{call, rooms, rowCount, roundsOf};
-ghost use Rattle.prover.specs.Proved.{lent, outcome, laid, oneRow, nothing, after, ran, proved};
+ghost use Rattle.prover.specs.Proved.{lent, outcome, laid, oneRow, after, ran, proved};
 ghost use Rattle.prover.specs.Inner.{Written, Room, Opens};
 ghost use Rattle.prover.specs.Report.{answerReport};
 use field::Ext;
@@ -47,7 +48,7 @@ fn write_run(
     requires room { ⌜ Room asserted n size (length (now challenges)) (length (now proof)) (length (now xi)) (length (now log)) (length (now work)) ⌝ }
     requires clean { ⌜ Clean (now work) × Clean (now challenges) × CanonFrac root ⌝ }
     ensures { λ _. ⌜ ((f : ℕ → Fraction E.Ext) (m : ℕ) → n ≡ suc m → Levels f (now (work .entry)) n 0 → IsFrac root (Tree.tree ExtRing f (suc m) 0)
-        → Written f asserted m (now (challenges .entry)) (lent (now (proof .entry)) (now (xi .entry)) (now (log .entry)) (now (work .entry)))
+        → Written f asserted m (supplied (now (challenges .entry))) (lent (now (proof .entry)) (now (xi .entry)) (now (log .entry)) (now (work .entry)))
         (lent (now (proof .exit)) (now (xi .exit)) (now (log .exit)) (now (work .exit)))) ⌝ }
 {
     let pos = run::begin(log, asserted, root.p);
@@ -82,7 +83,7 @@ fn prove(
     requires room { ⌜ Room asserted n size (length (now challenges)) (length (now proof)) (length (now xi)) (length (now log)) (length (now work)) × (8 * size ≤ length (now rows)) ⌝ }
     requires clean { ⌜ Clean (now rows) × Clean (now challenges) ⌝ }
     ensures { λ r. ⌜ ((m : ℕ) → n ≡ suc m → outcome r (now (proof .exit)) (now (xi .exit)) (now (log .exit)) (now (work .exit))
-        ≡ laid (after (now (challenges .entry)) n (Gkr.fractional-sumcheck Extension (Supplied (now (challenges .entry))) asserted m (node (now (rows .entry))) nothing))
+        ≡ laid (after (supplied (now (challenges .entry))) n (Gkr.fractional-sumcheck Extension (Drawing (supplied (now (challenges .entry)))) asserted m (node (now (rows .entry))) empty))
         (lent (now (proof .entry)) (now (xi .entry)) (now (log .entry)) (now (work .entry)))) ⌝ }
 {
     let root = run::sum_rows(rows, size, work);

@@ -13,7 +13,7 @@ use Rattle.field.specs.declared.Ext.{Ext}
 use Rattle.field.specs.Cells.{cells}
 use Rattle.multilinear.specs.RoundSum.{Claims}
 use Rattle.gkr.specs.Run.{Frac, Cubic}
-use Rattle.gkr.specs.Transcripts.{Words}
+use Rattle.gkr.specs.Transcripts.{Words, Source}
 use Rattle.gkr.specs.Gkr as Gkr
 use Rattle.gkr.specs.Gkr.{accepted}
 use Rattle.refusal.specs.declared.Refusal.{Refusal}
@@ -33,23 +33,23 @@ pub canon-unique : {r s : Ext} → Canon r → Canon s → dec r ≡ dec s → r
 canon-unique h k e = is-unique (record { canon = h; value = e }) (record { canon = k; value = refl })
 
 -- what an accepting verdict holds
-pub accepted-parts : (ch : List ℕ) {f g : Frac E.Ext} {y z : List E.Ext} {t u : Words} → _≡_ {A = Model ch} (accepted f y t) (accepted g z u) → (f ≡ g) × (y ≡ z) × (t ≡ u)
+pub accepted-parts : (ch : Source E.Ext) {f g : Frac E.Ext} {y z : List E.Ext} {t u : Words} → _≡_ {A = Model ch} (accepted f y t) (accepted g z u) → (f ≡ g) × (y ≡ z) × (t ≡ u)
 accepted-parts ch e = (cc, cc, cc)
 
 pub accepted-or-refused : {a b : Ext} {e : Refusal} → Accepted a b ≡ Refused e → ⊥
 accepted-or-refused h = let z : _≡_ {A = ℕ} 0 1 = cc in omega arith
 
-pub stops-buffer : {lg lg' ch : List ℕ} {pos : Pos} {w : Model ch} {e : Refusal} → length lg' ≡ length lg → Stops lg lg' ch pos w e → lg' ≡ loggedBy ch w ++ drop (length (loggedBy ch w)) lg
+pub stops-buffer : {lg lg' : List ℕ} {ch : Source E.Ext} {pos : Pos} {w : Model ch} {e : Refusal} → length lg' ≡ length lg → Stops lg lg' ch pos w e → lg' ≡ loggedBy ch w ++ drop (length (loggedBy ch w)) lg
 stops-buffer {lg} {lg'} {ch} {pos} {w} q h =
     let n : h .end ≡ length (loggedBy ch w) = sym (length-take-le (h .end) lg' (omega (arith, h .room, q))) ∙ ap length (h .log) in
     sym (take-append-drop (h .end) lg') ∙ ap₂ _++_ (h .log) (h .rest ∙ ap (λ (a : ℕ). drop a lg) n)
 
-pub stops-unique : {lg lg' lg″ ch : List ℕ} {pos : Pos} {w : Model ch} {e e' : Refusal} → length lg' ≡ length lg → length lg″ ≡ length lg → Stops lg lg' ch pos w e → Stops lg lg″ ch pos w e' → (e ≡ e') × (lg' ≡ lg″)
+pub stops-unique : {lg lg' lg″ : List ℕ} {ch : Source E.Ext} {pos : Pos} {w : Model ch} {e e' : Refusal} → length lg' ≡ length lg → length lg″ ≡ length lg → Stops lg lg' ch pos w e → Stops lg lg″ ch pos w e' → (e ≡ e') × (lg' ≡ lg″)
 stops-unique {e = e} {e' = e'} q q' h k =
     let r : Refused e ≡ Refused e' = sym (h .answer) ∙ k .answer in
     (cc, stops-buffer q h ∙ sym (stops-buffer q' k))
 
-module _ (lg ch : List ℕ) (pos : Pos) (k n m : ℕ) (v : List (List (Cubic E.Ext)) → List (Claims E.Ext) → Model ch) where
+module _ (lg : List ℕ) (ch : Source E.Ext) (pos : Pos) (k n m : ℕ) (v : List (List (Cubic E.Ext)) → List (Claims E.Ext) → Model ch) where
   ends-in : {p l : List ℕ} {s : Layer} → Goes lg l p ch pos k n m v s → v [] [] ≡ accepted (columns s) (cells p 0 k) (logOf l (s .pos))
   unfolding Gkr.rounds
   ends-in h = h .verdict [] []

@@ -1,7 +1,6 @@
 // One round of the verifier, step by step, over messages that are read already: what is observed and sampled, how claims go on, what is checked.
 // All of these take canonical words.
 ghost use mathlib.Core.Path.{_≡_};
-ghost use mathlib.Core.List.{[]};
 ghost use Prim.Native.Nat.{_+_, _*_, _<_, _≤_};
 ghost use lib.ListN.{length};
 ghost use Rattle.field.specs.Ext as E;
@@ -14,7 +13,7 @@ ghost use Rattle.multilinear.specs.RoundSum as RoundSum;
 ghost use Rattle.gkr.specs.Tree as Tree;
 ghost use Rattle.gkr.specs.Sumcheck as Sumcheck;
 ghost use Rattle.gkr.specs.Gkr as Gkr;
-ghost use Rattle.transcript.specs.Log.{Supplied, logOf, Steps};
+ghost use Rattle.transcript.specs.Log.{supplied, Enough, Observing, logOf, Steps};
 ghost use Rattle.stored.specs.Shapes.{claimsIn, cubicIn};
 ghost use Rattle.step.specs.Values.{IsFrac, minus};
 ghost use Rattle.round.specs.Values.{CanonClaims, CanonCubic, decClaims, decCubic, CanonSums};
@@ -75,7 +74,7 @@ pub fn number_and_values(verdict: Verdict) -> Report
 pub fn observe_layer_claims(log: &mut [u32], pos: Pos, c: LayerClaims) -> Pos
     requires room { ⌜ pos .put + 16 ≤ length (now log) ⌝ }
     requires canon { ⌜ CanonClaims (claimsIn c) ⌝ }
-    ensures { λ r. ⌜ Steps (now (log .entry)) (now (log .exit)) pos r 16 0 (Gkr.observe-layer-claims Extension (Supplied []) (decClaims (claimsIn c)) (logOf (now (log .entry)) pos)) ⌝ }
+    ensures { λ r. ⌜ Steps (now (log .entry)) (now (log .exit)) pos r 16 0 (Gkr.observe-layer-claims Extension Observing (decClaims (claimsIn c)) (logOf (now (log .entry)) pos)) ⌝ }
 {
     let a = transcript::observe_ext(log, pos, c.p_xi_0);
     let b = transcript::observe_ext(log, a, c.q_xi_0);
@@ -87,7 +86,7 @@ pub fn observe_layer_claims(log: &mut [u32], pos: Pos, c: LayerClaims) -> Pos
 pub fn observe_cubic(log: &mut [u32], pos: Pos, m: SubroundEvals) -> Pos
     requires room { ⌜ pos .put + 12 ≤ length (now log) ⌝ }
     requires canon { ⌜ CanonCubic (cubicIn m) ⌝ }
-    ensures { λ r. ⌜ Steps (now (log .entry)) (now (log .exit)) pos r 12 0 (Sumcheck.observe-cubic Extension (Supplied []) (decCubic (cubicIn m)) (logOf (now (log .entry)) pos)) ⌝ }
+    ensures { λ r. ⌜ Steps (now (log .entry)) (now (log .exit)) pos r 12 0 (Sumcheck.observe-cubic Extension Observing (decCubic (cubicIn m)) (logOf (now (log .entry)) pos)) ⌝ }
 {
     let a = transcript::observe_ext(log, pos, m.s_1);
     let b = transcript::observe_ext(log, a, m.s_2);
@@ -128,9 +127,9 @@ pub fn next_claim(claim: Ext, m: SubroundEvals, rho: Ext) -> Ext
 
 // The start of a layer: lambda is sampled, and batches the two claims.
 pub fn open_layer(point: &[u32], log: &mut [u32], challenges: &[u32], s: Layer) -> Opened
-    requires room { ⌜ (4 ≤ length (now point)) × (s .pos .put + 4 ≤ length (now log)) × (4 * s .pos .used + 3 < length (now challenges)) ⌝ }
-    requires clean { ⌜ Clean (now point) × Clean (now challenges) × Canon (s .numer) × Canon (s .denom) ⌝ }
-    ensures { λ r. ⌜ Opens (now (point .entry)) (now (log .entry)) (now (log .exit)) (now (challenges .entry)) s r ⌝ }
+    requires room { ⌜ (4 ≤ length (now point)) × (s .pos .put + 4 ≤ length (now log)) × Enough (now challenges) (s .pos) 1 ⌝ }
+    requires clean { ⌜ Clean (now point) × Canon (s .numer) × Canon (s .denom) ⌝ }
+    ensures { λ r. ⌜ Opens (now (point .entry)) (now (log .entry)) (now (log .exit)) (supplied (now (challenges .entry))) s r ⌝ }
 {
     let xi = field::load(point, 0);
     let d = transcript::sample_ext(log, challenges, s.pos);
@@ -151,9 +150,9 @@ pub fn sub_round(
     challenges: &[u32],
     s: Sums,
 ) -> Sums
-    requires room { ⌜ (4 * j + 7 < length (now point)) × (s .pos .put + 16 ≤ length (now log)) × (4 * s .pos .used + 3 < length (now challenges)) ⌝ }
-    requires clean { ⌜ Clean (now point) × Clean (now challenges) × CanonCubic (cubicIn m) × CanonSums s ⌝ }
-    ensures { λ r. ⌜ SubRound (now (point .entry)) (now (point .exit)) (now (log .entry)) (now (log .exit)) (now (challenges .entry)) j (decCubic (cubicIn m)) s r ⌝ }
+    requires room { ⌜ (4 * j + 7 < length (now point)) × (s .pos .put + 16 ≤ length (now log)) × Enough (now challenges) (s .pos) 1 ⌝ }
+    requires clean { ⌜ Clean (now point) × CanonCubic (cubicIn m) × CanonSums s ⌝ }
+    ensures { λ r. ⌜ SubRound (now (point .entry)) (now (point .exit)) (now (log .entry)) (now (log .exit)) (supplied (now (challenges .entry))) j (decCubic (cubicIn m)) s r ⌝ }
 {
     let i = j + 1;
     let xi = field::load(point, i);
@@ -175,9 +174,9 @@ pub fn descend(
     challenges: &[u32],
     pos: Pos,
 ) -> Layer
-    requires room { ⌜ (4 ≤ length (now point)) × (pos .put + 4 ≤ length (now log)) × (4 * pos .used + 3 < length (now challenges)) ⌝ }
-    requires clean { ⌜ Clean (now point) × Clean (now challenges) × CanonClaims (claimsIn c) ⌝ }
-    ensures { λ r. ⌜ Descended (now (point .entry)) (now (point .exit)) (now (log .entry)) (now (log .exit)) (now (challenges .entry)) (decClaims (claimsIn c)) pos r ⌝ }
+    requires room { ⌜ (4 ≤ length (now point)) × (pos .put + 4 ≤ length (now log)) × Enough (now challenges) pos 1 ⌝ }
+    requires clean { ⌜ Clean (now point) × CanonClaims (claimsIn c) ⌝ }
+    ensures { λ r. ⌜ Descended (now (point .entry)) (now (point .exit)) (now (log .entry)) (now (log .exit)) (supplied (now (challenges .entry))) (decClaims (claimsIn c)) pos r ⌝ }
 {
     let d = transcript::sample_ext(log, challenges, pos);
     let mu = d.x;
@@ -212,9 +211,9 @@ pub fn close_layer(
     challenges: &[u32],
     s: Sums,
 ) -> Advance
-    requires room { ⌜ (4 ≤ length (now point)) × (s .pos .put + 20 ≤ length (now log)) × (4 * s .pos .used + 3 < length (now challenges)) ⌝ }
-    requires clean { ⌜ Clean (now point) × Clean (now challenges) × CanonClaims (claimsIn c) × CanonSums s × Canon lambda ⌝ }
-    ensures { λ r. ⌜ Closed (now (point .entry)) (now (point .exit)) (now (log .entry)) (now (log .exit)) (now (challenges .entry)) (decClaims (claimsIn c)) round lambda s r ⌝ }
+    requires room { ⌜ (4 ≤ length (now point)) × (s .pos .put + 20 ≤ length (now log)) × Enough (now challenges) (s .pos) 1 ⌝ }
+    requires clean { ⌜ Clean (now point) × CanonClaims (claimsIn c) × CanonSums s × Canon lambda ⌝ }
+    ensures { λ r. ⌜ Closed (now (point .entry)) (now (point .exit)) (now (log .entry)) (now (log .exit)) (supplied (now (challenges .entry))) (decClaims (claimsIn c)) round lambda s r ⌝ }
 {
     let p = observe_layer_claims(log, s.pos, c);
     let expected = expected_claim(c, lambda, s.eq);
@@ -238,9 +237,9 @@ pub fn verify_root(
     challenges: &[u32],
     pos: Pos,
 ) -> Advance
-    requires room { ⌜ (4 ≤ length (now point)) × (pos .put + 24 ≤ length (now log)) × (4 * pos .used + 3 < length (now challenges)) ⌝ }
-    requires clean { ⌜ Clean (now point) × Clean (now challenges) × CanonClaims (claimsIn c) × Canon q0 ⌝ }
-    ensures { λ r. ⌜ Rooted (now (point .exit)) (now (log .entry)) (now (log .exit)) (now (challenges .entry)) (dec q0) (decClaims (claimsIn c)) pos r ⌝ }
+    requires room { ⌜ (4 ≤ length (now point)) × (pos .put + 24 ≤ length (now log)) × Enough (now challenges) pos 1 ⌝ }
+    requires clean { ⌜ Clean (now point) × CanonClaims (claimsIn c) × Canon q0 ⌝ }
+    ensures { λ r. ⌜ Rooted (now (point .exit)) (now (log .entry)) (now (log .exit)) (supplied (now (challenges .entry))) (dec q0) (decClaims (claimsIn c)) pos r ⌝ }
 {
     let f = compute_recursive_relations(c);
     let numer = f.p;

@@ -1,7 +1,7 @@
 -- A round, and the rounds in turn, as the model sends them.
 -- Assumes nothing.
 use mathlib.Core.Path.{_≡_, refl, sym, _∙_, ap, ap₂, subst}
-use mathlib.Core.List.{List, [], _∷_}
+use mathlib.Core.List.{List, _∷_}
 use Prim.Native.Nat.{ℕ, zero, suc, _+_, _*_, _-_, _^_, _<_, _≤_}
 use native.Mathlib.Nat.{add-zero, pow-succ', pow-le-pow-right, le-refl, le-trans}
 use native.Mathlib.Bridge.{le-by-compare, IsLe}
@@ -13,17 +13,17 @@ use Rattle.field.specs.Ext as E
 use Rattle.field.specs.ExtRing.{ExtRing}
 use Rattle.field.specs.Extension.{Extension}
 use Rattle.field.specs.Element.{dec, Is}
-use Rattle.field.specs.Cells.{cell, Clean, Stored, cells}
+use Rattle.field.specs.Cells.{Clean, Stored, cells}
 use Rattle.field.specs.PointLaws.{cells-kept, cells-length}
 use Rattle.multilinear.specs.Table as Table
 use Rattle.gkr.specs.Run.{Frac}
-use Rattle.gkr.specs.Transcripts.{Words}
+use Rattle.gkr.specs.Transcripts.{Words, Source}
 use Rattle.gkr.specs.Tree as Tree
 use Rattle.gkr.specs.Sumcheck as Sumcheck
 use Rattle.gkr.specs.Gkr as Gkr
 use Rattle.transcript.specs.declared.Pos.{Pos}
 use Rattle.transcript.specs.declared.Drawn.{Drawn}
-use Rattle.transcript.specs.Log.{Supplied, logOf, Steps}
+use Rattle.transcript.specs.Log.{Drawing, Observing, logOf, Steps}
 use Rattle.transcript.proofs.Logs.{then, retold}
 use Rattle.step.specs.declared.Frac.{Frac as FracW}
 use Rattle.step.specs.Values.{IsFrac, decFrac}
@@ -36,27 +36,27 @@ use Rattle.rounds.specs.SubRounds.{sends, SubRounds}
 use Rattle.rounds.specs.Layers.{observedFrac, observedClaims, Closed, layerSends, layerTold, OneLayer, Levels, logUpTo, usedUpTo, runs, Running, AllLayers, Midway}
 
 abbrev obs : E.Ext → Words → Words
-obs x t = Supplied [] .observe x t
+obs x t = Observing .observe x t
 
 pub node-observed : (l l₁ l₂ : List ℕ) (p p₁ p₂ : Pos) (f : FracW) → Steps l l₁ p p₁ 4 0 (obs (dec (f .p)) (logOf l p))
     → Steps l₁ l₂ p₁ p₂ 4 0 (obs (dec (f .q)) (logOf l₁ p₁)) → Steps l l₂ p p₂ 8 0 (observedFrac (decFrac f) (logOf l p))
 node-observed l l₁ l₂ p p₁ p₂ f a b =
     then l l₁ l₂ p p₁ p₂ 4 0 4 0 _ _ a (retold l₁ l₂ p₁ p₂ 4 0 4 0 _ _ refl refl (ap (obs (dec (f .q))) (a .log)) b)
 
-pub layer-closed : (ws pt pt' lg lg₁ lg₂ lg₃ ch : List ℕ) (b : ℕ) (pos p q : Pos) (d : Drawn) (fa fb : FracW) → IsFrac fa (node ws b) → IsFrac fb (node ws (b + 1))
+pub layer-closed : (ws pt pt' lg lg₁ lg₂ lg₃ : List ℕ) (ch : Source E.Ext) (b : ℕ) (pos p q : Pos) (d : Drawn) (fa fb : FracW) → IsFrac fa (node ws b) → IsFrac fb (node ws (b + 1))
     → Steps lg lg₁ pos p 8 0 (observedFrac (decFrac fa) (logOf lg pos)) → Steps lg₁ lg₂ p q 8 0 (observedFrac (decFrac fb) (logOf lg₁ p))
-    → Steps lg₂ lg₃ q (d .pos) 4 1 (Supplied ch .drawn (logOf lg₂ q)) → Is (d .x) (cell ch (q .used)) → Stored pt pt' 0 (dec (d .x))
+    → Steps lg₂ lg₃ q (d .pos) 4 1 (Drawing ch .drawn (logOf lg₂ q)) → Is (d .x) (ch (logOf lg₂ q)) → Stored pt pt' 0 (dec (d .x))
     → Closed ws pt pt' lg lg₃ ch b pos (d .pos)
 layer-closed ws pt pt' lg lg₁ lg₂ lg₃ ch b pos p q d fa fb ha hb s₁ s₂ s₃ v st =
     let e : logOf lg₂ q ≡ observedClaims (claims ws b 0) (logOf lg pos) =
     s₂ .log ∙ ap₂ observedFrac (frac-path hb) (s₁ .log ∙ ap (λ f. observedFrac f (logOf lg pos)) (frac-path ha ∙ ap (node ws) (sym (add-zero b)))) in
     record {
-      steps = retold lg lg₃ pos (d .pos) 20 1 20 1 _ _ refl refl (ap (Supplied ch .drawn) e) (then lg lg₂ lg₃ pos q (d .pos) 16 0 4 1 _ _ (then lg lg₁ lg₂ pos p q 8 0 8 0 _ _ s₁ s₂) s₃);
-      stored = subst (Stored pt pt' 0) (v .value ∙ ap (Supplied ch .draw) e) st;
+      steps = retold lg lg₃ pos (d .pos) 20 1 20 1 _ _ refl refl (ap (Drawing ch .drawn) e) (then lg lg₂ lg₃ pos q (d .pos) 16 0 4 1 _ _ (then lg lg₁ lg₂ pos p q 8 0 8 0 _ _ s₁ s₂) s₃);
+      stored = subst (Stored pt pt' 0) (v .value ∙ ap ch e) st;
     }
 
-pub one-layer : (ws ws₁ ws₂ pt pt₁ pt₂ lg lg₁ lg₂ lg₃ ch : List ℕ) (at k size : ℕ) (pos p pos' : Pos) (d : Drawn) → size ≡ 2 ^ k → 8 * size ≤ at
-    → Steps lg lg₁ pos (d .pos) 4 1 (Supplied ch .drawn (logOf lg pos)) → Is (d .x) (cell ch (pos .used))
+pub one-layer : (ws ws₁ ws₂ pt pt₁ pt₂ lg lg₁ lg₂ lg₃ : List ℕ) (ch : Source E.Ext) (at k size : ℕ) (pos p pos' : Pos) (d : Drawn) → size ≡ 2 ^ k → 8 * size ≤ at
+    → Steps lg lg₁ pos (d .pos) 4 1 (Drawing ch .drawn (logOf lg pos)) → Is (d .x) (ch (logOf lg pos))
     → Filled ws ws₁ at size (Table.weight ExtRing (cells pt 0 k))
     → SubRounds ws₁ ws₂ pt pt₁ lg₁ lg₂ ch at (2 * size) k size (dec (d .x)) (d .pos) p
     → Closed ws₂ pt₁ pt₂ lg₂ lg₃ ch (2 * size) p pos'
@@ -65,9 +65,9 @@ one-layer ws ws₁ ws₂ pt pt₁ pt₂ lg lg₁ lg₂ lg₃ ch at k size pos p 
     let b = 2 * size in
     let P = layerSends ws pt lg ch b k pos in
     let same : sends ws₁ lg₁ ch at b k (dec (d .x)) (d .pos) ≡ P =
-    ap (λ l. Sumcheck.send Extension (Supplied ch) k l (eqs ws₁ at) (claims ws₁ b) (logOf lg₁ (d .pos))) (v .value)
-    ∙ ap (λ t. Sumcheck.send Extension (Supplied ch) k (Supplied ch .draw (logOf lg pos)) (eqs ws₁ at) (claims ws₁ b) t) (s₁ .log)
-    ∙ send-same Extension (Supplied ch) k (Supplied ch .draw (logOf lg pos)) (eqs ws₁ at) (Table.weight ExtRing (cells pt 0 k)) (claims ws₁ b) (claims ws b) (Supplied ch .drawn (logOf lg pos))
+    ap (λ l. Sumcheck.send Extension (Drawing ch) k l (eqs ws₁ at) (claims ws₁ b) (logOf lg₁ (d .pos))) (v .value)
+    ∙ ap (λ t. Sumcheck.send Extension (Drawing ch) k (ch (logOf lg pos)) (eqs ws₁ at) (claims ws₁ b) t) (s₁ .log)
+    ∙ send-same Extension (Drawing ch) k (ch (logOf lg pos)) (eqs ws₁ at) (Table.weight ExtRing (cells pt 0 k)) (claims ws₁ b) (claims ws b) (Drawing ch .drawn (logOf lg pos))
     (λ y w. f .filled y (subst (λ n. y < n) (sym e) w))
     (λ y w. let w' : y < size = subst (λ n. y < n) (sym e) w in claims-kept ws ws₁ b y (λ j l h. f .below j (omega arith))) in
     let t : observedClaims (claims ws₂ b 0) (logOf lg₂ p) ≡ layerTold ws pt lg ch b k pos =
@@ -75,9 +75,9 @@ one-layer ws ws₁ ws₂ pt pt₁ pt₂ lg lg₁ lg₂ lg₃ ch at k size pos p 
     record {
       clean = L .clean;
       points = C .stored .clean;
-      point = ap₂ (λ x r. x ∷ r) (C .stored .here ∙ ap (Supplied ch .draw) t)
+      point = ap₂ (λ x r. x ∷ r) (C .stored .here ∙ ap ch t)
           (cells-kept pt₁ pt₂ 1 k (λ i l h. C .stored .rest i (λ q. omega arith)) ∙ L .point ∙ ap (λ s. s .point) same);
-      steps = retold lg lg₃ pos pos' (4 + 16 * k + 20) (1 + k + 1) (16 * k + 24) (k + 2) _ _ (omega arith) (omega arith) (ap (Supplied ch .drawn) t)
+      steps = retold lg lg₃ pos pos' (4 + 16 * k + 20) (1 + k + 1) (16 * k + 24) (k + 2) _ _ (omega arith) (omega arith) (ap (Drawing ch .drawn) t)
           (then lg lg₂ lg₃ pos p pos' (4 + 16 * k) (1 + k) 20 1 _ _ (then lg lg₁ lg₂ pos (d .pos) p 4 1 (16 * k) k _ _ s₁ (L .steps)) (C .steps));
       kept = λ i l h. L .kept i (omega arith) h ∙ f .below i h;
     }
@@ -87,29 +87,29 @@ unfolding IsLe
 pow-le d n h = pow-le-pow-right (le-by-compare 1 2 tt) h
 
 -- THE LAYERS IN TURN
-module _ (f : ℕ → Frac E.Ext) (ws ws' pt₀ pt pt' lg₀ lg lg' ch : List ℕ) (at n r h g size : ℕ) (pos₀ pos pos' : Pos) where
+module _ (f : ℕ → Frac E.Ext) (ws ws' pt₀ pt pt' lg₀ lg lg' : List ℕ) (ch : Source E.Ext) (at n r h g size : ℕ) (pos₀ pos pos' : Pos) where
   pub running-next : size ≡ 2 ^ r → r + suc h ≡ n → 4 * 2 ^ n ≤ at → Running f ws pt₀ pt lg₀ lg ch n r (suc h) g pos₀ pos
       → OneLayer ws ws' pt pt' lg lg' ch at r size pos pos' → Running f ws' pt₀ pt' lg₀ lg' ch n (r + 1) h g pos₀ pos'
   unfolding Gkr.send
   running-next e q u R L =
       let z = cells pt 0 r in
       let t = logOf lg pos in
-      let P = Sumcheck.send Extension (Supplied ch) (length z) (Supplied ch .draw t) (Table.weight ExtRing z) (Tree.children ExtRing (Tree.tree ExtRing f h)) (Supplied ch .drawn t) in
-      let t₁ = Gkr.observe-layer-claims Extension (Supplied ch) (P .last) (P .log) in
+      let P = Sumcheck.send Extension (Drawing ch) (length z) (ch t) (Table.weight ExtRing z) (Tree.children ExtRing (Tree.tree ExtRing f h)) (Drawing ch .drawn t) in
+      let t₁ = Gkr.observe-layer-claims Extension (Drawing ch) (P .last) (P .log) in
       let b = 2 * size in
       let two : b ≡ 2 ^ suc r = ap (λ n. 2 * n) e ∙ sym (pow-succ' 2 r) in
       let below : (i : ℕ) → i < 2 ^ suc r → node ws (b + i) ≡ Tree.tree ExtRing f h i =
       (λ i l. ap (λ k. node ws (k + i)) two ∙ R .levels .holds (suc r) h i (omega arith) (omega arith) l) in
       let same : layerSends ws pt lg ch b r pos ≡ P =
-      send-same Extension (Supplied ch) r (Supplied ch .draw t) (Table.weight ExtRing z) (Table.weight ExtRing z) (claims ws b) (Tree.children ExtRing (Tree.tree ExtRing f h)) (Supplied ch .drawn t)
+      send-same Extension (Drawing ch) r (ch t) (Table.weight ExtRing z) (Table.weight ExtRing z) (claims ws b) (Tree.children ExtRing (Tree.tree ExtRing f h)) (Drawing ch .drawn t)
       (λ y l. refl)
       (λ y l i. let a = below (2 * y) (omega arith) i in let c = below (2 * y + 1) (omega arith) i in record { p0 = a .p; q0 = a .q; p1 = c .p; q1 = c .q })
-      ∙ ap (λ k. Sumcheck.send Extension (Supplied ch) k (Supplied ch .draw t) (Table.weight ExtRing z) (Tree.children ExtRing (Tree.tree ExtRing f h)) (Supplied ch .drawn t)) (sym (cells-length pt 0 r)) in
-      let told : layerTold ws pt lg ch b r pos ≡ t₁ = ap (λ s. Gkr.observe-layer-claims Extension (Supplied ch) (s .last) (s .log)) same in
-      let on : runs f pt' lg' ch h (r + 1) pos' ≡ Gkr.send Extension (Supplied ch) f h (Supplied ch .draw t₁ ∷ P .point) (Supplied ch .drawn t₁) =
-      ap₂ (Gkr.send Extension (Supplied ch) f h)
-      (ap (cells pt' 0) (add-one r) ∙ L .point ∙ ap₂ (λ x s. x ∷ s) (ap (Supplied ch .draw) told) (ap (λ s. s .point) same))
-      (L .steps .log ∙ ap (Supplied ch .drawn) told) in
+      ∙ ap (λ k. Sumcheck.send Extension (Drawing ch) k (ch t) (Table.weight ExtRing z) (Tree.children ExtRing (Tree.tree ExtRing f h)) (Drawing ch .drawn t)) (sym (cells-length pt 0 r)) in
+      let told : layerTold ws pt lg ch b r pos ≡ t₁ = ap (λ s. Gkr.observe-layer-claims Extension (Drawing ch) (s .last) (s .log)) same in
+      let on : runs f pt' lg' ch h (r + 1) pos' ≡ Gkr.send Extension (Drawing ch) f h (ch t₁ ∷ P .point) (Drawing ch .drawn t₁) =
+      ap₂ (Gkr.send Extension (Drawing ch) f h)
+      (ap (cells pt' 0) (add-one r) ∙ L .point ∙ ap₂ (λ x s. x ∷ s) (ap ch told) (ap (λ s. s .point) same))
+      (L .steps .log ∙ ap (Drawing ch .drawn) told) in
       record {
         levels = record {
           holds = λ d k i a l v.
@@ -148,7 +148,7 @@ used-room r n h =
     let e : n - suc r + suc r ≡ n = omega arith in
     subst (λ k. usedUpTo (suc r) ≤ usedUpTo k) e (grows usedUpTo (λ r. omega arith) (suc r) (n - suc r))
 
-pub midway-none : (ws pt lg ch : List ℕ) (n : ℕ) (pos : Pos) → 1 ≤ n → Clean ws → Clean pt → Midway ws ws pt pt lg lg ch n 1 pos pos
+pub midway-none : (ws pt lg : List ℕ) (ch : Source E.Ext) (n : ℕ) (pos : Pos) → 1 ≤ n → Clean ws → Clean pt → Midway ws ws pt pt lg lg ch n 1 pos pos
 midway-none ws pt lg ch n pos h c d = record {
   from = omega arith;
   upto = h;
@@ -164,7 +164,7 @@ midway-none ws pt lg ch n pos h c d = record {
   };
 }
 
-pub midway-next : (ws₀ ws ws' pt₀ pt pt' lg₀ lg lg' ch : List ℕ) (at n r size : ℕ) (pos₀ pos pos' : Pos) → size ≡ 2 ^ r → r < n → 4 * 2 ^ n ≤ at
+pub midway-next : (ws₀ ws ws' pt₀ pt pt' lg₀ lg lg' : List ℕ) (ch : Source E.Ext) (at n r size : ℕ) (pos₀ pos pos' : Pos) → size ≡ 2 ^ r → r < n → 4 * 2 ^ n ≤ at
     → Midway ws₀ ws pt₀ pt lg₀ lg ch n r pos₀ pos → OneLayer ws ws' pt pt' lg lg' ch at r size pos pos' → Midway ws₀ ws' pt₀ pt' lg₀ lg' ch n (r + 1) pos₀ pos'
 midway-next ws₀ ws ws' pt₀ pt pt' lg₀ lg lg' ch at n r size pos₀ pos pos' e l u M L =
     let p = L .steps .put in
@@ -186,7 +186,7 @@ midway-next ws₀ ws ws' pt₀ pt pt' lg₀ lg lg' ch at n r size pos₀ pos pos
           running-next f ws ws' pt₀ pt pt' lg₀ lg lg' ch at n r m g size pos₀ pos pos' e (omega arith) u (subst (λ h. Running f ws pt₀ pt lg₀ lg ch n r h g pos₀ pos) z (M .run f g en Lv)) L;
     }
 
-pub midway-end : (ws₀ ws pt₀ pt lg₀ lg ch : List ℕ) (n r : ℕ) (pos₀ pos : Pos) → n ≤ r → Midway ws₀ ws pt₀ pt lg₀ lg ch n r pos₀ pos
+pub midway-end : (ws₀ ws pt₀ pt lg₀ lg : List ℕ) (ch : Source E.Ext) (n r : ℕ) (pos₀ pos : Pos) → n ≤ r → Midway ws₀ ws pt₀ pt lg₀ lg ch n r pos₀ pos
     → (f : ℕ → Frac E.Ext) (g : ℕ) → n ≡ suc g → Levels f ws₀ n 1 → AllLayers f pt₀ pt lg₀ lg ch n g pos₀ pos
 unfolding Gkr.send
 midway-end ws₀ ws pt₀ pt lg₀ lg ch n r pos₀ pos h M f g e L =

@@ -15,11 +15,11 @@ use Rattle.field.specs.PointLaws.{cells-snoc, cells-kept}
 use Rattle.multilinear.specs.Table as Table
 use Rattle.multilinear.specs.RoundSum as RoundSum
 use Rattle.gkr.specs.Run.{Cubic}
-use Rattle.gkr.specs.Transcripts.{Words}
+use Rattle.gkr.specs.Transcripts.{Words, Source}
 use Rattle.gkr.specs.Sumcheck as Sumcheck
 use Rattle.transcript.specs.declared.Pos.{Pos}
 use Rattle.transcript.specs.declared.Drawn.{Drawn}
-use Rattle.transcript.specs.Log.{Supplied, logOf, Steps}
+use Rattle.transcript.specs.Log.{Drawing, Observing, logOf, Steps}
 use Rattle.transcript.proofs.Logs.{then, retold, no-steps}
 use Rattle.step.specs.declared.Three.{Three}
 use Rattle.step.specs.Values.{IsThree, two, three}
@@ -28,7 +28,7 @@ use Rattle.layer.proofs.Agree.{send-same}
 use Rattle.rounds.specs.SubRounds.{observedThree, told, SubRound, sends, Going, SubRounds}
 
 abbrev obs : E.Ext → Words → Words
-obs x t = Supplied [] .observe x t
+obs x t = Observing .observe x t
 
 pub three-observed : (l l₁ l₂ l₃ : List ℕ) (p p₁ p₂ p₃ : Pos) (m : Three) → Steps l l₁ p p₁ 4 0 (obs (dec (m .s1)) (logOf l p))
     → Steps l₁ l₂ p₁ p₂ 4 0 (obs (dec (m .s2)) (logOf l₁ p₁)) → Steps l₂ l₃ p₂ p₃ 4 0 (obs (dec (m .s3)) (logOf l₂ p₂)) → Steps l l₃ p p₃ 12 0 (observedThree m (logOf l p))
@@ -42,27 +42,27 @@ s-is : (ws : List ℕ) (at b k half : ℕ) (l x v : E.Ext) → half ≡ 2 ^ k �
 unfolding RoundSum.s RoundSum.total
 s-is ws at b k half l x v e h = h ∙ ap (λ n. Table.sum ExtRing n (summand ws at b l x)) e
 
-pub sub-done : (ws ws' pt pt' lg lg₁ lg₂ ch : List ℕ) (at b k half i : ℕ) (l : E.Ext) (pos p : Pos) (d : Drawn) (m : Three) → half ≡ 2 ^ k
+pub sub-done : (ws ws' pt pt' lg lg₁ lg₂ : List ℕ) (ch : Source E.Ext) (at b k half i : ℕ) (l : E.Ext) (pos p : Pos) (d : Drawn) (m : Three) → half ≡ 2 ^ k
     → IsThree m (Table.sum ExtRing half (summand ws at b l E.one)) (Table.sum ExtRing half (summand ws at b l two)) (Table.sum ExtRing half (summand ws at b l three))
-    → Steps lg lg₁ pos p 12 0 (observedThree m (logOf lg pos)) → Steps lg₁ lg₂ p (d .pos) 4 1 (Supplied ch .drawn (logOf lg₁ p)) → Is (d .x) (cell ch (p .used))
+    → Steps lg lg₁ pos p 12 0 (observedThree m (logOf lg pos)) → Steps lg₁ lg₂ p (d .pos) 4 1 (Drawing ch .drawn (logOf lg₁ p)) → Is (d .x) (ch (logOf lg₁ p))
     → Stored pt pt' i (dec (d .x)) → Folded ws ws' at b half (dec (d .x)) → SubRound ws ws' pt pt' lg lg₂ ch at b k half i l pos (d .pos)
 sub-done ws ws' pt pt' lg lg₁ lg₂ ch at b k half i l pos p d m e t a c v s f =
     let W : Cubic E.Ext = record { at1 = dec (m .s1); at2 = dec (m .s2); at3 = dec (m .s3) } in
-    let M : W ≡ Sumcheck.message Extension (Supplied ch) k l (eqs ws at) (claims ws b) = (λ i. record {
+    let M : W ≡ Sumcheck.message Extension (Drawing ch) k l (eqs ws at) (claims ws b) = (λ i. record {
       at1 = s-is ws at b k half l E.one _ e (t .s1 .value) i;
       at2 = s-is ws at b k half l two _ e (t .s2 .value) i;
       at3 = s-is ws at b k half l three _ e (t .s3 .value) i;
     }) in
-    let g : logOf lg₁ p ≡ told ws lg ch at b k l pos = a .log ∙ ap (λ M. Sumcheck.observe-cubic Extension (Supplied ch) M (logOf lg pos)) M in
-    let x : dec (d .x) ≡ Supplied ch .draw (told ws lg ch at b k l pos) = v .value ∙ ap (Supplied ch .draw) g in
+    let g : logOf lg₁ p ≡ told ws lg ch at b k l pos = a .log ∙ ap (λ M. Sumcheck.observe-cubic Extension (Drawing ch) M (logOf lg pos)) M in
+    let x : dec (d .x) ≡ ch (told ws lg ch at b k l pos) = v .value ∙ ap ch g in
     record {
-      steps = retold lg lg₂ pos (d .pos) 16 1 16 1 _ _ refl refl (ap (Supplied ch .drawn) g) (then lg lg₁ lg₂ pos p (d .pos) 12 0 4 1 _ _ a c);
+      steps = retold lg lg₂ pos (d .pos) 16 1 16 1 _ _ refl refl (ap (Drawing ch .drawn) g) (then lg lg₁ lg₂ pos p (d .pos) 12 0 4 1 _ _ a c);
       stored = subst (Stored pt pt' i) x s;
       folded = subst (Folded ws ws' at b half) x f;
     }
 
 -- THE LOOP
-pub going-none : (ws pt lg ch : List ℕ) (at b m k size : ℕ) (l : E.Ext) (pos : Pos) → m ≡ k → Clean ws → Clean pt → Going ws ws pt pt lg lg ch at b 0 m k size l pos pos
+pub going-none : (ws pt lg : List ℕ) (ch : Source E.Ext) (at b m k size : ℕ) (l : E.Ext) (pos : Pos) → m ≡ k → Clean ws → Clean pt → Going ws ws pt pt lg lg ch at b 0 m k size l pos pos
 going-none ws pt lg ch at b m k size l pos e h q =
     let p : sends ws lg ch at b m l pos ≡ sends ws lg ch at b k l pos = ap (λ m. sends ws lg ch at b m l pos) e in
     record {
@@ -76,17 +76,17 @@ going-none ws pt lg ch at b m k size l pos e h q =
       kept = λ i a b. refl;
     }
 
-module _ (ws₀ ws ws' pt₀ pt pt' lg₀ lg lg' ch : List ℕ) (at b j m k half size : ℕ) (l : E.Ext) (pos₀ pos pos' : Pos) where
+module _ (ws₀ ws ws' pt₀ pt pt' lg₀ lg lg' : List ℕ) (ch : Source E.Ext) (at b j m k half size : ℕ) (l : E.Ext) (pos₀ pos pos' : Pos) where
   pub going-next : half ≡ 2 ^ m → half ≤ size → Going ws₀ ws pt₀ pt lg₀ lg ch at b j (suc m) k size l pos₀ pos
       → SubRound ws ws' pt pt' lg lg' ch at b m half (j + 1) l pos pos' → Going ws₀ ws' pt₀ pt' lg₀ lg' ch at b (j + 1) m k size l pos₀ pos'
   unfolding Sumcheck.send
   going-next e u g s =
       let t₁ = told ws lg ch at b m l pos in
-      let r = Supplied ch .draw t₁ in
-      let rest = Sumcheck.send Extension (Supplied ch) m l (Table.fold ExtRing (eqs ws at) r) (RoundSum.folded ExtRing (claims ws b) r) (Supplied ch .drawn t₁) in
+      let r = ch t₁ in
+      let rest = Sumcheck.send Extension (Drawing ch) m l (Table.fold ExtRing (eqs ws at) r) (RoundSum.folded ExtRing (claims ws b) r) (Drawing ch .drawn t₁) in
       let same : sends ws' lg' ch at b m l pos' ≡ rest =
-      ap (λ t. Sumcheck.send Extension (Supplied ch) m l (eqs ws' at) (claims ws' b) t) (s .steps .log)
-      ∙ send-same Extension (Supplied ch) m l (eqs ws' at) _ (claims ws' b) _ (Supplied ch .drawn t₁)
+      ap (λ t. Sumcheck.send Extension (Drawing ch) m l (eqs ws' at) (claims ws' b) t) (s .steps .log)
+      ∙ send-same Extension (Drawing ch) m l (eqs ws' at) _ (claims ws' b) _ (Drawing ch .drawn t₁)
       (λ y v. s .folded .eq y (subst (λ n. y < n) (sym e) v)) (λ y v. s .folded .nodes y (subst (λ n. y < n) (sym e) v)) in
       let i : 1 + j ≡ j + 1 = omega arith in
       let seg : cells pt' 1 (j + 1) ≡ cells pt 1 j ++ (r ∷ []) =
@@ -103,7 +103,7 @@ module _ (ws₀ ws ws' pt₀ pt pt' lg₀ lg lg' ch : List ℕ) (at b j m k half
         kept = λ i a c. s .folded .mid i (omega arith) c ∙ g .kept i a c;
       }
 
-pub going-end : (ws₀ ws pt₀ pt lg₀ lg ch : List ℕ) (at b j m k size : ℕ) (l : E.Ext) (pos₀ pos : Pos) → j ≡ k → m ≡ 0
+pub going-end : (ws₀ ws pt₀ pt lg₀ lg : List ℕ) (ch : Source E.Ext) (at b j m k size : ℕ) (l : E.Ext) (pos₀ pos : Pos) → j ≡ k → m ≡ 0
     → Going ws₀ ws pt₀ pt lg₀ lg ch at b j m k size l pos₀ pos → SubRounds ws₀ ws pt₀ pt lg₀ lg ch at b k size l pos₀ pos
 unfolding Sumcheck.send
 going-end ws₀ ws pt₀ pt lg₀ lg ch at b j m k size l pos₀ pos e z g =

@@ -14,8 +14,9 @@ use Rattle.multilinear.specs.RoundSum as RoundSum
 use Rattle.multilinear.specs.RoundSum.{Claims}
 use Rattle.gkr.specs.Run.{Transcript, Cubic}
 use Rattle.gkr.specs.Sumcheck as Sumcheck
+use Rattle.gkr.specs.Transcripts.{Source}
 use Rattle.transcript.specs.declared.Pos.{Pos}
-use Rattle.transcript.specs.Log.{Supplied, logOf}
+use Rattle.transcript.specs.Log.{Drawing, logOf}
 use Rattle.transcript.proofs.Logs.{retold}
 use Rattle.step.specs.Values.{minus, weigh}
 use Rattle.step.proofs.Algebra.{line-weighed, weighed-back}
@@ -94,14 +95,14 @@ weigh-back l n c e = λ i. record {
 }
 
 -- weighed before, taken back after
-pub weighed-rounds : (ws ws₁ ws₂ ws₃ pt pt' lg lg' ch : List ℕ) (at b k size : ℕ) (l n : E.Ext) (pos pos' : Pos) → size ≡ 2 ^ k → 2 * b + 4 * size ≤ at → n ≡ minus E.nil l
+pub weighed-rounds : (ws ws₁ ws₂ ws₃ pt pt' lg lg' : List ℕ) (ch : Source E.Ext) (at b k size : ℕ) (l n : E.Ext) (pos pos' : Pos) → size ≡ 2 ^ k → 2 * b + 4 * size ≤ at → n ≡ minus E.nil l
     → Weighed ws ws₁ b size l → SubRounds ws₁ ws₂ pt pt' lg lg' ch at b k size E.nil pos pos' → Weighed ws₂ ws₃ b 1 n
     → SubRounds ws ws₃ pt pt' lg lg' ch at b k size l pos pos'
 weighed-rounds ws ws₁ ws₂ ws₃ pt pt' lg lg' ch at b k size l n pos pos' z u o w s v =
-    let e : sends ws₁ lg ch at b k E.nil pos ≡ Sumcheck.send Extension (Supplied ch) k E.nil (eqs ws at) (weighs l (claims ws b)) (logOf lg pos) =
-    send-same Extension (Supplied ch) k E.nil (eqs ws₁ at) (eqs ws at) (claims ws₁ b) (weighs l (claims ws b)) (logOf lg pos)
+    let e : sends ws₁ lg ch at b k E.nil pos ≡ Sumcheck.send Extension (Drawing ch) k E.nil (eqs ws at) (weighs l (claims ws b)) (logOf lg pos) =
+    send-same Extension (Drawing ch) k E.nil (eqs ws₁ at) (eqs ws at) (claims ws₁ b) (weighs l (claims ws b)) (logOf lg pos)
     (λ y q. w .above (at + y) (omega arith)) (λ y q. w .nodes y (subst (λ n. y < n) (sym z) q)) in
-    let h = send-weighed (Supplied ch) k l (eqs ws at) (claims ws b) (logOf lg pos) in
+    let h = send-weighed (Drawing ch) k l (eqs ws at) (claims ws b) (logOf lg pos) in
     let p = pow-pos k in
     record {
       clean = v .clean;

@@ -12,13 +12,13 @@ use Rattle.field.specs.ExtRing.{ExtRing}
 use Rattle.field.specs.Extension.{Extension}
 use Rattle.field.specs.Element.{dec}
 use Rattle.gkr.specs.Run.{Frac}
-use Rattle.gkr.specs.Transcripts.{Words}
+use Rattle.gkr.specs.Transcripts.{Words, Source}
 use Rattle.gkr.specs.Tree as Tree
 use Rattle.gkr.specs.Gkr as Gkr
 use Rattle.field.specs.declared.Ext.{Ext}
 use Rattle.field.specs.Cells.{cells}
 use Rattle.transcript.specs.declared.Pos.{Pos}
-use Rattle.transcript.specs.Log.{Supplied, logOf, Steps}
+use Rattle.transcript.specs.Log.{Drawing, Observing, logOf, Steps}
 use Rattle.transcript.proofs.Logs.{no-steps}
 use Rattle.step.specs.declared.Frac.{Frac as FracW}
 use Rattle.step.specs.Values.{IsFrac}
@@ -40,7 +40,7 @@ planted rows ws ws' size root B R = record {
 pub begun-asserted : (lg : List ℕ) (b : Bool) (x : E.Ext) → b ≡ true → Steps lg lg origin origin (cond b 0 4) 0 (begun b x)
 begun-asserted lg b x h = rw h (no-steps lg origin)
 
-pub begun-open : (lg lg' : List ℕ) (b : Bool) (x : E.Ext) (r : Pos) → b ≡ false → Steps lg lg' origin r 4 0 (Supplied [] .observe x (logOf lg origin)) → Steps lg lg' origin r (cond b 0 4) 0 (begun b x)
+pub begun-open : (lg lg' : List ℕ) (b : Bool) (x : E.Ext) (r : Pos) → b ≡ false → Steps lg lg' origin r 4 0 (Observing .observe x (logOf lg origin)) → Steps lg lg' origin r (cond b 0 4) 0 (begun b x)
 begun-open lg lg' b x r h s = rw h s
 
 -- what is as before from i on is so from k on
@@ -52,13 +52,13 @@ past l l' i k v d =
 -- ROUND 0
 
 -- the model's log after root q and the first claims
-abbrev firstTold : (f : ℕ → Frac E.Ext) (m : ℕ) (ch : List ℕ) (t : Words) → Words
-firstTold f m ch t = Gkr.observe-layer-claims Extension (Supplied ch) (Tree.children ExtRing (Tree.tree ExtRing f m) 0) (Supplied ch .observe (Tree.tree ExtRing f (suc m) 0 .q) t)
+abbrev firstTold : (f : ℕ → Frac E.Ext) (m : ℕ) (ch : Source E.Ext) (t : Words) → Words
+firstTold f m ch t = Gkr.observe-layer-claims Extension (Drawing ch) (Tree.children ExtRing (Tree.tree ExtRing f m) 0) (Drawing ch .observe (Tree.tree ExtRing f (suc m) 0 .q) t)
 
 -- ALL
 
-pub run-of : (ws pt pt' pt'' lg lg₁ lg₂ lg₃ ch : List ℕ) (n : ℕ) (pos p r z : Pos) (q : Ext)
-    → Steps lg lg₁ pos p 4 0 (Supplied [] .observe (dec q) (logOf lg pos)) → Closed ws pt pt' lg₁ lg₂ ch 2 p r
+pub run-of : (ws pt pt' pt'' lg lg₁ lg₂ lg₃ : List ℕ) (ch : Source E.Ext) (n : ℕ) (pos p r z : Pos) (q : Ext)
+    → Steps lg lg₁ pos p 4 0 (Observing .observe (dec q) (logOf lg pos)) → Closed ws pt pt' lg₁ lg₂ ch 2 p r
     → ((f : ℕ → Frac E.Ext) (g : ℕ) → n ≡ suc g → Levels f ws n 1 → AllLayers f pt' pt'' lg₂ lg₃ ch n g r z)
     → drop (z .put) lg₃ ≡ drop (z .put) lg₂ → r .put ≤ z .put
     → (f : ℕ → Frac E.Ext) (m : ℕ) → n ≡ suc m → Levels f ws n 0 → dec q ≡ Tree.tree ExtRing f (suc m) 0 .q → RunOf f pt'' lg lg₃ ch m pos z
@@ -68,10 +68,10 @@ run-of ws pt pt' pt'' lg lg₁ lg₂ lg₃ ch n pos p r z q s C all e₃ u f m e
     let a : node ws 2 ≡ Tree.tree ExtRing f m 0 = L .holds 1 m 0 (omega arith) (omega arith) (omega arith) in
     let b : node ws 3 ≡ Tree.tree ExtRing f m 1 = L .holds 1 m 1 (omega arith) (omega arith) (omega arith) in
     let c : claims ws 2 0 ≡ Tree.children ExtRing (Tree.tree ExtRing f m) 0 = (λ i. record { p0 = a i .p; q0 = a i .q; p1 = b i .p; q1 = b i .q }) in
-    let t : observedClaims (claims ws 2 0) (logOf lg₁ p) ≡ t₁ = ap₂ observedClaims c (s .log ∙ ap (λ x. Supplied [] .observe x (logOf lg pos)) h) in
+    let t : observedClaims (claims ws 2 0) (logOf lg₁ p) ≡ t₁ = ap₂ observedClaims c (s .log ∙ ap (λ x. Observing .observe x (logOf lg pos)) h) in
     let A = all f m e (record { holds = λ d k i v w l. L .holds d k i v (omega arith) l }) in
-    let on : runs f pt' lg₂ ch m 1 r ≡ Gkr.send Extension (Supplied ch) f m (Supplied ch .draw t₁ ∷ []) (Supplied ch .drawn t₁) =
-    ap₂ (Gkr.send Extension (Supplied ch) f m) (ap (λ x. x ∷ []) (C .stored .here ∙ ap (Supplied ch .draw) t)) (C .steps .log ∙ ap (Supplied ch .drawn) t) in
+    let on : runs f pt' lg₂ ch m 1 r ≡ Gkr.send Extension (Drawing ch) f m (ch t₁ ∷ []) (Drawing ch .drawn t₁) =
+    ap₂ (Gkr.send Extension (Drawing ch) f m) (ap (λ x. x ∷ []) (C .stored .here ∙ ap ch t)) (C .steps .log ∙ ap (Drawing ch .drawn) t) in
     let back : drop (r .put) lg₂ ≡ drop (r .put) lg = C .steps .rest ∙ past lg lg₁ (p .put) (r .put) (omega (arith, C .steps .put)) (s .rest) in
     record {
       point = ap (cells pt'' 0) (sym e) ∙ A .point ∙ ap (λ s. s .point) on;

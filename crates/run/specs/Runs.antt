@@ -2,7 +2,7 @@
 -- Assumes nothing.
 use mathlib.Core.Path.{_≡_}
 use mathlib.Core.Bool.{Bool, true, false}
-use mathlib.Core.List.{List, []}
+use mathlib.Core.List.{List}
 use Prim.Native.Nat.{ℕ, suc, _^_}
 use lib.ListN.{drop}
 use Rattle.field.specs.Ext as E
@@ -10,11 +10,11 @@ use Rattle.field.specs.ExtRing.{ExtRing}
 use Rattle.field.specs.Extension.{Extension}
 use Rattle.field.specs.Cells.{Clean, cells}
 use Rattle.gkr.specs.Run.{Frac}
-use Rattle.gkr.specs.Transcripts.{Words}
+use Rattle.gkr.specs.Transcripts.{Words, empty, Source}
 use Rattle.gkr.specs.Tree as Tree
 use Rattle.gkr.specs.Gkr as Gkr
 use Rattle.transcript.specs.declared.Pos.{Pos}
-use Rattle.transcript.specs.Log.{Supplied, logOf}
+use Rattle.transcript.specs.Log.{Drawing, Observing, logOf}
 use Rattle.step.specs.declared.Frac.{Frac as FracW}
 use Rattle.step.specs.Values.{IsFrac}
 use Rattle.tree.specs.Nodes.{node}
@@ -32,11 +32,11 @@ origin = record { put = 0; used = 0 }
 
 -- the log before root q: root p is in it where zero is not asserted
 abbrev pub begun : (asserted : Bool) (p : E.Ext) → Words
-begun true p = record { log = []; used = 0 }
-begun false p = Supplied [] .observe p (record { log = []; used = 0 })
+begun true p = empty
+begun false p = Observing .observe p empty
 
 -- the model's point and log after a run over the rows f, and the rest of the log as before
-pub record RunOf (f : ℕ → Frac E.Ext) (pt' lg lg' ch : List ℕ) (m : ℕ) (pos pos' : Pos) : Type 0 where
-  pub point : cells pt' 0 (suc m) ≡ Gkr.run Extension (Supplied ch) m f (logOf lg pos) .point
-  pub log : logOf lg' pos' ≡ Gkr.run Extension (Supplied ch) m f (logOf lg pos) .log
+pub record RunOf (f : ℕ → Frac E.Ext) (pt' lg lg' : List ℕ) (ch : Source E.Ext) (m : ℕ) (pos pos' : Pos) : Type 0 where
+  pub point : cells pt' 0 (suc m) ≡ Gkr.run Extension (Drawing ch) m f (logOf lg pos) .point
+  pub log : logOf lg' pos' ≡ Gkr.run Extension (Drawing ch) m f (logOf lg pos) .log
   pub rest : drop (pos' .put) lg' ≡ drop (pos' .put) lg

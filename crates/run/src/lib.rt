@@ -1,7 +1,7 @@
 // The run over 2^n rows: the tree and its root, the start of the log, round 0, and the rounds after it.
 ghost use mathlib.Core.Path.{_≡_};
 ghost use mathlib.Core.Bool.{cond};
-ghost use Prim.Native.Nat.{ℕ, suc, _+_, _*_, _^_, _≤_};
+ghost use Prim.Native.Nat.{ℕ, suc, _+_, _*_, _-_, _^_, _≤_};
 ghost use lib.ListN.{length};
 ghost use Rattle.field.specs.Ext as E;
 ghost use Rattle.field.specs.ExtRing.{ExtRing};
@@ -9,7 +9,7 @@ ghost use Rattle.field.specs.Element.{dec, Canon};
 ghost use Rattle.field.specs.Cells.{Clean};
 ghost use Rattle.gkr.specs.Run.{Frac as Fraction};
 ghost use Rattle.gkr.specs.Tree as Tree;
-ghost use Rattle.transcript.specs.Log.{Steps};
+ghost use Rattle.transcript.specs.Log.{supplied, Enough, Steps};
 ghost use Rattle.rounds.specs.Layers.{Levels, logUpTo, usedUpTo};
 ghost use Rattle.run.specs.Runs.{Planted, origin, begun, RunOf};
 use field::Ext;
@@ -52,9 +52,9 @@ pub fn run_rounds(
     pos: Pos,
 ) -> Pos
     requires size { ⌜ (1 ≤ n) × (size ≡ 2 ^ n) × (18 * size ≤ length (now work)) ⌝ }
-    requires room { ⌜ (4 * n ≤ length (now xi)) × (pos .put + logUpTo n ≤ length (now log)) × (4 * (pos .used + usedUpTo n) ≤ length (now challenges) + 4) ⌝ }
-    requires clean { ⌜ Clean (now work) × Clean (now challenges) × Canon q ⌝ }
-    ensures run { λ r. ⌜ ((f : ℕ → Fraction E.Ext) (m : ℕ) → n ≡ suc m → Levels f (now (work .entry)) n 0 → dec q ≡ Tree.tree ExtRing f (suc m) 0 .q → RunOf f (now (xi .exit)) (now (log .entry)) (now (log .exit)) (now (challenges .entry)) m pos r) ⌝ }
+    requires room { ⌜ (4 * n ≤ length (now xi)) × (pos .put + logUpTo n ≤ length (now log)) × Enough (now challenges) pos (usedUpTo n - 1) ⌝ }
+    requires clean { ⌜ Clean (now work) × Canon q ⌝ }
+    ensures run { λ r. ⌜ ((f : ℕ → Fraction E.Ext) (m : ℕ) → n ≡ suc m → Levels f (now (work .entry)) n 0 → dec q ≡ Tree.tree ExtRing f (suc m) 0 .q → RunOf f (now (xi .exit)) (now (log .entry)) (now (log .exit)) (supplied (now (challenges .entry))) m pos r) ⌝ }
     ensures ends { λ r. ⌜ (r .put ≡ pos .put + logUpTo n) × Clean (now (xi .exit)) ⌝ }
 {
     let eq = 4 * size;

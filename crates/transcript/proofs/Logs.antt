@@ -11,12 +11,11 @@ use native.Mathlib.Numerals.{add-one}
 use Rattle.field.specs.Base.{P, of}
 use Rattle.field.specs.BaseRing.{val-of}
 use Rattle.field.specs.Ext as E
-use Rattle.gkr.specs.Transcripts.{Words, mark}
+use Rattle.gkr.specs.Transcripts.{Words, mark, Source}
 use Rattle.field.specs.declared.Ext.{Ext}
-use Rattle.field.specs.Element.{dec, Canon, Is}
-use Rattle.field.specs.Cells.{cell}
+use Rattle.field.specs.Element.{dec, words, Canon, Is}
 use Rattle.transcript.specs.declared.Pos.{Pos}
-use Rattle.transcript.specs.Log.{wordsOf, logOf, Steps, Supplied}
+use Rattle.transcript.specs.Log.{Drawing, logOf, Steps}
 
 abbrev pub four : List ℕ → ℕ → ℕ → ℕ → ℕ → ℕ → List ℕ
 four l put a b c d = set (set (set (set l put a) (put + 1) b) (put + 2) c) (put + 3) d
@@ -41,17 +40,17 @@ module _ (l : List ℕ) (put a b c d : ℕ) (h : put + 4 ≤ length l) where
   pub four-drop : drop (put + 4) (four l put a b c d) ≡ drop (put + 4) l
   four-drop = ap (drop (put + 4)) written ∙ drop-at (take put l ++ vs) (drop (put + 4) l) (put + 4) front
 
-pub words-of : (e : Ext) (x : E.Ext) → Is e x → wordsOf x ≡ e .c0 ∷ e .c1 ∷ e .c2 ∷ e .c3 ∷ []
+pub words-of : (e : Ext) (x : E.Ext) → Is e x → words x ≡ e .c0 ∷ e .c1 ∷ e .c2 ∷ e .c3 ∷ []
 unfolding E.ext
 words-of e x h =
-    ap wordsOf (sym (h .value))
+    ap words (sym (h .value))
     ∙ (λ i. word (e .c0) (h .canon .c0) i ∷ word (e .c1) (h .canon .c1) i ∷ word (e .c2) (h .canon .c2) i ∷ word (e .c3) (h .canon .c3) i ∷ [])
   where
     word : (n : ℕ) → n < P → of n .val ≡ n
     word n l = val-of n ∙ mod-eq-of-lt l
 
 pub observed : (l : List ℕ) (pos : Pos) (e : Ext) → pos .put + 4 ≤ length l → Canon e
-    → Steps l (four l (pos .put) (e .c0) (e .c1) (e .c2) (e .c3)) pos (record { put = pos .put + 4; used = pos .used }) 4 0 (record { log = take (pos .put) l ++ wordsOf (dec e); used = pos .used })
+    → Steps l (four l (pos .put) (e .c0) (e .c1) (e .c2) (e .c3)) pos (record { put = pos .put + 4; used = pos .used }) 4 0 (record { log = take (pos .put) l ++ words (dec e); used = pos .used })
 observed l pos e h k = record {
   put = refl;
   used = omega arith;
@@ -59,8 +58,8 @@ observed l pos e h k = record {
   rest = four-drop l (pos .put) (e .c0) (e .c1) (e .c2) (e .c3) h;
 }
 
-pub sampled : (l ch : List ℕ) (pos : Pos) (e : Ext) → pos .put + 4 ≤ length l → Is e (cell ch (pos .used))
-    → Steps l (four l (pos .put) (mark (e .c0)) (mark (e .c1)) (mark (e .c2)) (mark (e .c3))) pos (record { put = pos .put + 4; used = pos .used + 1 }) 4 1 (Supplied ch .drawn (logOf l pos))
+pub sampled : (l : List ℕ) (ch : Source E.Ext) (pos : Pos) (e : Ext) → pos .put + 4 ≤ length l → Is e (ch (logOf l pos))
+    → Steps l (four l (pos .put) (mark (e .c0)) (mark (e .c1)) (mark (e .c2)) (mark (e .c3))) pos (record { put = pos .put + 4; used = pos .used + 1 }) 4 1 (Drawing ch .drawn (logOf l pos))
 sampled l ch pos e h k =
     let a = mark (e .c0) in
     let b = mark (e .c1) in

@@ -1,22 +1,32 @@
--- The model's transcript over lent buffers: supplied challenges, and the log that a buffer holds up to a position.
+-- The model's transcript over lent buffers: challenges from a source, supplied ones, and the log that a buffer holds up to a position.
 -- Assumes nothing.
 use mathlib.Core.Path.{_≡_}
-use mathlib.Core.List.{List, [], _∷_}
-use Prim.Native.Nat.{ℕ, _+_}
-use lib.ListN.{take, drop}
+use mathlib.Core.List.{List, []}
+use Prim.Native.Nat.{ℕ, _+_, _*_, _≤_}
+use lib.ListN.{length, take, drop}
 use Rattle.field.specs.Ext as E
-use Rattle.field.specs.Cells.{cell}
+use Rattle.field.specs.Element.{words}
+use Rattle.field.specs.Cells.{cell, Clean}
 use Rattle.gkr.specs.Run.{Transcript}
-use Rattle.gkr.specs.Transcripts.{Words, lent}
+use Rattle.gkr.specs.Transcripts.{Words, Source, drawing}
 use Rattle.transcript.specs.declared.Pos.{Pos}
 
--- the words of an element
-abbrev pub wordsOf : E.Ext → List ℕ
-wordsOf x = x .c0 .val ∷ x .c1 .val ∷ x .c2 .val ∷ x .c3 .val ∷ []
+-- the transcript with challenges from a source
+abbrev pub Drawing : Source E.Ext → Transcript E.Ext
+Drawing = drawing words
 
--- the challenges supplied in a buffer
-abbrev pub Supplied : List ℕ → Transcript E.Ext
-Supplied ch = lent wordsOf (cell ch)
+-- the challenges supplied in a buffer, used in their order
+abbrev pub supplied : List ℕ → Source E.Ext
+supplied buffer t = cell buffer (t .used)
+
+-- a buffer has k more challenges from a position on, and its words are canonical
+pub record Enough (buffer : List ℕ) (pos : Pos) (k : ℕ) : Type 0 where
+  pub room : 4 * (pos .used + k) ≤ length buffer
+  pub clean : Clean buffer
+
+-- where nothing is sampled, any source will do
+abbrev pub Observing : Transcript E.Ext
+Observing = Drawing (supplied [])
 
 -- the log up to a position
 abbrev pub logOf : List ℕ → Pos → Words

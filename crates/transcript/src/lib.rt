@@ -1,11 +1,9 @@
 // The transcript over lent buffers: elements are observed into a log, and challenges are taken from those supplied.
 ghost use mathlib.Core.Path.{_≡_};
-ghost use mathlib.Core.List.{[]};
-ghost use Prim.Native.Nat.{_+_, _*_, _<_, _≤_};
-ghost use lib.ListN.{length, take};
+ghost use Prim.Native.Nat.{_+_, _≤_};
+ghost use lib.ListN.{length};
 ghost use Rattle.field.specs.Element.{dec, Canon, Is};
-ghost use Rattle.field.specs.Cells.{cell, Clean};
-ghost use Rattle.transcript.specs.Log.{Supplied, logOf, Steps};
+ghost use Rattle.transcript.specs.Log.{Drawing, supplied, Enough, Observing, logOf, Steps};
 use field::Ext;
 
 // How many words of the log are written, and how many challenges are used.
@@ -24,7 +22,7 @@ pub struct Drawn {
 pub fn observe_ext(log: &mut [u32], pos: Pos, e: Ext) -> Pos
     requires room { ⌜ pos .put + 4 ≤ length (now log) ⌝ }
     requires canon { ⌜ Canon e ⌝ }
-    ensures { λ r. ⌜ Steps (now (log .entry)) (now (log .exit)) pos r 4 0 (Supplied [] .observe (dec e) (logOf (now (log .entry)) pos)) ⌝ }
+    ensures { λ r. ⌜ Steps (now (log .entry)) (now (log .exit)) pos r 4 0 (Observing .observe (dec e) (logOf (now (log .entry)) pos)) ⌝ }
 {
     let put = pos.put;
     log[put] = e.c0;
@@ -39,10 +37,9 @@ pub fn observe_ext(log: &mut [u32], pos: Pos, e: Ext) -> Pos
 
 // The next challenge goes into the log, with the top bits of its words set.
 pub fn sample_ext(log: &mut [u32], challenges: &[u32], pos: Pos) -> Drawn
-    requires room { ⌜ (pos .put + 4 ≤ length (now log)) × (4 * pos .used + 3 < length (now challenges)) ⌝ }
-    requires clean { ⌜ Clean (now challenges) ⌝ }
-    ensures steps { λ r. ⌜ Steps (now (log .entry)) (now (log .exit)) pos (r .pos) 4 1 (Supplied (now (challenges .entry)) .drawn (logOf (now (log .entry)) pos)) ⌝ }
-    ensures value { λ r. ⌜ Is (r .x) (Supplied (now (challenges .entry)) .draw (logOf (now (log .entry)) pos)) ⌝ }
+    requires room { ⌜ (pos .put + 4 ≤ length (now log)) × Enough (now challenges) pos 1 ⌝ }
+    ensures steps { λ r. ⌜ Steps (now (log .entry)) (now (log .exit)) pos (r .pos) 4 1 (Drawing (supplied (now (challenges .entry))) .drawn (logOf (now (log .entry)) pos)) ⌝ }
+    ensures value { λ r. ⌜ Is (r .x) (supplied (now (challenges .entry)) (logOf (now (log .entry)) pos)) ⌝ }
 {
     let put = pos.put;
     let used = pos.used;

@@ -13,12 +13,12 @@ use Rattle.field.specs.Extension.{Extension}
 use Rattle.field.specs.Element.{dec, Canon}
 use Rattle.multilinear.specs.RoundSum.{Claims}
 use Rattle.gkr.specs.Run.{Cubic, Proof}
-use Rattle.gkr.specs.Transcripts.{Words}
+use Rattle.gkr.specs.Transcripts.{Words, empty, Source}
 use Rattle.gkr.specs.Count.{run-cost, words, draws}
 use Rattle.gkr.specs.Sizes.{challenges, log-words}
 use Rattle.gkr.specs.Gkr as Gkr
 use Rattle.gkr.specs.Gkr.{layer-count, poly-count}
-use Rattle.transcript.specs.Log.{Supplied}
+use Rattle.transcript.specs.Log.{Drawing}
 use Rattle.refusal.specs.declared.Refusal.{Refusal}
 use Rattle.refusal.specs.declared.Refusal.the-variants.{IncorrectLayerCount, IncorrectSumcheckPolyCount}
 use Rattle.wire.specs.Bytes.{elem}
@@ -40,37 +40,34 @@ use Rattle.all_rounds.proofs.Messages.{claim-first, claims-rest}
 use Rattle.all_rounds.proofs.RoundLaws.{map-length}
 use Rattle.verifier.specs.Gates.{Ready, start, verdict, Counted}
 
-abbrev empty : Words
-empty = record { log = []; used = 0 }
-
 -- ---- the model's counts
-verify-counted : (ch : List ℕ) (n m : ℕ) (π : Proof E.Ext) (t : Words) → n ≡ suc m → Gkr.verify-gkr Extension (Supplied ch) n π t ≡ Gkr.counted Extension (Supplied ch) m (π .q0) (π .claims) (π .polys) t
+verify-counted : (ch : Source E.Ext) (n m : ℕ) (π : Proof E.Ext) (t : Words) → n ≡ suc m → Gkr.verify-gkr Extension (Drawing ch) n π t ≡ Gkr.counted Extension (Drawing ch) m (π .q0) (π .claims) (π .polys) t
 unfolding Gkr.verify-gkr
-verify-counted ch n m π t e = ap (λ k. Gkr.verify-gkr Extension (Supplied ch) k π t) e
+verify-counted ch n m π t e = ap (λ k. Gkr.verify-gkr Extension (Drawing ch) k π t) e
 
-layers-differ : (ch : List ℕ) (m k : ℕ) (q0 : E.Ext) (cs : List (Claims E.Ext)) (mss : List (List (Cubic E.Ext))) (t : Words) → length cs ≡ k → (k ≡ suc m → ⊥)
-    → Gkr.counted Extension (Supplied ch) m q0 cs mss t ≡ layer-count (suc m) k
+layers-differ : (ch : Source E.Ext) (m k : ℕ) (q0 : E.Ext) (cs : List (Claims E.Ext)) (mss : List (List (Cubic E.Ext))) (t : Words) → length cs ≡ k → (k ≡ suc m → ⊥)
+    → Gkr.counted Extension (Drawing ch) m q0 cs mss t ≡ layer-count (suc m) k
 unfolding Gkr.counted
 layers-differ ch m k q0 [] mss t e h = ap (layer-count (suc m)) e
 layers-differ ch m k q0 (c ∷ cs) mss t e h =
     let f : eqb (length cs) m ≡ false = ne-eqb (length cs) m (λ q. h (sym e ∙ ap suc q)) in
     rw f (ap (layer-count (suc m)) e)
 
-polys-differ : (ch : List ℕ) (m k : ℕ) (q0 : E.Ext) (c : Claims E.Ext) (cs : List (Claims E.Ext)) (mss : List (List (Cubic E.Ext))) (t : Words) → length cs ≡ m → length mss ≡ k → (k ≡ m → ⊥)
-    → Gkr.counted Extension (Supplied ch) m q0 (c ∷ cs) mss t ≡ poly-count m k
+polys-differ : (ch : Source E.Ext) (m k : ℕ) (q0 : E.Ext) (c : Claims E.Ext) (cs : List (Claims E.Ext)) (mss : List (List (Cubic E.Ext))) (t : Words) → length cs ≡ m → length mss ≡ k → (k ≡ m → ⊥)
+    → Gkr.counted Extension (Drawing ch) m q0 (c ∷ cs) mss t ≡ poly-count m k
 unfolding Gkr.counted
 polys-differ ch m k q0 c cs mss t a e h =
     let f : eqb (length cs) m ≡ true = eq-eqb (length cs) m a in
     let g : eqb (length mss) m ≡ false = ne-eqb (length mss) m (λ q. h (sym e ∙ q)) in
     rw (f, g) (ap (poly-count m) e)
 
-both-right : (ch : List ℕ) (m : ℕ) (q0 : E.Ext) (c : Claims E.Ext) (cs : List (Claims E.Ext)) (mss : List (List (Cubic E.Ext))) (t : Words) → length cs ≡ m → length mss ≡ m
-    → Gkr.counted Extension (Supplied ch) m q0 (c ∷ cs) mss t ≡ Gkr.root Extension (Supplied ch) q0 c cs mss t
+both-right : (ch : Source E.Ext) (m : ℕ) (q0 : E.Ext) (c : Claims E.Ext) (cs : List (Claims E.Ext)) (mss : List (List (Cubic E.Ext))) (t : Words) → length cs ≡ m → length mss ≡ m
+    → Gkr.counted Extension (Drawing ch) m q0 (c ∷ cs) mss t ≡ Gkr.root Extension (Drawing ch) q0 c cs mss t
 unfolding Gkr.counted
 both-right ch m q0 c cs mss t a e = rw (eq-eqb (length cs) m a, eq-eqb (length mss) m e)
 
 -- a refusal that leaves all as it was
-stops-first : (lg ch : List ℕ) (v w : Model ch) (e : Refusal) → v ≡ w → answerOf ch w ≡ Refused e → pointOf ch w ≡ [] → loggedBy ch w ≡ [] → Stops lg lg ch start v e
+stops-first : (lg : List ℕ) (ch : Source E.Ext) (v w : Model ch) (e : Refusal) → v ≡ w → answerOf ch w ≡ Refused e → pointOf ch w ≡ [] → loggedBy ch w ≡ [] → Stops lg lg ch start v e
 stops-first lg ch v w e q a b c =
     record {
       answer = ap (answerOf ch) q ∙ a;
@@ -82,7 +79,7 @@ stops-first lg ch v w e q a b c =
       rest = refl;
     }
 
-module _ (bs lg ch : List ℕ) (n : ℕ) (o : Outline) (some : 1 ≤ n) (s : Shaped bs o) where
+module _ (bs lg : List ℕ) (ch : Source E.Ext) (n : ℕ) (o : Outline) (some : 1 ≤ n) (s : Shaped bs o) where
   abbrev m : ℕ
   m = n - 1
 
@@ -107,9 +104,9 @@ module _ (bs lg ch : List ℕ) (n : ℕ) (o : Outline) (some : 1 ≤ n) (s : Sha
     others-long : length (map decClaims (claimsFrom m (drop 86 bs))) ≡ m
     others-long = map-length decClaims (claimsFrom m (drop 86 bs)) ∙ claims-count m (drop 86 bs)
 
-    counted-is : verdict bs n ch ≡ Gkr.counted Extension (Supplied ch) m (dec (elem (drop 5 bs))) (decClaims (claimsOf (drop 22 bs)) ∷ map decClaims (claimsFrom m (drop 86 bs)))
+    counted-is : verdict bs n ch ≡ Gkr.counted Extension (Drawing ch) m (dec (elem (drop 5 bs))) (decClaims (claimsOf (drop 22 bs)) ∷ map decClaims (claimsFrom m (drop 86 bs)))
         (map (map decCubic) (entriesFrom (entryCount bs) (drop (polysAt bs) bs))) empty
-    counted-is = verify-counted ch n m (decoded (proofOf bs)) empty n-is ∙ ap (λ cs. Gkr.counted Extension (Supplied ch) m (dec (elem (drop 5 bs))) cs (map (map decCubic) (entriesFrom (entryCount bs) (drop (polysAt bs) bs))) empty) first-claims
+    counted-is = verify-counted ch n m (decoded (proofOf bs)) empty n-is ∙ ap (λ cs. Gkr.counted Extension (Drawing ch) m (dec (elem (drop 5 bs))) cs (map (map decCubic) (entriesFrom (entryCount bs) (drop (polysAt bs) bs))) empty) first-claims
 
     pub polys-stop : (pt' : List ℕ) (x : ℕ) → x ≡ m → (o .entries ≡ x → ⊥) → Counted bs pt' lg lg ch n (Stopped (IncorrectSumcheckPolyCount x (o .entries)))
     polys-stop pt' x e h =
@@ -117,11 +114,11 @@ module _ (bs lg ch : List ℕ) (n : ℕ) (o : Outline) (some : 1 ≤ n) (s : Sha
         (counted-is ∙ polys-differ ch m (o .entries) _ _ _ _ empty others-long polys-long (λ q. h (q ∙ sym e)) ∙ ap (λ k. poly-count k (o .entries)) (sym e)) refl refl refl
 
     module _ (b : o .entries ≡ m) where
-      root-is : verdict bs n ch ≡ Gkr.root Extension (Supplied ch) (dec (elem (drop 5 bs))) (decClaims (claimsOf (drop 22 bs))) (map decClaims (claimsFrom m (drop 86 bs)))
+      root-is : verdict bs n ch ≡ Gkr.root Extension (Drawing ch) (dec (elem (drop 5 bs))) (decClaims (claimsOf (drop 22 bs))) (map decClaims (claimsFrom m (drop 86 bs)))
           (map (map decCubic) (entriesFrom m (drop (o .polys) bs))) empty
       root-is =
           counted-is ∙ both-right ch m _ _ _ _ empty others-long (polys-long ∙ b)
-          ∙ ap₂ (λ k p. Gkr.root Extension (Supplied ch) (dec (elem (drop 5 bs))) (decClaims (claimsOf (drop 22 bs))) (map decClaims (claimsFrom m (drop 86 bs))) (map (map decCubic) (entriesFrom k (drop p bs))) empty)
+          ∙ ap₂ (λ k p. Gkr.root Extension (Drawing ch) (dec (elem (drop 5 bs))) (decClaims (claimsOf (drop 22 bs))) (map decClaims (claimsFrom m (drop 86 bs))) (map (map decCubic) (entriesFrom k (drop p bs))) empty)
           (sym (s .entries) ∙ b) (sym (s .polys))
 
       pub root-counted : (pt' lg' : List ℕ) (r : Advance) → RootEnd bs pt' lg lg' ch (o .polys) n start r → Counted bs pt' lg lg' ch n r
@@ -142,7 +139,7 @@ module _ (bs pt lg ch : List ℕ) (n : ℕ) (o : Outline) (r : Ready bs pt lg ch
       let d = draws k in
       let e : log-words true n ≡ log-words true (suc k) = ap (log-words true) k-is in
       let f : challenges n ≡ challenges (suc k) = ap challenges k-is in
-      record { put = omega (arith, w, e, r .log-room); used = omega (arith, d, f, r .chals) }
+      record { put = omega (arith, w, e, r .log-room); enough = record { room = omega (arith, d, f, r .chals); clean = r .clean } }
 
   q0-part : allCanonical (extWords (elem (drop 5 bs))) ≡ true
   q0-part = canonical-left (extWords (elem (drop 5 bs))) (claimsWords (proofOf bs .claims) ++ polysWords (proofOf bs .polys)) (r .canon)

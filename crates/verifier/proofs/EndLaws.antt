@@ -2,17 +2,19 @@
 -- Assumes nothing.
 use mathlib.Core.Path.{_≡_, refl, sym, _∙_, ap, ap₂, subst}
 use mathlib.Core.List.{List, _++_}
-use Prim.Native.Nat.{ℕ, zero, suc, _+_, _*_, _≤_}
+use Prim.Native.Nat.{ℕ, _*_, _≤_}
 use native.Mathlib.Omega.{arith}
 use lib.ListN.{length, take, drop, take-append-drop}
-use lib.Seq.{take-add, drop-drop, length-take-le}
-use Rattle.field.specs.Element.{dec, enc}
+use lib.Seq.{length-take-le}
+use Rattle.field.specs.Ext as E
+use Rattle.field.specs.Element.{dec, enc, pointWords}
 use Rattle.field.specs.ElementLaws.{enc-dec}
 use Rattle.field.specs.Cells.{Clean, cells}
-use Rattle.field.specs.CellLaws.{words-cell}
+use Rattle.field.specs.PointLaws.{point-is}
 use Rattle.gkr.specs.Gkr.{accepted}
 use Rattle.gkr.specs.Sizes.{challenges}
-use Rattle.transcript.specs.Log.{logOf}
+use Rattle.gkr.specs.Transcripts.{Source}
+use Rattle.transcript.specs.Log.{supplied, logOf}
 use Rattle.refusal.specs.Limits.{maxRounds}
 use Rattle.refusal.specs.declared.Refusal.{Refusal}
 use Rattle.refusal.specs.Tests.{refused, firstOf}
@@ -25,7 +27,7 @@ use Rattle.round.specs.declared.Advance.the-variants.{Next, Stopped}
 use Rattle.round.specs.declared.Verdict.{Verdict}
 use Rattle.round.specs.declared.Verdict.the-variants.{Accepted, Refused}
 use Rattle.round.specs.Values.{columns}
-use Rattle.round.specs.Verdicts.{Model, answerOf, pointOf, loggedBy, pointWords}
+use Rattle.round.specs.Verdicts.{Model, answerOf, pointOf, loggedBy}
 use Rattle.all_rounds.specs.Runs.{Ends}
 use Rattle.verifier.specs.Verified.{Asked, Lent, Outcome, outcome, lent, tests, ended, fronts, laid, verified}
 use Rattle.verifier.specs.declared.Gate.{Gate}
@@ -33,22 +35,13 @@ use Rattle.verifier.specs.declared.Gate.the-variants.{Open, Shut}
 use Rattle.verifier.specs.Gates.{Opened, Gated, Ready, start, verdict, pointLeft, answered}
 use Rattle.verifier.proofs.GateLaws.{passes}
 
--- a clean point's words are those of its coordinates
-pub point-is : (ws : List ℕ) (i k : ℕ) → Clean ws → 4 * i + 4 * k ≤ length ws → pointWords (cells ws i k) ≡ take (4 * k) (drop (4 * i) ws)
-point-is ws i zero c h = refl
-point-is ws i (suc k) c h =
-    let e : 4 * suc k ≡ 4 + 4 * k = omega arith in
-    let f : 4 * i + 4 ≡ 4 * suc i = omega arith in
-    ap₂ _++_ (sym (words-cell ws i c (omega arith))) (point-is ws (suc i) k c (omega arith) ∙ ap (λ n. take (4 * k) (drop n ws)) (sym f) ∙ ap (take (4 * k)) (sym (drop-drop 4 (4 * i) ws)))
-    ∙ sym (take-add 4 (4 * k) (drop (4 * i) ws)) ∙ ap (λ n. take n (drop (4 * i) ws)) (sym e)
-
--- what is over up to a place, and as before past it
+-- what is written up to a place, and as before past it
 front : (l l' : List ℕ) (n : ℕ) (ws : List ℕ) → n ≤ length l' → take n l' ≡ ws → drop n l' ≡ drop n l → l' ≡ over ws l
 front l l' n ws h e d =
     let len : n ≡ length ws = sym (length-take-le n l' h) ∙ ap length e in
     sym (take-append-drop n l') ∙ ap₂ _++_ e (d ∙ ap (λ k. drop k l) len)
 
-module _ (p lg lg' ch : List ℕ) (v : Model ch) (l : length lg' ≡ length lg) where
+module _ (p lg lg' : List ℕ) (ch : Source E.Ext) (v : Model ch) (l : length lg' ≡ length lg) where
   -- what a run's end leaves and answers is the definition's
   pub ended-is : (n : ℕ) (pt' p' : List ℕ) (r : Advance) (x : Verdict) → Ends lg lg' pt' ch start n v r → 4 * n ≤ length pt' → p' ≡ pointLeft r (4 * n) pt' p → x ≡ answered r
       → outcome x p' lg' ≡ laid (ended ch v) (lent p lg)
@@ -96,10 +89,10 @@ module _ (a : Asked) (b : Lent) where
 
   -- over the needed challenges
   pub run-is : (k : ℕ) (o : Outline) (x : Outcome) → Opened a (length (b .point)) (length (b .log)) o → k ≡ 4 * challenges (a .rounds)
-      → x ≡ laid (ended (take k (a .challenges)) (verdict (a .proof) (a .rounds) (take k (a .challenges)))) b → x ≡ verified a b
+      → x ≡ laid (ended (supplied (take k (a .challenges))) (verdict (a .proof) (a .rounds) (supplied (take k (a .challenges))))) b → x ≡ verified a b
   unfolding verified
   run-is k o x g e h =
-      h ∙ ap (λ m. laid (ended (take m (a .challenges)) (verdict (a .proof) (a .rounds) (take m (a .challenges)))) b) e ∙ ap (λ t. laid (fronts a t) b) (sym (g .passes))
+      h ∙ ap (λ m. laid (ended (supplied (take m (a .challenges))) (verdict (a .proof) (a .rounds) (supplied (take m (a .challenges))))) b) e ∙ ap (λ t. laid (fronts a t) b) (sym (g .passes))
 
   -- no second outcome fits
   pub only-one : (x y : Outcome) → x ≡ verified a b → y ≡ verified a b → x ≡ y

@@ -1,11 +1,13 @@
 -- Isolation and what a refusal leaves, from what is laid at the fronts.
 -- Assumes nothing.
 use mathlib.Core.Path.{_≡_, refl, sym, ap, ap₂}
-use mathlib.Core.List.{List}
 use Prim.Native.Nat.{ℕ, _<_}
 use native.Mathlib.Omega.{arith}
 use lib.ListN.{length}
+use Rattle.field.specs.Ext as E
+use Rattle.gkr.specs.Transcripts.{Source}
 use Rattle.gkr.specs.Gkr.{accepted, zero-rounds, layer-count, poly-count, zero-check, root-check, subround-count, layer-check}
+use Rattle.transcript.specs.Log.{supplied}
 use Rattle.refusal.specs.declared.Refusal.{Refusal}
 use Rattle.refusal.specs.Numbers.{reportOf}
 use Rattle.refusal.specs.Tests.{Tested, passed, refused, firstOf}
@@ -31,7 +33,7 @@ number e e′ h = let q : e ≡ e′ = cc in ap (λ x. reportOf x .number) (sym 
 
 module _ (b : Lent) (e : Refusal) where
   -- a run that is refused leaves the point
-  run-point : (ch : List ℕ) (v : Model ch) → ended ch v .answer ≡ Refused e → laid (ended ch v) b .buffers .point ≡ b .point
+  run-point : (ch : Source E.Ext) (v : Model ch) → ended ch v .answer ≡ Refused e → laid (ended ch v) b .buffers .point ≡ b .point
   run-point ch (accepted x z t) h = absurd (let z : _≡_ {A = ℕ} 0 1 = cc in omega arith)
   run-point ch zero-rounds h = refl
   run-point ch (layer-count expected actual) h = refl
@@ -42,7 +44,7 @@ module _ (b : Lent) (e : Refusal) where
   run-point ch (layer-check round expected actual t) h = refl
 
   -- and the log, unless it is refused by 16 to 19
-  run-both : (ch : List ℕ) (v : Model ch) → ended ch v .answer ≡ Refused e → reportOf e .number < 16 → laid (ended ch v) b .buffers ≡ b
+  run-both : (ch : Source E.Ext) (v : Model ch) → ended ch v .answer ≡ Refused e → reportOf e .number < 16 → laid (ended ch v) b .buffers ≡ b
   run-both ch (accepted x z t) h l = absurd (let z : _≡_ {A = ℕ} 0 1 = cc in omega arith)
   run-both ch zero-rounds h l = refl
   run-both ch (layer-count expected actual) h l = refl
@@ -54,11 +56,11 @@ module _ (b : Lent) (e : Refusal) where
 
   point-left : (a : Asked) (w : Tested) → fronts a w .answer ≡ Refused e → laid (fronts a w) b .buffers .point ≡ b .point
   point-left a (refused r) h = refl
-  point-left a passed h = run-point (needed a) (verdict (a .proof) (a .rounds) (needed a)) h
+  point-left a passed h = run-point (supplied (needed a)) (verdict (a .proof) (a .rounds) (supplied (needed a))) h
 
   both-left : (a : Asked) (w : Tested) → fronts a w .answer ≡ Refused e → reportOf e .number < 16 → laid (fronts a w) b .buffers ≡ b
   both-left a (refused r) h l = refl
-  both-left a passed h l = run-both (needed a) (verdict (a .proof) (a .rounds) (needed a)) h l
+  both-left a passed h l = run-both (supplied (needed a)) (verdict (a .proof) (a .rounds) (supplied (needed a))) h l
 
 pub untouched : (a : Asked) (b : Lent) → Untouched a b
 unfolding verified

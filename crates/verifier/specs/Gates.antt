@@ -2,15 +2,17 @@
 -- Assumes nothing.
 use mathlib.Core.Path.{_≡_}
 use mathlib.Core.Bool.{true, cond}
-use mathlib.Core.List.{List, [], _++_}
+use mathlib.Core.List.{List, _++_}
 use Prim.Native.Nat.{ℕ, _*_, _≤_}
 use lib.ListN.{length, take, drop}
+use Rattle.field.specs.Ext as E
 use Rattle.field.specs.Extension.{Extension}
 use Rattle.field.specs.Cells.{Clean}
+use Rattle.gkr.specs.Transcripts.{Source, empty}
 use Rattle.gkr.specs.Sizes.{challenges, log-words}
 use Rattle.gkr.specs.Gkr as Gkr
 use Rattle.transcript.specs.declared.Pos.{Pos}
-use Rattle.transcript.specs.Log.{Supplied}
+use Rattle.transcript.specs.Log.{Drawing}
 use Rattle.refusal.specs.declared.Refusal.the-variants.{BadWord}
 use Rattle.refusal.specs.Tests.{passed, refused, firstOf}
 use Rattle.wire.specs.Words.{allCanonical}
@@ -56,11 +58,11 @@ abbrev pub start : Pos
 start = record { put = 0; used = 0 }
 
 -- the model's verifier over the proof that stands in the bytes
-abbrev pub verdict : (bs : List ℕ) (n : ℕ) (ch : List ℕ) → Model ch
-verdict bs n ch = Gkr.verify-gkr Extension (Supplied ch) n (decoded (proofOf bs)) (record { log = []; used = 0 })
+abbrev pub verdict : (bs : List ℕ) (n : ℕ) (ch : Source E.Ext) → Model ch
+verdict bs n ch = Gkr.verify-gkr Extension (Drawing ch) n (decoded (proofOf bs)) empty
 
 -- the run ends as the model's does
-abbrev pub Counted : (bs pt' lg lg' ch : List ℕ) (n : ℕ) → Advance → Type 0
+abbrev pub Counted : (bs pt' lg lg' : List ℕ) (ch : Source E.Ext) (n : ℕ) → Advance → Type 0
 Counted bs pt' lg lg' ch n r = Ends lg lg' pt' ch start n (verdict bs n ch) r
 
 -- what a run's end leaves of the point found, n words of it or none

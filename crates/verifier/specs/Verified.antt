@@ -5,10 +5,12 @@ use mathlib.Core.List.{List, [], _∷_}
 use Prim.Native.Nat.{ℕ, _*_}
 use lib.Dec.{eqb, ltb}
 use lib.ListN.{length, getD, take}
+use Rattle.field.specs.Ext as E
 use Rattle.field.specs.Extension.{Extension}
 use Rattle.gkr.specs.Sizes.{challenges, log-words}
 use Rattle.gkr.specs.Gkr as Gkr
-use Rattle.transcript.specs.Log.{Supplied}
+use Rattle.gkr.specs.Transcripts.{empty, Source}
+use Rattle.transcript.specs.Log.{Drawing, supplied}
 use Rattle.refusal.specs.Limits.{maxRounds}
 use Rattle.refusal.specs.declared.Refusal.the-variants.{ShortChallenges, ShortRoom, BadWord, ZeroRounds, TooManyRounds, BadVersion, BadLength}
 use Rattle.refusal.specs.Tests.{Test, Tested, passed, refused, test, firstOf}
@@ -60,13 +62,13 @@ tests a points logs = test (eqb (a .rounds) 0) ZeroRounds
     ∷ test (not (allCanonical (needed a))) BadWord ∷ []
 
 -- what a verdict of the model answers and writes
-abbrev pub ended : (ch : List ℕ) → Model ch → Outcome
+abbrev pub ended : (ch : Source E.Ext) → Model ch → Outcome
 ended ch v = outcome (answerOf ch v) (pointOf ch v) (loggedBy ch v)
 
 -- what a call answers and writes: nothing where it is refused before the run, else what the model's verifier does over an empty log
 abbrev pub fronts : Asked → Tested → Outcome
 fronts a (refused e) = outcome (Refused e) [] []
-fronts a passed = ended (needed a) (Gkr.verify-gkr Extension (Supplied (needed a)) (a .rounds) (decoded (proofOf (a .proof))) (record { log = []; used = 0 }))
+fronts a passed = let ch = supplied (needed a) in ended ch (Gkr.verify-gkr Extension (Drawing ch) (a .rounds) (decoded (proofOf (a .proof))) empty)
 
 -- written at the fronts of the buffers, the rest as before
 abbrev pub laid : Outcome → Lent → Outcome

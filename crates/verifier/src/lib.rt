@@ -7,6 +7,7 @@ ghost use lib.ListN.{length, take, drop};
 ghost use Rattle.stored.specs.ParseLaws.{Shaped};
 ghost use Rattle.gkr.specs.Sizes.{challenges, log-words};
 ghost use Rattle.refusal.specs.Limits.{maxRounds};
+ghost use Rattle.transcript.specs.Log.{supplied};
 ghost use Rattle.round.specs.declared.Verdict.the-variants.{Accepted};
 ghost use Rattle.verifier.specs.Verified.{asked, lent, outcome, verified};
 ghost use Rattle.verifier.specs.Gates.{wordsGate, Gated, Opened, Ready, Counted, pointLeft, answered};
@@ -90,7 +91,7 @@ fn verify_counted(
     challenges: &[u32],
 ) -> Advance
     requires { ⌜ Ready (now proof) (now xi) (now log) (now challenges) rounds outline ⌝ }
-    ensures { λ r. ⌜ Counted (now (proof .entry)) (now (xi .exit)) (now (log .entry)) (now (log .exit)) (now (challenges .entry)) rounds r ⌝ }
+    ensures { λ r. ⌜ Counted (now (proof .entry)) (now (xi .exit)) (now (log .entry)) (now (log .exit)) (supplied (now (challenges .entry))) rounds r ⌝ }
 {
     let layers = outline.layers;
     let entries = outline.entries;

@@ -13,8 +13,8 @@ read-subround-requires c κs = search needs
 sub-round-requires : tie.Need-sub-round-requires
 sub-round-requires c κs =
     let p = c .before .before .before .before .before .before .before .pre in
-    let q = cubic-told _ _ (c .before .before .read-subround .ensures) (p .1 .2) in
-    ((p .0 .1, p .0 .2, p .0 .3), (p .1 .0, p .1 .1, q, p .1 .3))
+    let q = cubic-told _ _ (c .before .before .read-subround .ensures) (p .1 .1) in
+    ((p .0 .1, p .0 .2, p .0 .3), (p .1 .0, q, p .1 .2))
 
 same-length : tie.Need-same-length
 same-length c = search needs

@@ -20,7 +20,7 @@ read-claims-requires c κs = search needs
 verify-root-requires : tie.Need-verify-root-requires
 verify-root-requires c κs =
     let p = c .before .before .before .before .before .before .before .before .pre in
-    ((omega (arith, p .0, p .1 .0 .0), omega (arith, p .1 .0 .1 .put), omega (arith, p .1 .0 .1 .used)), (p .1 .1 .0 .0, p .1 .1 .0 .1, claims-told _ _ (c .before .before .read-claims .ensures) (p .1 .1 .1 .1), canon-told _ _ (c .before .before .before .element-at .ensures) (p .1 .1 .1 .0)))
+    ((omega (arith, p .0, p .1 .0 .0), omega (arith, p .1 .0 .1 .put), record { room = omega (arith, p .1 .0 .1 .enough .room); clean = p .1 .0 .1 .enough .clean }), (p .1 .1 .0, claims-told _ _ (c .before .before .read-claims .ensures) (p .1 .1 .1 .1), canon-told _ _ (c .before .before .before .element-at .ensures) (p .1 .1 .1 .0)))
 
 enum-known-s : tie.Need-enum-known-s
 enum-known-s c = search needs
@@ -30,7 +30,7 @@ verify-rounds-requires c κs =
     let p = c .before .before .before .before .before .before .before .before .before .before .before .before .before .before .before .before .before .before .pre in
     let k = c .before .before .before .before .before .before .before .before .before .verify-root .kept in
     let g = root-goes (c .before .before .before .before .before .before .before .before .before .before .before .before .before .before .before .before .before .before .args .proof .now) _ _ _ (c .before .before .before .before .before .before .before .before .before .before .before .before .before .before .before .before .before .before .args .polys) (c .before .before .before .before .before .before .before .before .before .before .before .before .before .before .before .before .before .before .args .rounds) (c .before .before .before .before .before .before .before .before .before .before .before .before .before .before .before .before .before .before .args .pos) _ _ _ _ (c .before .before .before .before .before .before .before .before .before .before .before .before .before .element-at .ensures) (c .before .before .before .before .before .before .before .before .before .before .before .before .read-claims .ensures) (c .before .before .before .before .before .before .before .before .before .verify-root .ensures) _ (c .before .before .before .s .given .1) in
-    ((p .0 .0, p .0 .2), ((omega (arith, p .1 .0 .0, k), root-space (c .before .before .before .before .before .before .before .before .before .before .before .before .before .before .before .before .before .before .args .proof .now) _ _ _ (c .before .before .before .before .before .before .before .before .before .before .before .before .before .before .before .before .before .before .args .polys) (c .before .before .before .before .before .before .before .before .before .before .before .before .before .before .before .before .before .before .args .rounds) (c .before .before .before .before .before .before .before .before .before .before .before .before .before .before .before .before .before .before .args .pos) _ _ _ _ (c .before .before .before .before .before .before .before .before .before .before .before .before .before .element-at .ensures) (c .before .before .before .before .before .before .before .before .before .before .before .before .read-claims .ensures) (c .before .before .before .before .before .before .before .before .before .verify-root .ensures) _ (c .before .before .before .s .given .1) (k .1 .1 .1 .0) _ _ (p .1 .0 .1)), (g .clean, p .1 .1 .0 .1, g .numer, g .denom)))
+    ((p .0 .0, p .0 .2), ((omega (arith, p .1 .0 .0, k), root-space (c .before .before .before .before .before .before .before .before .before .before .before .before .before .before .before .before .before .before .args .proof .now) _ _ _ (c .before .before .before .before .before .before .before .before .before .before .before .before .before .before .before .before .before .before .args .polys) (c .before .before .before .before .before .before .before .before .before .before .before .before .before .before .before .before .before .before .args .rounds) (c .before .before .before .before .before .before .before .before .before .before .before .before .before .before .before .before .before .before .args .pos) _ _ _ _ (c .before .before .before .before .before .before .before .before .before .before .before .before .before .element-at .ensures) (c .before .before .before .before .before .before .before .before .before .before .before .before .read-claims .ensures) (c .before .before .before .before .before .before .before .before .before .verify-root .ensures) _ (c .before .before .before .s .given .1) (k .1 .1 .1 .0) _ _ (p .1 .0 .1)), (g .clean, g .numer, g .denom)))
 
 enum-known-refusal : tie.Need-enum-known-refusal
 enum-known-refusal c = search needs

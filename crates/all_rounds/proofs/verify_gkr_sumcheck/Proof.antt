@@ -1,3 +1,4 @@
+use Rattle.transcript.specs.Log.{supplied}
 use Rattle.all_rounds.proofs.SubLaws.{sub-start, sub-canon, sub-turn, sub-end}
 use Rattle.all_rounds.specs.Runs.{Summing}
 use Prim.Native.Nat.{_-_}
@@ -10,20 +11,20 @@ use Rattle.all_rounds.proofs.verify_gkr_sumcheck.Lts as lts
 use Rattle.all_rounds.proofs.sub_round_at.Reads as sub-round-at-reads
 
 abbrev Inv-loop : tie.InvT-loop
-Inv-loop proof from round point₀ log₀ challenges s₀ at₀ j₀ point log s at j = Summing proof point₀ point log₀ log challenges from at round j s₀ s
+Inv-loop proof from round point₀ log₀ challenges s₀ at₀ j₀ point log s at j = Summing proof point₀ point log₀ log (supplied challenges) from at round j s₀ s
 
 abbrev μ-loop : tie.MeasureT-loop
 μ-loop proof from round point₀ log₀ challenges s₀ at₀ j₀ point log s at j = round - j
 
 loop-holds : tie.Need-loop-holds Inv-loop μ-loop
-loop-holds c = sub-start _ _ _ _ _ _ _ (c .before .before .before .before .pre .1 .0) (c .before .before .before .before .pre .1 .2) (c .before .before .before .before .pre .1 .3)
+loop-holds c = sub-start _ _ _ _ _ _ _ (c .before .before .before .before .pre .1 .0) (c .before .before .before .before .pre .1 .1) (c .before .before .before .before .pre .1 .2)
 
 sub-round-at-requires : tie.Need-sub-round-at-requires Inv-loop μ-loop
 sub-round-at-requires c κs =
     let p = c .before .before .before .before .before .before .before .before .pre in
     let i = c .before .before .before .loop .inv in
     let t = c .before .before .loop-test .taken in
-    ((omega (arith, p .0, i .place, t), omega (arith, p .0, i .points, t), omega (arith, p .0, i .logs, i .steps .put, t), omega (arith, p .0, i .steps .used, t)), (i .clean, p .1 .1, sub-canon _ _ _ _ _ _ _ _ _ _ _ _ i t, i .canon))
+    ((omega (arith, p .0, i .place, t), omega (arith, p .0, i .points, t), omega (arith, p .0, i .logs, i .steps .put, t), record { room = omega (arith, p .0 .3 .room, i .steps .used, t); clean = p .0 .3 .clean }), (i .clean, sub-canon _ _ _ _ _ _ _ _ _ _ _ _ i t, i .canon))
 
 add-at : tie.Need-add-at Inv-loop μ-loop
 add-at c = omega (arith, c .before .before .before .before .before .before .before .before .loop .inv .place, c .before .before .before .before .before .before .before .before .before .before .before .before .before .pre .0, c .before .before .before .before .before .before .before .loop-test .taken)

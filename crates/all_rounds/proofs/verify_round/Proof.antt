@@ -23,7 +23,9 @@ cast-subrounds : tie.Need-cast-subrounds
 cast-subrounds c = search needs
 
 open-layer-requires : tie.Need-open-layer-requires
-open-layer-requires c κs = search needs
+open-layer-requires c κs =
+    let p = c .before .before .before .before .before .before .before .before .pre in
+    ((omega (arith, p .1 .0), omega (arith, p .1 .0), record { room = omega (arith, p .1 .0 .2 .room); clean = p .1 .0 .2 .clean }), p .1 .1 .0)
 
 same-length : tie.Need-same-length
 same-length c = search needs
@@ -44,7 +46,7 @@ verify-gkr-sumcheck-requires c κs =
     let o = c .before .before .before .before .before .before .before .open-layer .ensures in
     let w = c .before .before .before .before .before .before .before .before .before .before .wide .ensures in
     let e : getD (c .before .before .before .before .before .before .before .before .before .before .before .before .before .before .before .before .args .proof .now) (c .before .before .before .before .before .before .before .before .before .before .before .before .before .before .before .before .args .polys) 0 ≡ c .before .before .before .before .before .before .before .before .before .before .before .before .before .before .before .before .args .round = omega (arith, w .0, c .before .before .if1 .left) in
-    ((omega (arith, p .0, e), p .1 .0 .0, omega (arith, p .1 .0, k, o .steps .put), omega (arith, p .1 .0, o .steps .used)), (p .1 .1 .0 .0, p .1 .1 .0 .1, record { claim = o .claim .canon; eq = o .eq .canon; xi = o .xi .canon }, words-at (c .before .before .before .before .before .before .before .before .before .before .before .before .before .before .before .before .args .proof .now) (c .before .before .before .before .before .before .before .before .before .before .before .before .before .before .before .before .args .polys) _ e (p .1 .1 .1 .1)))
+    ((omega (arith, p .0, e), p .1 .0 .0, omega (arith, p .1 .0, k, o .steps .put), record { room = omega (arith, p .1 .0 .2 .room, o .steps .used); clean = p .1 .0 .2 .clean }), (p .1 .1 .0 .0, record { claim = o .claim .canon; eq = o .eq .canon; xi = o .xi .canon }, words-at (c .before .before .before .before .before .before .before .before .before .before .before .before .before .before .before .before .args .proof .now) (c .before .before .before .before .before .before .before .before .before .before .before .before .before .before .before .before .args .polys) _ e (p .1 .1 .1 .1)))
 
 read-claims-requires : tie.Need-read-claims-requires
 read-claims-requires c κs = c .before .before .before .before .before .before .before .before .before .before .before .before .before .before .before .before .before .before .before .before .before .pre .0 .0
@@ -56,7 +58,7 @@ close-layer-requires c κs =
     let l = c .before .before .before .before .before .before .before .verify-gkr-sumcheck .kept in
     let o = c .before .before .before .before .before .before .before .before .before .before .before .before .before .before .before .open-layer .ensures in
     let v = c .before .before .before .before .before .before .before .verify-gkr-sumcheck .ensures in
-    ((omega (arith, p .1 .0, l), omega (arith, p .1 .0, k, l, o .steps .put, v .steps .put), omega (arith, p .1 .0, o .steps .used, v .steps .used)), (v .clean, p .1 .1 .0 .1, claims-told _ _ (c .before .before .read-claims .ensures) (p .1 .1 .1 .0), record { claim = v .claim .canon; eq = v .eq .canon; xi = v .xi }, o .lambda .canon))
+    ((omega (arith, p .1 .0, l), omega (arith, p .1 .0, k, l, o .steps .put, v .steps .put), record { room = omega (arith, p .1 .0 .2 .room, o .steps .used, v .steps .used); clean = p .1 .0 .2 .clean }), (v .clean, claims-told _ _ (c .before .before .read-claims .ensures) (p .1 .1 .1 .0), record { claim = v .claim .canon; eq = v .eq .canon; xi = v .xi }, o .lambda .canon))
 
 same-length-3 : tie.Need-same-length-3
 same-length-3 c = search needs

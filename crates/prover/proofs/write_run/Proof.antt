@@ -21,7 +21,7 @@ run-rounds-requires c κs =
     let s = c .before .before .before .before .before .begin .ensures in
     let k = c .before .before .before .before .before .begin .kept in (
       (p .some, p .pow, omega (arith, p .work)),
-      ((omega (arith, p .point), omega (arith, p .log, s .put, k), omega (arith, p .used, s .used)), (q .0, q .1, q .2 .q)),
+      ((omega (arith, p .point), omega (arith, p .log, s .put, k), record { room = omega (arith, p .used, s .used); clean = q .1 }), (q .0, q .2 .q)),
     )
 
 put-proof-requires : tie.Need-put-proof-requires

@@ -30,10 +30,10 @@ store-requires : tie.Need-store-requires
 store-requires c κs = (omega (arith, c .before .before .before .before .before .before .before .before .before .before .before .before .before .before .before .pre .0), (c .before .before .before .before .before .before .before .before .before .before .before .before .before .before .before .pre .1 .0, c .before .before .before .before .sample-ext .ensures .1 .canon))
 
 next-claim-requires : tie.Need-next-claim-requires
-next-claim-requires c κs = (c .before .before .before .before .before .before .before .before .before .before .before .before .before .before .before .before .before .before .before .pre .1 .3 .claim, c .before .before .before .before .before .before .before .before .before .before .before .before .before .before .before .before .before .before .before .pre .1 .2, c .before .before .before .before .before .before .before .before .sample-ext .ensures .1 .canon)
+next-claim-requires c κs = (c .before .before .before .before .before .before .before .before .before .before .before .before .before .before .before .before .before .before .before .pre .1 .2 .claim, c .before .before .before .before .before .before .before .before .before .before .before .before .before .before .before .before .before .before .before .pre .1 .1, c .before .before .before .before .before .before .before .before .sample-ext .ensures .1 .canon)
 
 eq-step-requires : tie.Need-eq-step-requires
-eq-step-requires c κs = search (needs, c .before .before .before .before .before .before .before .before .before .before .before .before .before .before .before .before .before .before .before .before .pre .1 .3 .eq, c .before .before .before .before .before .before .before .before .before .before .before .before .before .before .before .before .before .before .before .before .pre .1 .3 .xi, c .before .before .before .before .before .before .before .before .before .sample-ext .ensures .1 .canon)
+eq-step-requires c κs = search (needs, c .before .before .before .before .before .before .before .before .before .before .before .before .before .before .before .before .before .before .before .before .pre .1 .2 .eq, c .before .before .before .before .before .before .before .before .before .before .before .before .before .before .before .before .before .before .before .before .pre .1 .2 .xi, c .before .before .before .before .before .before .before .before .before .sample-ext .ensures .1 .canon)
 
 same-length : tie.Need-same-length
 same-length c = search needs

@@ -32,7 +32,7 @@ sample-ext-requires c κs =
     let p = c .before .before .before .before .before .before .before .before .before .before .before .before .before .before .before .pre in
     let s = c .before .before .before .before .before .before .before .before .observe-fraction .ensures in
     let t = c .before .before .before .observe-fraction2 .ensures in
-    ((omega (arith, p .0, c .before .before .before .before .before .before .before .before .observe-fraction .kept .0, s .put, c .before .before .before .observe-fraction2 .kept .0, t .put), omega (arith, p .0, s .used, t .used)), p .1 .2)
+    (omega (arith, p .0, c .before .before .before .before .before .before .before .before .observe-fraction .kept .0, s .put, c .before .before .before .observe-fraction2 .kept .0, t .put), record { room = omega (arith, p .0 .3 .room, s .used, t .used); clean = p .0 .3 .clean })
 
 store-requires : tie.Need-store-requires
 store-requires c κs = (omega (arith, c .before .before .before .before .before .before .before .before .before .before .before .before .before .before .before .before .before .before .before .pre .0), (c .before .before .before .before .before .before .before .before .before .before .before .before .before .before .before .before .before .before .before .pre .1 .1, c .before .before .before .sample-ext .ensures .1 .canon))

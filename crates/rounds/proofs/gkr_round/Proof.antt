@@ -30,8 +30,8 @@ sub-rounds-requires c κs =
       (
         (omega (arith, p .1 .0), omega (arith, p .1 .0, c .before .before .before .before .before .evals-eq-hypercube .kept .0)),
         (
-          (omega (arith, p .1 .1 .0), omega (arith, p .1 .1 .0, c .before .before .before .before .before .before .before .before .before .before .sample-ext .kept .0, s .put), omega (arith, p .1 .1 .0, s .used)),
-          (c .before .before .before .before .before .evals-eq-hypercube .ensures .clean, p .1 .1 .1 .1, p .1 .1 .1 .2, c .before .before .before .before .before .before .before .before .before .before .sample-ext .ensures .1 .canon),
+          (omega (arith, p .1 .1 .0), omega (arith, p .1 .1 .0, c .before .before .before .before .before .before .before .before .before .before .sample-ext .kept .0, s .put), record { room = omega (arith, p .1 .1 .0 .2 .room, s .used); clean = p .1 .1 .0 .2 .clean }),
+          (c .before .before .before .before .before .evals-eq-hypercube .ensures .clean, p .1 .1 .1 .1, c .before .before .before .before .before .before .before .before .before .before .sample-ext .ensures .1 .canon),
         ),
       ),
     )
@@ -42,8 +42,8 @@ close-round-requires c κs =
     let s = c .before .before .before .before .before .before .before .before .before .before .before .before .before .before .before .before .before .before .before .before .sample-ext .ensures .0 in
     let t = c .before .before .before .before .before .before .before .before .before .sub-rounds .ensures in
     let u = c .before .before .before .before .before .before .before .before .before .sub-rounds .kept in (
-      (omega (arith, p .0, pow-pos (c .before .before .before .before .before .before .before .before .before .before .before .before .before .before .before .before .before .before .before .before .before .before .before .before .before .before .args .round), p .1 .0, c .before .before .before .before .before .before .before .before .before .before .before .before .before .before .before .evals-eq-hypercube .kept .0, u), omega (arith, p .1 .1 .0, u), omega (arith, p .1 .1 .0, c .before .before .before .before .before .before .before .before .before .before .before .before .before .before .before .before .before .before .before .before .sample-ext .kept .0, s .put, t .steps .put, u), omega (arith, p .1 .1 .0, s .used, t .steps .used)),
-      (t .clean, t .points, p .1 .1 .1 .2),
+      (omega (arith, p .0, pow-pos (c .before .before .before .before .before .before .before .before .before .before .before .before .before .before .before .before .before .before .before .before .before .before .before .before .before .before .args .round), p .1 .0, c .before .before .before .before .before .before .before .before .before .before .before .before .before .before .before .evals-eq-hypercube .kept .0, u), omega (arith, p .1 .1 .0, u), omega (arith, p .1 .1 .0, c .before .before .before .before .before .before .before .before .before .before .before .before .before .before .before .before .before .before .before .before .sample-ext .kept .0, s .put, t .steps .put, u), record { room = omega (arith, p .1 .1 .0 .2 .room, s .used, t .steps .used); clean = p .1 .1 .0 .2 .clean }),
+      (t .clean, t .points),
     )
 
 same-length : tie.Need-same-length

@@ -1,6 +1,7 @@
 use Prim.Native.Nat.{_+_, _*_, _≤_, _-_, _^_}
 use mathlib.Core.Path.{_≡_, refl, _∙_, ap}
 use lib.ListN.{length}
+use Rattle.transcript.specs.Log.{supplied}
 use Rattle.layer.proofs.Weights.{double-le, pow-next}
 use Rattle.rounds.specs.Layers.{Midway, logUpTo, usedUpTo}
 use Rattle.rounds.proofs.Descent.{midway-none, midway-next, midway-end, log-room, used-room}
@@ -13,7 +14,7 @@ use Rattle.rounds.proofs.gkr_rounds.Lts as lts
 use Rattle.rounds.proofs.gkr_round.Reads as gkr-round-reads
 
 abbrev Inv-loop : tie.InvT-loop
-Inv-loop work₀ eq n xi₀ log₀ challenges p₀ size₀ round₀ work xi log p size round = (length work ≡ length work₀) × (length xi ≡ length xi₀) × (length log ≡ length log₀) × (size ≡ 2 ^ round) × Midway work₀ work xi₀ xi log₀ log challenges n round p₀ p
+Inv-loop work₀ eq n xi₀ log₀ challenges p₀ size₀ round₀ work xi log p size round = (length work ≡ length work₀) × (length xi ≡ length xi₀) × (length log ≡ length log₀) × (size ≡ 2 ^ round) × Midway work₀ work xi₀ xi log₀ log (supplied challenges) n round p₀ p
 
 abbrev μ-loop : tie.MeasureT-loop
 μ-loop work₀ eq n xi₀ log₀ challenges p₀ size₀ round₀ work xi log p size round = n - round
@@ -37,8 +38,8 @@ gkr-round-requires c κs =
       (
         (omega (arith, p .0, d), omega (arith, p .0, d, l .inv .0)),
         (
-          (omega (arith, p .1 .0, l .inv .1), omega (arith, p .1 .0, l .inv .2, m .put, u), omega (arith, p .1 .0, m .used, v)),
-          (m .clean, m .points, p .1 .1 .2),
+          (omega (arith, p .1 .0, l .inv .1), omega (arith, p .1 .0, l .inv .2, m .put, u), record { room = omega (arith, p .1 .0 .2 .room, m .used, v); clean = p .1 .0 .2 .clean }),
+          (m .clean, m .points),
         ),
       ),
     )

@@ -20,7 +20,7 @@ weigh-requires c κs = search needs
 weighed-sub-rounds-requires : tie.Need-weighed-sub-rounds-requires
 weighed-sub-rounds-requires c κs =
     let p = c .before .before .before .before .before .before .before .before .before .before .before .pre in
-    (p .0, ((p .1 .0 .0, omega (arith, p .1 .0 .1, c .before .before .before .before .before .weigh .kept)), (p .1 .1 .0, (c .before .before .before .before .before .weigh .ensures .clean, p .1 .1 .1 .1, p .1 .1 .1 .2))))
+    (p .0, ((p .1 .0 .0, omega (arith, p .1 .0 .1, c .before .before .before .before .before .weigh .kept)), (p .1 .1 .0, (c .before .before .before .before .before .weigh .ensures .clean, p .1 .1 .1 .1))))
 
 minus-requires : tie.Need-minus-requires
 minus-requires c κs = search needs

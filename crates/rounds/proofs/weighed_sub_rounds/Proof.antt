@@ -1,6 +1,7 @@
 use Prim.Native.Nat.{suc, _+_, _≤_, _-_, _^_}
 use mathlib.Core.Path.{_≡_, _∙_, ap, sym}
 use lib.ListN.{length}
+use Rattle.transcript.specs.Log.{supplied}
 use Rattle.field.specs.Ext as E
 use Rattle.rounds.specs.SubRounds.{Going}
 use Rattle.rounds.proofs.Sending.{going-none, going-next, going-end, half-down}
@@ -13,7 +14,7 @@ use Rattle.rounds.proofs.weighed_sub_rounds.Lts as lts
 use Rattle.rounds.proofs.sub_round.Reads as sub-round-reads
 
 abbrev Inv-loop : tie.InvT-loop
-Inv-loop work₀ eq pq round size xi₀ log₀ challenges p₀ half₀ j₀ work xi log p half j = (j ≤ round) × (length work ≡ length work₀) × (length xi ≡ length xi₀) × (length log ≡ length log₀) × (half ≡ 2 ^ (round - j)) × (half ≤ size) × Going work₀ work xi₀ xi log₀ log challenges eq pq j (round - j) round size E.nil p₀ p
+Inv-loop work₀ eq pq round size xi₀ log₀ challenges p₀ half₀ j₀ work xi log p half j = (j ≤ round) × (length work ≡ length work₀) × (length xi ≡ length xi₀) × (length log ≡ length log₀) × (half ≡ 2 ^ (round - j)) × (half ≤ size) × Going work₀ work xi₀ xi log₀ log (supplied challenges) eq pq j (round - j) round size E.nil p₀ p
 
 abbrev μ-loop : tie.MeasureT-loop
 μ-loop work₀ eq pq round size xi₀ log₀ challenges p₀ half₀ j₀ work xi log p half j = round - j
@@ -35,7 +36,7 @@ sub-round-requires c κs =
     let h = half-down (l .half) (c .before .before .before .before .before .before .before .before .before .args .round) (l .j) (c .before .before .before .loop-test .taken) (l .inv .4) in
     let g = l .inv .6 in (
       (omega (arith, h .1), omega (arith, h .1)),
-      ((omega arith, omega (arith, g .steps .put), omega (arith, g .steps .used)), (g .clean, g .points, p .1 .1 .1 .2)),
+      ((omega arith, omega (arith, g .steps .put), record { room = omega (arith, p .1 .1 .0 .2 .room, g .steps .used); clean = p .1 .1 .0 .2 .clean }), (g .clean, g .points)),
     )
 
 add-j : tie.Need-add-j Inv-loop μ-loop

@@ -25,7 +25,7 @@ clear-requires c κs = search needs
 observe-ext-requires : tie.Need-observe-ext-requires
 observe-ext-requires c κs =
     let p = c .before .before .before .before .before .before .before .before .before .pre in
-    (omega (arith, p .1 .0, log-room 0 (c .before .before .before .before .before .before .before .before .before .args .n) (p .0 .0)), p .1 .1 .2)
+    (omega (arith, p .1 .0, log-room 0 (c .before .before .before .before .before .before .before .before .before .args .n) (p .0 .0)), p .1 .1 .1)
 
 close-round-requires : tie.Need-close-round-requires
 close-round-requires c κs =
@@ -35,20 +35,21 @@ close-round-requires c κs =
     let lr = log-room 0 (a .n) (p .0 .0) in
     let ur = used-room 0 (a .n) (p .0 .0) in
     let tw = double-le 0 (a .n) (p .0 .0) in (
-      (omega (arith, p .0, tw), omega (arith, p .0, p .1 .0, c .before .before .before .before .before .before .before .before .before .clear .kept), omega (arith, p .1 .0, lr, s .put, c .before .before .before .before .before .observe-ext .kept), omega (arith, p .1 .0, ur, s .used)),
-      (p .1 .1 .0, subst⁻¹ Clean (c .before .before .before .before .before .before .before .before .before .clear .ensures) (clean-zeros (length (a .xi .now))), p .1 .1 .1),
+      (omega (arith, p .0, tw), omega (arith, p .0, p .1 .0, c .before .before .before .before .before .before .before .before .before .clear .kept), omega (arith, p .1 .0, lr, s .put, c .before .before .before .before .before .observe-ext .kept), record { room = omega (arith, p .1 .0 .2 .room, ur, s .used); clean = p .1 .0 .2 .clean }),
+      (p .1 .1 .0, subst⁻¹ Clean (c .before .before .before .before .before .before .before .before .before .clear .ensures) (clean-zeros (length (a .xi .now)))),
     )
 
 gkr-rounds-requires : tie.Need-gkr-rounds-requires
 gkr-rounds-requires c κs =
     let p = c .before .before .before .before .before .before .before .before .before .before .before .before .before .before .before .before .before .before .before .before .before .before .before .pre in
+    let ur = used-room 0 (c .before .before .before .before .before .before .before .before .before .before .before .before .before .before .before .before .before .before .before .before .before .before .before .args .n) (p .0 .0) in
     let s = c .before .before .before .before .before .before .before .before .before .before .before .before .before .observe-ext .ensures in
     let C = c .before .before .before .before .before .before .before .close-round .ensures in
     let e = p .0 .1 in (
       (p .0 .0, omega (arith, e), omega (arith, p .0, e)),
       (
-        (omega (arith, p .1 .0, c .before .before .before .before .before .before .before .before .before .before .before .before .before .before .before .before .before .clear .kept, c .before .before .before .before .before .before .before .close-round .kept), omega (arith, p .1 .0, s .put, C .steps .put, log-one, c .before .before .before .before .before .before .before .before .before .before .before .before .before .observe-ext .kept, c .before .before .before .before .before .before .before .close-round .kept), omega (arith, p .1 .0, s .used, C .steps .used, used-one)),
-        (p .1 .1 .0, C .stored .clean, p .1 .1 .1),
+        (omega (arith, p .1 .0, c .before .before .before .before .before .before .before .before .before .before .before .before .before .before .before .before .before .clear .kept, c .before .before .before .before .before .before .before .close-round .kept), omega (arith, p .1 .0, s .put, C .steps .put, log-one, c .before .before .before .before .before .before .before .before .before .before .before .before .before .observe-ext .kept, c .before .before .before .before .before .before .before .close-round .kept), record { room = omega (arith, p .1 .0 .2 .room, s .used, C .steps .used, used-one, ur); clean = p .1 .0 .2 .clean }),
+        (p .1 .1 .0, C .stored .clean),
       ),
     )
 

@@ -1,4 +1,5 @@
 use lib.ListN.{length-set}
+use Rattle.transcript.specs.Log.{supplied}
 use Rattle.transcript.proofs.Logs.{sampled}
 use native.Mathlib.Omega.{arith}
 use borrow.Author.Needs.{needs}
@@ -66,7 +67,7 @@ same-length : tie.Need-same-length
 same-length c = search needs
 
 returns : tie.Need-returns
-returns c = (sampled (c .before .before .before .before .before .before .before .args .log .now) (c .before .before .before .before .before .before .before .args .challenges .now) (c .before .before .before .before .before .before .before .args .pos) _ (search needs) (c .before .before .before .before .load .ensures), c .before .before .before .before .load .ensures)
+returns c = (sampled (c .before .before .before .before .before .before .before .args .log .now) (supplied (c .before .before .before .before .before .before .before .args .challenges .now)) (c .before .before .before .before .before .before .before .args .pos) _ (search needs) (c .before .before .before .before .load .ensures), c .before .before .before .before .load .ensures)
 
 pub sample-ext-spec : {M : Type 1} → statement M
 sample-ext-spec =
