@@ -4,8 +4,6 @@ use mathlib.Core.Path.{_≡_, refl, subst}
 use mathlib.Core.Bool.{Bool, true, false, _||_}
 use Prim.Native.Nat.{ℕ, _+_, _*_, _≤_}
 use borrow.Author.Tests.{not-false}
-use lib.Dec.{ltb}
-use lib.ListN.{length}
 use Rattle.gkr.specs.Tests.{pass}
 use Rattle.gkr.specs.Sizes as Sizes
 use Rattle.refusal.specs.Limits.{maxRounds}

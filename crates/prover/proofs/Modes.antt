@@ -20,7 +20,7 @@ use Rattle.refusal.specs.declared.Refusal.the-variants.{RaggedRows, TooManyRows
 use Rattle.gate.specs.Refusals.{Call, Rooms, rowCount, roundsOf, degenerate, lowest, tests, firstRefusal}
 use Rattle.gate.proofs.Admitting.{both}
 use Rattle.prover.specs.declared.Answer.the-variants.{Refused}
-use Rattle.prover.specs.Proved.{Outcome, entered, fronts}
+use Rattle.prover.specs.Proved.{entered, fronts}
 use Rattle.prover.specs.Companions.{in-mode, LiveMode}
 use Rattle.prover.proofs.Theorems.{Ends, each-end, each-front, unlike, done-refused}
 

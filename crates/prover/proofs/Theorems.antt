@@ -24,7 +24,7 @@ use Rattle.gate.specs.Refusals.{Call, Rooms, rowCount, roundsOf, workRoom, test
 use Rattle.gate.proofs.Admitting.{both}
 use Rattle.prover.specs.declared.Answer.{Answer}
 use Rattle.prover.specs.declared.Answer.the-variants.{Done, Refused}
-use Rattle.prover.specs.Proved.{Buffers, Outcome, outcome, laid, untouched, finished, after, ran, entered, fronts, proved}
+use Rattle.prover.specs.Proved.{Buffers, Outcome, roomsOf, outcome, laid, untouched, finished, after, ran, entered, fronts, proved}
 use Rattle.prover.specs.Report.{answerReport}
 use Rattle.prover.specs.Companions.{Isolation, Left, Wiping}
 
@@ -35,9 +35,12 @@ only-one c b o o' h h' = h ∙ sym h'
 
 -- OLD CONTENTS DO NOT MATTER
 
-pub isolation : Isolation
+laid-over : (c : Call) (b : Buffers) → proved c b ≡ laid (fronts c (roomsOf b)) b
 unfolding proved
-isolation c b b′ e = (refl, ap (λ r. laid (fronts c r) b′) (sym e))
+laid-over c b = refl
+
+pub isolation : Isolation
+isolation c b b′ e = (laid-over c b, laid-over c b′ ∙ ap (λ r. laid (fronts c r) b′) (sym e))
 
 -- BY CASES
 
