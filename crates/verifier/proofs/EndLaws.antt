@@ -79,6 +79,10 @@ ready-of a pt lg k points o h ke r c =
       clean = record { below = canonical-below (take k (a .challenges)) (ap (λ m. allCanonical (take m (a .challenges))) ke ∙ g .clean) };
     }
 
+-- the array for the point found holds that of so many rounds
+pub point-fits : (n k : ℕ) → n ≤ maxRounds → k ≡ 4 * maxRounds → 4 * n ≤ k
+point-fits n k h e = omega arith
+
 -- ---- the whole
 module _ (a : Asked) (b : Lent) where
   pub shut-is : (g : Gate) (e : Refusal) → g ≡ Shut e → Gated a (length (b .point)) (length (b .log)) g → outcome (Refused e) (b .point) (b .log) ≡ verified a b

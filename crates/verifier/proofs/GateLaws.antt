@@ -15,7 +15,7 @@ use Rattle.refusal.specs.Limits.{maxRounds}
 use Rattle.refusal.specs.declared.Refusal.{Refusal}
 use Rattle.refusal.specs.declared.Refusal.the-variants.{ShortChallenges, ShortRoom, BadWord, ZeroRounds, TooManyRounds, BadVersion, BadLength}
 use Rattle.refusal.specs.Tests.{Test, Tested, passed, refused, test, firstOf}
-use Rattle.refusal.specs.TestLaws.{NoneMet, passed-all}
+use Rattle.refusal.specs.TestLaws.{passed-all}
 use Rattle.wire.specs.Words.{allCanonical}
 use Rattle.stored.specs.declared.Outline.{Outline}
 use Rattle.stored.specs.declared.Shape.{Shape}
