@@ -28,7 +28,6 @@ use Rattle.stored.specs.ParseLaws.{parse-reads}
 use Rattle.stored.specs.RoundTrip.{write-read}
 use Rattle.stored.specs.Elements.{encoded, decoded}
 use Rattle.tree.specs.Nodes.{node}
-use Rattle.refusal.specs.Fronts.{over}
 use Rattle.gate.specs.Refusals.{Call, rowCount, roundsOf}
 use Rattle.prover.specs.Proved as Prover
 use Rattle.prover.specs.declared.Answer.the-variants.{Done}
