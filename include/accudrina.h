@@ -39,7 +39,7 @@ enum accudrina_result {
     ACCUDRINA_SHORT_CHALLENGES = 4,                  /* fewer words than accudrina_challenge_words says */
     ACCUDRINA_SHORT_ROOM = 5,                        /* an output or the workspace is too short */
     ACCUDRINA_BAD_WORD = 6,                          /* a word is not below the prime */
-    ACCUDRINA_ZERO_DENOMINATOR = 7,                  /* live mode, p not 0 over q = 0: the lowest such row, from 0 */
+    ACCUDRINA_ZERO_DENOMINATOR = 7,                  /* plain: live mode, the lowest row with q = 0, from 0 */
     ACCUDRINA_NON_ZERO_ROOT_SUM = 8,                 /* a zero sum is asserted, and the sum's p is not 0 */
     ACCUDRINA_SINGLE_ROW = 9,                        /* one row, not refused as 8 */
     ACCUDRINA_ZERO_ROUNDS = 10,                      /* the verifier was given 0 rounds */
@@ -77,7 +77,7 @@ uint32_t accudrina_read_sheet(const uint8_t *sheet, size_t sheet_len,
                               uint32_t answer[ACCUDRINA_ANSWER_WORDS]);
 
 /* Proves the sum of the rows, with the challenges given; those past the needed ones are not read.
- * live: rows with p not 0 and q = 0 are refused as 7; otherwise all rows are taken. A row 0/0 is taken in both modes, and makes the
+ * live: a row with q = 0 is refused as 7, 0/0 too; an unused row is 0/1. Otherwise all rows are taken, and one row 0/0 makes the
  * whole sum 0/0. assert_zero: a sum whose p is not 0 is refused as 8; otherwise p is put into the log.
  * Done: the rounds in [1], the sum's p in [4] to [7] and q in [8] to [11]. The proof, the point and the log (the top bit is set in a
  * word that was sampled) stand at the front of their buffers; the needed words of work are 0.

@@ -13,7 +13,7 @@ WORDS = {
     4: "ShortChallenges: there are fewer challenges than the rounds need",
     5: "ShortRoom: a buffer is too short for what it has to hold",
     6: "BadWord: a word is not below the prime 2013265921",
-    7: "ZeroDenominator: row %s, counted from 0, has a denominator of zero and a numerator that is not (live mode)",
+    7: "ZeroDenominator: row %s has a denominator of zero (rows are counted from 0; live mode)",
     8: "NonZeroRootSum: the numerator of the sum is not zero, and zero was asserted",
     9: "SingleRow: a sheet of one row has no round to prove",
     10: "ZeroRounds: a proof of 0 rounds is not verified",

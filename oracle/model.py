@@ -360,7 +360,7 @@ def prove_refusal(live, asserted, rows, challenges, proof, point, log, work):
                (6, lambda: bad(rows, challenges[:challenge_words(n)])))
     if no:
         return Outcome(no)
-    over_zero = [i for i in range(count) if fractions[2 * i] != ZERO and fractions[2 * i + 1] == ZERO]
+    over_zero = [i for i in range(count) if fractions[2 * i + 1] == ZERO]
     if live and over_zero:
         return Outcome(7, [over_zero[0]])
     if count == 1:

@@ -6,7 +6,7 @@ use crate::{ffi, Element, Fraction, Refusal};
 pub enum Mode {
     /// All.
     Sandbox,
-    /// None with p not zero over q zero.
+    /// None with q zero; an unused row is 0/1.
     Live,
 }
 

@@ -17,7 +17,7 @@ pub enum Refusal {
     ShortRoom,
     /// 6: a word is not below the prime.
     BadWord,
-    /// 7: live mode, the lowest row with p not zero over q zero.
+    /// 7: live mode, the lowest row with q zero.
     ZeroDenominator { row: u32 },
     /// 8: a zero sum was asserted and the sum's p is not zero.
     NonZeroRootSum,

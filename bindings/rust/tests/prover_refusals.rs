@@ -113,10 +113,13 @@ fn n7_rows_over_zero() {
         assert_eq!(refused(&Lent::spare(4, false), &bad, Mode::Live, Sum::Observe, &challenges), ZeroDenominator { row: row as u32 });
         assert!(Lent::spare(4, false).prove_words(&bad, Mode::Sandbox, Sum::Observe, &challenges).is_ok());
     }
-    let mut unused = rows;
-    unused[..8].fill(0);
-    let done = lent.clone().prove_words(&unused, Mode::Live, Sum::AssertZero, &challenges).unwrap();
-    assert_eq!(done.sum, Fraction::default());
+    for row in [0, 7, 15] {
+        let mut empty = rows.clone();
+        empty[8 * row..8 * row + 8].fill(0);
+        assert_eq!(zero(&empty, &lent, &challenges), ZeroDenominator { row: row as u32 }, "0/0 is no unused row");
+        let done = lent.clone().prove_words(&empty, Mode::Sandbox, Sum::AssertZero, &challenges).unwrap();
+        assert_eq!(done.sum, Fraction::default());
+    }
 }
 
 #[test]

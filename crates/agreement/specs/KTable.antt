@@ -157,7 +157,7 @@ K1-K10 =
     ∷ proves (K6 false) 1 (summed 1 (el 2) (el 1))
     ∷ verifies (K6 false) 1 (TurnedAway (ZeroCheckFailed (enc (el 2))))
     ∷ proves (live (el 1)) 1 (Refused (ZeroDenominator 0))
-    ∷ proves (live (el 0)) 1 (summed 1 (el 0) (el 0))
+    ∷ proves (live (el 0)) 1 (Refused (ZeroDenominator 0))
     ∷ equals (E.mul x² x²) (el 11)
     ∷ equals (E.mul x³ x³) (ext 0 0 11 0)
     ∷ equals (Interpolate.cubic Extension (el 0) (el 1) (el 8) (el 27) (el 4)) (el 64)

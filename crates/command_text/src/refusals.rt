@@ -34,7 +34,7 @@ fn bad_word() {
 fn zero_denominator(row: usize) {
     print(b"ZeroDenominator: row ");
     print_count(row);
-    print(b", counted from 0, has a denominator of zero and a numerator that is not (live mode)");
+    print(b" has a denominator of zero (rows are counted from 0; live mode)");
 }
 
 fn non_zero_root_sum() {

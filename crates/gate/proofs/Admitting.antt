@@ -27,14 +27,6 @@ use Rattle.gate.specs.Refusals.{Call, Rooms, rowCount, roundsOf, isSize,
 
 -- ROWS OVER ZERO
 
-pub sound-p : (f : Frac E.Ext) {b : Bool} → b ≡ E.same (f .p) E.nil → b ≡ true → false ≡ degenerate f
-unfolding degenerate
-sound-p f e h = rw (sym e ∙ h)
-
-pub sound-q : (f : Frac E.Ext) {b d : Bool} → b ≡ E.same (f .p) E.nil → b ≡ false → d ≡ E.same (f .q) E.nil → d ≡ degenerate f
-unfolding degenerate
-sound-q f e h k = k ∙ rw (sym e ∙ h)
-
 -- the test of the row that was read
 pub row-told : (f : FracW) (x : Frac E.Ext) {b : Bool} (v : Bool) → IsFrac f x → b ≡ degenerate (decFrac f) → b ≡ v → degenerate x ≡ v
 row-told f x v h e t = ap degenerate (sym (frac-path h)) ∙ sym e ∙ t

@@ -63,9 +63,9 @@ workRoom (suc m) = workspace-words (suc m)
 unfoldable pub shortRoom : (asserted : Bool) (n : ℕ) (r : Rooms) → Bool
 shortRoom asserted n r = ltb (r .proof) (proof-bytes n) || (ltb (r .point) (point-words n) || (ltb (r .log) (logRoom asserted n) || ltb (r .work) (workRoom n)))
 
--- p is not 0 and q is 0; a row (0, 0) is taken
+-- q is 0, whatever p is
 unfoldable pub degenerate : Frac E.Ext → Bool
-degenerate f = not (E.same (f .p) E.nil) && E.same (f .q) E.nil
+degenerate f = E.same (f .q) E.nil
 
 -- the lowest such row of the `left` rows from row i on; i + left where there is none
 unfoldable pub lowest : (rows : List ℕ) (left i : ℕ) → ℕ

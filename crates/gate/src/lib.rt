@@ -120,17 +120,14 @@ fn short_room(
     work < work_words(n, size.rows)
 }
 
-// Whether p is not 0 and q is 0.
+// Whether q is 0, whatever p is.
 fn is_degenerate(f: Frac) -> bool
     ensures { λ r. ⌜ r ≡ degenerate (decFrac f) ⌝ }
 {
-    if f.p.is_zero() {
-        return false;
-    }
     f.q.is_zero()
 }
 
-// The lowest row with non-zero p and zero q; count where there is none.
+// The lowest row over zero; count where there is none.
 fn lowest_row(rows: &[u32], count: usize) -> usize
     requires { ⌜ (8 * count ≤ length (now rows)) × Clean (now rows) ⌝ }
     ensures { λ r. ⌜ r ≡ lowest (now (rows .entry)) count 0 ⌝ }

@@ -1,4 +1,4 @@
--- Live mode differs from sandbox only by its row check: 7 with the lowest row that has p not 0 and q 0, where 1 to 6 do not apply.
+-- Live mode differs from sandbox only by its row check: 7 with the lowest row over zero, where 1 to 6 do not apply.
 -- Assumes nothing.
 use mathlib.Core.Path.{_≡_, refl, sym, _∙_, ap}
 use mathlib.Core.Bool.{Bool, true, false, _&&_, cond}

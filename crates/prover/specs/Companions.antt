@@ -32,11 +32,11 @@ Wiping = (c : Call) (r : Rooms) → Left (roundsOf (rowCount (c .rows))) (fronts
 abbrev pub in-mode : (live : Bool) → Call → Call
 in-mode live c = call (c .rows) live (c .asserted) (c .challenges)
 
--- no row has a non-zero p over a zero q
+-- no row is over zero
 abbrev pub Sound : List ℕ → Type 0
 Sound rows = (i : ℕ) → i < rowCount rows → degenerate (node rows i) ≡ false
 
--- row i has, and no lower one
+-- row i is, and no lower one
 pub record Lowest (rows : List ℕ) (i : ℕ) : Type 0 where
   pub there : i < rowCount rows
   pub over-zero : degenerate (node rows i) ≡ true
