@@ -17,7 +17,7 @@ DIFFER = [re.compile(p, re.S) for p in (
     r"body (is) " + TERM + r" but the extension \(path\) type requires " + TERM,
     r"error: [^ ]+: " + TERM + r" ≟ " + TERM + r":? does not hold")]
 # A goal of numbers that fails at some, and what a rewriting leaves and is not so.
-FAILS = [re.compile(p, re.S) for p in (r"`omega`: the (?:part `[^`]*` of the )?goal does not follow.*?(the goal fails, at .*?)\. It read", r"what it leaves must be a path whose two ends are equal, and (.*?) is none")]
+FAILS = [re.compile(p, re.S) for p in (r"`omega`: the (?:part `[^`]*` of the )?goal does not follow.*?(the (?:goal|part) fails, at .*?)\. (?:It read|By )", r"what it leaves must be a path whose two ends are equal, and (.*?) is none")]
 # The ring solver computes what is left of an equation's two sides: (a - b) times a monomial, and more (ring/specs/Expression.antt).
 RING = re.compile(r"the right one begins `[^`]*Expression\.Left›? (\d+) (\d+) ")
 # What a first line says that is no fact, whatever follows: nothing was found, or a name is missing.
