@@ -7,7 +7,7 @@ use native.Mathlib.Nat.{pow-le-pow-right, mod-eq-of-lt, one-mul}
 use native.Mathlib.Omega.{arith}
 use borrow.Author.Tests.{le-leb, lt-leb}
 use Rattle.refusal.specs.Limits.{maxRounds}
-use Rattle.gate.specs.Refusals.{roundsOf, isSize}
+use Rattle.prover_gate.specs.Refusals.{roundsOf, isSize}
 use Rattle.accudrina.specs.Rooms.{taken, rounds}
 
 pub over : (n room : ℕ) → maxRounds < n → taken n room ≡ 0

@@ -4,12 +4,12 @@ use mathlib.Core.List.{List}
 use Prim.Native.Nat.{ℕ}
 use Rattle.stored_sheet.specs.SheetReads.{sheetRead}
 use Rattle.stored_sheet.specs.Report.{sheetReport}
-use Rattle.gate.specs.Refusals.{Call}
+use Rattle.prover_gate.specs.Refusals.{Call}
 use Rattle.evaluation.specs.Evaluated.{evaluated}
 use Rattle.evaluation.specs.Report.{evaluationReport}
 use Rattle.prover.specs.Proved.{Buffers, proved}
 use Rattle.prover.specs.Report.{answerReport}
-use Rattle.round.specs.Report.{verdictReport}
+use Rattle.verifier_round.specs.Report.{verdictReport}
 use Rattle.verifier.specs.Verified.{Asked, Lent, verified}
 use Rattle.accudrina.specs.Answer.{Told, tells}
 

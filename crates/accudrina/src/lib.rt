@@ -1,6 +1,6 @@
 // The functions that C and Rust call: a number is returned, and sixteen words of answer are written.
 ghost use mathlib.Core.Path.{_≡_};
-ghost use Rattle.gate.specs.Refusals.{call};
+ghost use Rattle.prover_gate.specs.Refusals.{call};
 ghost use Rattle.prover.specs.Proved.{lent};
 ghost use Rattle.verifier.specs.Verified.{asked, lent as again};
 ghost use Rattle.accudrina.specs.Calls.{reading, proving, verifying, evaluating};
@@ -64,7 +64,7 @@ pub extern "C" fn accudrina_verify(
     ensures { λ r. ⌜ record { told = record { number = r; words = now (answer .exit) }; buffers = again (now (point .exit)) (now (log .exit)) } ≡ verifying (asked (now (proof .entry)) rounds (now (challenges .entry))) (again (now (point .entry)) (now (log .entry))) ⌝ }
 {
     let verdict = verifier::verify_gkr(proof, rounds, challenges, point, log);
-    answer::tell(round::number_and_values(verdict), answer)
+    answer::tell(verifier_round::number_and_values(verdict), answer)
 }
 
 // The values of both columns of a sheet at a point: the number 0, the rounds and both values, or the refusal; it only reads.

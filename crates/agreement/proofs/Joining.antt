@@ -12,7 +12,7 @@ use Rattle.refusal.specs.Limits.{maxRounds}
 use Rattle.refusal.specs.Tests.{Tested, passed, refused}
 use Rattle.refusal.specs.declared.Refusal.{Refusal}
 use Rattle.step.specs.declared.Frac.{Frac}
-use Rattle.gate.specs.Refusals.{Call, rowCount, roundsOf, firstRefusal}
+use Rattle.prover_gate.specs.Refusals.{Call, rowCount, roundsOf, firstRefusal}
 use Rattle.prover.specs.Proved as Prover
 use Rattle.prover.specs.Proved.{Buffers, roomsOf, entered, fronts, proved}
 use Rattle.prover.proofs.Theorems.{Ends, each-end, done-refused}
@@ -22,7 +22,7 @@ use Rattle.prover.specs.declared.Answer.the-variants.{Refused as Denied}
 use Rattle.prover.proofs.Opening.{gate-opens}
 use Rattle.verifier.specs.Verified as Verifier
 use Rattle.verifier.specs.Verified.{Lent}
-use Rattle.round.specs.declared.Verdict.{Verdict}
+use Rattle.verifier_round.specs.declared.Verdict.{Verdict}
 use Rattle.agreement.specs.declared.Joint.the-variants.{Proved, Refused}
 use Rattle.agreement.specs.Demand3.{Taken, root, Room, verdict, Agreed}
 use Rattle.agreement.specs.Together.{Joined, follow, ended, together, joined, Agrees}

@@ -12,8 +12,8 @@ use Rattle.refusal.specs.Limits.{maxRows}
 use Rattle.refusal.specs.Tests.{passed}
 use Rattle.refusal.specs.TestLaws.{all-passed}
 use Rattle.wire.specs.Words.{allCanonical}
-use Rattle.gate.specs.Refusals.{Call, rowCount, roundsOf, isSize, shortRoom, lowest, tests, firstRefusal}
-use Rattle.gate.proofs.Admitting.{both}
+use Rattle.prover_gate.specs.Refusals.{Call, rowCount, roundsOf, isSize, shortRoom, lowest, tests, firstRefusal}
+use Rattle.prover_gate.proofs.Admitting.{both}
 use Rattle.prover.specs.Proved.{Buffers, roomsOf}
 use Rattle.prover.proofs.Modes.{lowest-none}
 use Rattle.verifier.specs.Verified.{Lent}

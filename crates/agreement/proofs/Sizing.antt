@@ -13,7 +13,7 @@ use lib.Dec.{eqb, leb}
 use lib.ListN.{length}
 use Rattle.refusal.specs.Limits.{maxRounds, maxRows}
 use Rattle.gkr.specs.Tests.{pass, fail}
-use Rattle.gate.specs.Refusals.{rowCount, roundsFrom, roundsOf, isSize}
+use Rattle.prover_gate.specs.Refusals.{rowCount, roundsFrom, roundsOf, isSize}
 
 -- never more than the limit
 atmost : (b : Bool) (k x most : ℕ) → k ≤ most → x ≤ most → cond b k x ≤ most

@@ -6,10 +6,10 @@ use Prim.Native.Nat.{ℕ}
 use Rattle.field.specs.Ext as E
 use Rattle.field.specs.Element.{enc}
 use Rattle.refusal.specs.declared.Refusal.the-variants.{ZeroCheckFailed}
-use Rattle.gate.specs.Refusals.{Call}
+use Rattle.prover_gate.specs.Refusals.{Call}
 use Rattle.prover.specs.Proved.{Buffers, encFrac, proved}
 use Rattle.prover.specs.declared.Answer.the-variants.{Done}
-use Rattle.round.specs.declared.Verdict.the-variants.{Refused as TurnedAway}
+use Rattle.verifier_round.specs.declared.Verdict.the-variants.{Refused as TurnedAway}
 use Rattle.verifier.specs.Verified.{Lent}
 use Rattle.agreement.specs.Demand3.{Taken, root, Room, verdict}
 

@@ -14,13 +14,13 @@ use Rattle.gkr.specs.Tree as Tree
 use Rattle.refusal.specs.Limits.{maxRounds}
 use Rattle.refusal.specs.Fronts.{over}
 use Rattle.wire.specs.Words.{allCanonical}
-use Rattle.tree.specs.Nodes.{node}
-use Rattle.gate.specs.Refusals.{Call, shortRoom, degenerate}
+use Rattle.prover_tree.specs.Nodes.{node}
+use Rattle.prover_gate.specs.Refusals.{Call, shortRoom, degenerate}
 use Rattle.prover.specs.Proved as Prover
 use Rattle.prover.specs.declared.Answer.the-variants.{Done}
 use Rattle.verifier.specs.Verified as Verifier
 use Rattle.verifier.specs.Verified.{Lent}
-use Rattle.round.specs.declared.Verdict.the-variants.{Accepted}
+use Rattle.verifier_round.specs.declared.Verdict.the-variants.{Accepted}
 
 -- a sheet that both take: 2 ^ n rows and enough challenges, all valid words, n from 1 to the limit, and in live mode the row check passed
 pub record Taken (c : Call) (n : ℕ) : Type 0 where

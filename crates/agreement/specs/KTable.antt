@@ -17,15 +17,15 @@ use Rattle.refusal.specs.declared.Refusal.the-variants.{ZeroDenominator, NonZer
 use Rattle.wire.specs.Bytes.{bytesOf}
 use Rattle.stored.specs.Layout.{layout}
 use Rattle.stored.specs.Elements.{encoded}
-use Rattle.gate.specs.Refusals.{Call}
+use Rattle.prover_gate.specs.Refusals.{Call}
 use Rattle.prover.specs.Proved as Prover
 use Rattle.prover.specs.declared.Answer.{Answer}
 use Rattle.prover.specs.declared.Answer.the-variants.{Done, Refused}
 use Rattle.verifier.specs.Verified as Verifier
 use Rattle.verifier.specs.Verified.{Lent}
-use Rattle.round.specs.declared.Verdict.{Verdict}
-use Rattle.round.specs.declared.Verdict.the-variants.{Accepted}
-use Rattle.round.specs.declared.Verdict.the-variants.{Refused as TurnedAway}
+use Rattle.verifier_round.specs.declared.Verdict.{Verdict}
+use Rattle.verifier_round.specs.declared.Verdict.the-variants.{Accepted}
+use Rattle.verifier_round.specs.declared.Verdict.the-variants.{Refused as TurnedAway}
 use Rattle.agreement.specs.Demand3.{verdict}
 
 -- what is asked, and what is to come out

@@ -4,7 +4,7 @@ use Rattle.refusal.specs.Numbers.{none, elements}
 use Rattle.prover.specs.Report.{answerReport}
 use Rattle.prover.specs.declared.Answer.the-variants.{Done}
 use Rattle.prover.specs.declared.Answer.the-variants.{Refused as Denied}
-use Rattle.round.specs.Report.{verdictReport}
+use Rattle.verifier_round.specs.Report.{verdictReport}
 use Rattle.agreement.specs.declared.Joint.{Joint}
 use Rattle.agreement.specs.declared.Joint.the-variants.{Proved, Refused}
 use Rattle.agreement.specs.declared.JointReport.{JointReport}

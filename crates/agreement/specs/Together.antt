@@ -1,7 +1,7 @@
 -- Prover and verifier one after the other: what both leave, and when they agree.
 -- Assumes nothing.
 use Prim.Native.Nat.{ℕ}
-use Rattle.gate.specs.Refusals.{Call}
+use Rattle.prover_gate.specs.Refusals.{Call}
 use Rattle.prover.specs.Proved as Prover
 use Rattle.prover.specs.declared.Answer.{Answer}
 use Rattle.prover.specs.declared.Answer.the-variants.{Done}

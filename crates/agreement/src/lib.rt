@@ -3,7 +3,7 @@ ghost use mathlib.Core.Path.{_≡_};
 ghost use mathlib.Core.Bool.{true};
 ghost use Prim.Native.Nat.{ℕ};
 ghost use Rattle.field.specs.Ext as E;
-ghost use Rattle.gate.specs.Refusals.{call};
+ghost use Rattle.prover_gate.specs.Refusals.{call};
 ghost use Rattle.prover.specs.Proved.{lent};
 ghost use Rattle.verifier.specs.Verified.{lent as again};
 ghost use Rattle.agreement.specs.Demand3.{Taken, root, Room};
@@ -13,7 +13,7 @@ use field::Ext;
 use prover::Answer;
 use refusal::Refusal;
 use refusal::Report;
-use round::Verdict;
+use verifier_round::Verdict;
 use step::Frac;
 
 // What the prover is done with and what the verifier makes of its proof; or the prover's refusal.
@@ -43,7 +43,7 @@ pub fn number_and_values(joint: Joint) -> JointReport
             verdict,
         } => JointReport {
             proving: prover::number_and_values(Answer::Done { rounds, sum }),
-            verifying: round::number_and_values(verdict),
+            verifying: verifier_round::number_and_values(verdict),
         },
         Joint::Refused(refusal) => JointReport {
             proving: prover::number_and_values(Answer::Refused(refusal)),
@@ -86,7 +86,7 @@ pub fn prove_and_verify(
         work,
     ) {
         Answer::Done { rounds, sum } => {
-            let size = gate::proof_bytes(rounds);
+            let size = prover_gate::proof_bytes(rounds);
             let verdict = verifier::verify_gkr(
                 &proof[..size],
                 rounds,

@@ -29,7 +29,7 @@ fn verify(name: &[u8], proof: &[u8], rounds: usize, challenges: &[u32]) {
     let mut point = [0u32; 44];
     let mut log = [0u32; 1144];
     let verdict = verifier::verify_gkr(proof, rounds, challenges, &mut point, &mut log);
-    print_answer(name, round::number_and_values(verdict).number);
+    print_answer(name, verifier_round::number_and_values(verdict).number);
 }
 
 fn main() {

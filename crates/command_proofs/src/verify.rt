@@ -5,7 +5,7 @@ use command_files::After;
 use command_files::inputs;
 use command_text::print;
 use command_text::refusals::print_refusal;
-use round::Verdict;
+use verifier_round::Verdict;
 use step::Frac;
 
 fn verify_with(proof: &[u8], rounds: usize, challenges: &[u32], counted: bool, sheet: &[u8]) {

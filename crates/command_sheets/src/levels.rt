@@ -70,6 +70,6 @@ pub fn show_rows(rows: &[u32])
         return print(b"rows:\nsum: 0/1\n");
     }
     let mut work = [0u32; 16384];
-    run::sum_rows(rows, count, &mut work);
+    prover_run::sum_rows(rows, count, &mut work);
     print_levels(&work, count);
 }

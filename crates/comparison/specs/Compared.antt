@@ -8,11 +8,11 @@ use lib.ListN.{take}
 use Rattle.field.specs.Ext as E
 use Rattle.field.specs.declared.Ext.{Ext}
 use Rattle.gkr.specs.Sizes.{point-words}
-use Rattle.gate.specs.Refusals.{Call}
+use Rattle.prover_gate.specs.Refusals.{Call}
 use Rattle.prover.specs.Proved as Prover
 use Rattle.verifier.specs.Verified as Verifier
 use Rattle.verifier.specs.Verified.{Lent}
-use Rattle.round.specs.declared.Verdict.the-variants.{Accepted}
+use Rattle.verifier_round.specs.declared.Verdict.the-variants.{Accepted}
 use Rattle.agreement.specs.Demand3.{Taken, root, Room, verdict}
 use Rattle.evaluation.specs.declared.Evaluation.{Evaluation}
 use Rattle.evaluation.specs.declared.Evaluation.the-variants.{Done}

@@ -23,9 +23,9 @@ use Rattle.refusal.specs.Limits.{maxRows}
 use Rattle.wire.specs.Words.{allCanonical}
 use Rattle.wire.specs.WordLaws.{canonical-append, elem-canonical}
 use Rattle.step.specs.Values.{IsFrac}
-use Rattle.tree.specs.Nodes.{node}
-use Rattle.gate.specs.Refusals as Refusals
-use Rattle.gate.specs.Refusals.{rowCount}
+use Rattle.prover_tree.specs.Nodes.{node}
+use Rattle.prover_gate.specs.Refusals as Refusals
+use Rattle.prover_gate.specs.Refusals.{rowCount}
 use Rattle.prover.specs.Proved as Prover
 use Rattle.agreement.specs.Demand3.{Taken, Agreed}
 use Rattle.agreement.proofs.Sizing.{rounds-taken, size-taken, rows-taken, whole, counted}

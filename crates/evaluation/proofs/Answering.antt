@@ -17,8 +17,8 @@ use Rattle.refusal.specs.declared.Refusal.the-variants.{RaggedRows, TooManyRows
 use Rattle.wire.specs.Words.{allCanonical}
 use Rattle.step.specs.declared.Frac.{Frac as FracW}
 use Rattle.step.specs.Values.{IsFrac}
-use Rattle.tree.specs.Nodes.{node}
-use Rattle.gate.specs.Refusals.{rowCount, roundsOf, isSize}
+use Rattle.prover_tree.specs.Nodes.{node}
+use Rattle.prover_gate.specs.Refusals.{rowCount, roundsOf, isSize}
 use Rattle.evaluation.specs.declared.Evaluation.{Evaluation}
 use Rattle.evaluation.specs.declared.Evaluation.the-variants.{Done, Refused}
 use Rattle.evaluation.specs.Evaluated.{told, noRows, evaluated}

@@ -21,7 +21,7 @@ use Rattle.gkr.specs.Run.{Frac}
 use Rattle.gkr.specs.Tree as Tree
 use Rattle.step.specs.declared.Frac.{Frac as FracW}
 use Rattle.step.specs.Values.{CanonFrac, IsFrac, decFrac, zipFrac, line}
-use Rattle.tree.specs.Nodes.{node}
+use Rattle.prover_tree.specs.Nodes.{node}
 
 pub half : (n l : ℕ) → (n ≡ 0 → ⊥) → l ≡ 8 * 2 ^ n → (l / 2 ≡ 8 * 2 ^ (n - 1)) × (l ≡ l / 2 + l / 2)
 half zero l h e = absurd (h refl)

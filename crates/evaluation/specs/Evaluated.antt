@@ -15,8 +15,8 @@ use Rattle.gkr.specs.Tree as Tree
 use Rattle.refusal.specs.Limits.{maxRows}
 use Rattle.refusal.specs.declared.Refusal.the-variants.{RaggedRows, TooManyRows, NotPowerOfTwo, BadLength, BadWord}
 use Rattle.wire.specs.Words.{allCanonical}
-use Rattle.tree.specs.Nodes.{node}
-use Rattle.gate.specs.Refusals.{rowCount, roundsOf, isSize}
+use Rattle.prover_tree.specs.Nodes.{node}
+use Rattle.prover_gate.specs.Refusals.{rowCount, roundsOf, isSize}
 use Rattle.evaluation.specs.declared.Evaluation.{Evaluation}
 use Rattle.evaluation.specs.declared.Evaluation.the-variants.{Done, Refused}
 

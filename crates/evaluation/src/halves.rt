@@ -6,7 +6,7 @@ ghost use Rattle.field.specs.ExtRing.{ExtRing};
 ghost use Rattle.field.specs.Cells.{cell, Clean, cells};
 ghost use Rattle.gkr.specs.Tree as Tree;
 ghost use Rattle.step.specs.Values.{CanonFrac, IsFrac, decFrac, zipFrac, line};
-ghost use Rattle.tree.specs.Nodes.{node};
+ghost use Rattle.prover_tree.specs.Nodes.{node};
 use step::Frac;
 
 // Between a and b at coordinate k of the point, both columns.
@@ -29,7 +29,7 @@ pub fn eval_rows_by_halves(rows: &[u32], x: &[u32], n: usize) -> Frac
     ensures { λ r. ⌜ IsFrac r (Tree.value ExtRing (node (now (rows .entry))) (cells (now (x .entry)) 0 n)) ⌝ }
 {
     if n == 0 {
-        return tree::load_node(rows, 0);
+        return prover_tree::load_node(rows, 0);
     }
     let h = rows.len() / 2;
     let a = eval_rows_by_halves(&rows[..h], x, n - 1);

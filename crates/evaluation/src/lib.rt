@@ -44,10 +44,10 @@ pub fn evaluate(rows: &[u32], point: &[u32]) -> Evaluation
     if refusal::MAX_ROWS < count {
         return Evaluation::Refused(Refusal::TooManyRows);
     }
-    if !gate::is_size(count) {
+    if !prover_gate::is_size(count) {
         return Evaluation::Refused(Refusal::NotPowerOfTwo);
     }
-    let n = gate::least_size(count).n;
+    let n = prover_gate::least_size(count).n;
     if point.len() != 4 * n {
         return Evaluation::Refused(Refusal::BadLength);
     }

@@ -9,7 +9,7 @@ use lib.Dec.{eqb}
 use Rattle.gkr.specs.Tests.{pass}
 use Rattle.gkr.specs.Sizes.{challenges, point-words, log-words}
 use Rattle.refusal.specs.Limits.{maxRounds}
-use Rattle.gate.specs.Refusals.{Call, roundsOf, isSize, logRoom, shortRoom}
+use Rattle.prover_gate.specs.Refusals.{Call, roundsOf, isSize, logRoom, shortRoom}
 use Rattle.prover.specs.Proved.{Buffers, roomsOf}
 use Rattle.verifier.specs.Verified.{Lent}
 use Rattle.agreement.proofs.Sizing.{rounds-taken, size-taken, counted}

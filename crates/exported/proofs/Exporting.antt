@@ -10,12 +10,12 @@ use Rattle.field.specs.Element.{enc}
 use Rattle.gkr.specs.Run.{Frac}
 use Rattle.gkr.specs.Tree as Tree
 use Rattle.refusal.specs.Numbers.{elements}
-use Rattle.tree.specs.Nodes.{node}
+use Rattle.prover_tree.specs.Nodes.{node}
 use Rattle.prover.specs.Report.{answerReport}
 use Rattle.agreement.specs.Demand3.{root}
 use Rattle.agreement.proofs.Agreeing.{demand-3}
 use Rattle.accudrina.specs.Answer.{tells, answerWords}
-use Rattle.round.specs.Report.{verdictReport}
+use Rattle.verifier_round.specs.Report.{verdictReport}
 use Rattle.exported.specs.Exported.{done, Demand3Exported}
 
 -- a plain field that fits a word, and two elements

@@ -7,8 +7,8 @@ use borrow.Author.Tests.{not-false}
 use Rattle.gkr.specs.Tests.{pass}
 use Rattle.gkr.specs.Sizes as Sizes
 use Rattle.refusal.specs.Limits.{maxRounds}
-use Rattle.gate.specs.Refusals.{Call, rowCount, roundsOf, isSize, logRoom, workRoom, shortRoom}
-use Rattle.gate.proofs.Admitting.{both}
+use Rattle.prover_gate.specs.Refusals.{Call, rowCount, roundsOf, isSize, logRoom, workRoom, shortRoom}
+use Rattle.prover_gate.proofs.Admitting.{both}
 use Rattle.prover.specs.Proved as Prover
 use Rattle.prover.specs.Report.{answerReport}
 use Rattle.prover.proofs.Theorems.{Ends, each-end, each-front}

@@ -18,12 +18,12 @@ use Rattle.wire.specs.Words.{allCanonical}
 use Rattle.stored.specs.Layout.{proofWords}
 use Rattle.stored.specs.Parse as Parse
 use Rattle.stored.specs.Parse.{proofOf}
-use Rattle.gate.specs.Refusals.{logRoom}
-use Rattle.round.specs.Verdicts.{Model, answerOf}
+use Rattle.prover_gate.specs.Refusals.{logRoom}
+use Rattle.verifier_round.specs.Verdicts.{Model, answerOf}
 use Rattle.verifier.specs.Verified as Verifier
 use Rattle.verifier.specs.Verified.{Asked, Lent, needed, fronts}
 use Rattle.verifier.specs.Gates.{verdict}
-use Rattle.round.specs.Report.{verdictReport}
+use Rattle.verifier_round.specs.Report.{verdictReport}
 use Rattle.exported.specs.Asked.{ForVerifier, NotShort, VerifierNotShort}
 use Rattle.exported.proofs.Lending.{never, fits, lent, log-room, other}
 

@@ -9,8 +9,8 @@ use Rattle.field.specs.Ext as E
 use Rattle.gkr.specs.Sizes as Sizes
 use Rattle.refusal.specs.Limits.{maxRounds}
 use Rattle.wire.specs.Words.{allCanonical}
-use Rattle.tree.specs.Nodes.{node}
-use Rattle.gate.specs.Refusals.{Call, rowCount, degenerate}
+use Rattle.prover_tree.specs.Nodes.{node}
+use Rattle.prover_gate.specs.Refusals.{Call, rowCount, degenerate}
 use Rattle.prover.specs.Proved.{Buffers}
 use Rattle.verifier.specs.Verified as Verifier
 use Rattle.verifier.specs.Verified.{Lent}

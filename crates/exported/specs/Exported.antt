@@ -11,8 +11,8 @@ use Rattle.field.specs.Element.{words, pointWords}
 use Rattle.gkr.specs.Run.{Frac}
 use Rattle.gkr.specs.Sizes.{proof-bytes, log-words}
 use Rattle.gkr.specs.Tree as Tree
-use Rattle.tree.specs.Nodes.{node}
-use Rattle.gate.specs.Refusals.{Call}
+use Rattle.prover_tree.specs.Nodes.{node}
+use Rattle.prover_gate.specs.Refusals.{Call}
 use Rattle.refusal.specs.Fronts.{over}
 use Rattle.prover.specs.Proved.{Buffers}
 use Rattle.verifier.specs.Verified.{Lent, asked}

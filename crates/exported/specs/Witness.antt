@@ -4,7 +4,7 @@ use mathlib.Core.Path.{_≡_}
 use mathlib.Core.Bool.{Bool}
 use Prim.Native.Nat.{ℕ}
 use Rattle.gkr.specs.Compute.{el, minus, frac}
-use Rattle.gate.specs.Refusals.{Call}
+use Rattle.prover_gate.specs.Refusals.{Call}
 use Rattle.prover.specs.Companions.{in-mode}
 use Rattle.agreement.specs.KTable.{K3, room, room-again}
 use Rattle.accudrina.specs.Calls.{proving}

@@ -7,7 +7,7 @@ ghost use Rattle.field.specs.Element.{dec};
 ghost use Rattle.field.specs.Cells.{cell, Clean};
 ghost use Rattle.multilinear.specs.Table as Table;
 ghost use Rattle.step.specs.Values.{CanonThree, two, three};
-ghost use Rattle.layer.specs.Columns.{summand, Folded};
+ghost use Rattle.prover_layer.specs.Columns.{summand, Folded};
 ghost use Rattle.layer_bench.specs.Sums.{InFront};
 use step::Three;
 
@@ -35,7 +35,7 @@ pub extern "C" fn layer_bench_round_sums(
     requires clean { ⌜ Clean (now work) × Clean (now out) ⌝ }
     ensures { λ _. ⌜ InFront (now (out .entry)) (now (out .exit)) (Table.sum ExtRing half (summand (now (work .entry)) eq pq E.nil E.one)) (Table.sum ExtRing half (summand (now (work .entry)) eq pq E.nil two)) (Table.sum ExtRing half (summand (now (work .entry)) eq pq E.nil three)) ⌝ }
 {
-    let s = layer::sumcheck_round_poly_evals(work, eq, pq, half);
+    let s = prover_layer::sumcheck_round_poly_evals(work, eq, pq, half);
     put_three(out, s);
 }
 
@@ -46,5 +46,5 @@ pub extern "C" fn layer_bench_fold(work: &mut [u32], eq: usize, pq: usize, half:
     requires clean { ⌜ Clean (now work) × Clean (now rho) ⌝ }
     ensures { λ _. ⌜ Folded (now (work .entry)) (now (work .exit)) eq pq half (cell (now (rho .entry)) 0) ⌝ }
 {
-    layer::fold_mle_evals(work, eq, pq, half, field::load(rho, 0));
+    prover_layer::fold_mle_evals(work, eq, pq, half, field::load(rho, 0));
 }

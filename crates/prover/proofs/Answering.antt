@@ -21,15 +21,15 @@ use Rattle.gkr.specs.Gkr.{done, non-zero-root-sum}
 use Rattle.transcript.specs.Log.{Drawing}
 use Rattle.step.specs.declared.Frac.{Frac as FracW}
 use Rattle.step.specs.Values.{IsFrac}
-use Rattle.tree.specs.Nodes.{node}
-use Rattle.rounds.specs.Layers.{Levels}
+use Rattle.prover_tree.specs.Nodes.{node}
+use Rattle.prover_rounds.specs.Layers.{Levels}
 use Rattle.refusal.specs.declared.Refusal.the-variants.{NonZeroRootSum, SingleRow}
 use Rattle.refusal.specs.declared.Refusal.{Refusal}
 use Rattle.refusal.specs.Tests.{Tested, passed, refused}
 use Rattle.refusal.specs.Fronts.{over}
-use Rattle.gate.specs.declared.Gate.{Gate}
-use Rattle.gate.specs.declared.Gate.the-variants.{Open, Shut}
-use Rattle.gate.specs.Refusals.{Call, rowCount, roundsOf, workRoom, firstRefusal, asGate}
+use Rattle.prover_gate.specs.declared.Gate.{Gate}
+use Rattle.prover_gate.specs.declared.Gate.the-variants.{Open, Shut}
+use Rattle.prover_gate.specs.Refusals.{Call, rowCount, roundsOf, workRoom, firstRefusal, asGate}
 use Rattle.stored.specs.Layout.{layout}
 use Rattle.stored_writer.specs.Messages.{noRows}
 use Rattle.prover.specs.declared.Answer.{Answer}

@@ -11,14 +11,14 @@ use borrow.Author.Tests.{lt-ltb, le-ltb}
 use lib.Dec.{ltb}
 use lib.ListN.{take}
 use Rattle.gkr.specs.Tests.{pass, fail}
-use Rattle.tree.specs.Nodes.{node}
+use Rattle.prover_tree.specs.Nodes.{node}
 use Rattle.refusal.specs.Tests.{Tested, passed, refused, test, firstOf}
 use Rattle.refusal.specs.TestWays.{next, next-passed, first-split}
 use Rattle.refusal.specs.Numbers.{reportOf}
 use Rattle.refusal.specs.declared.Refusal.{Refusal}
 use Rattle.refusal.specs.declared.Refusal.the-variants.{RaggedRows, TooManyRows, NotPowerOfTwo, ShortChallenges, ShortRoom, BadWord, ZeroDenominator, NonZeroRootSum, SingleRow}
-use Rattle.gate.specs.Refusals.{Call, Rooms, rowCount, roundsOf, degenerate, lowest, tests, firstRefusal}
-use Rattle.gate.proofs.Admitting.{both}
+use Rattle.prover_gate.specs.Refusals.{Call, Rooms, rowCount, roundsOf, degenerate, lowest, tests, firstRefusal}
+use Rattle.prover_gate.proofs.Admitting.{both}
 use Rattle.prover.specs.declared.Answer.the-variants.{Refused}
 use Rattle.prover.specs.Proved.{entered, fronts}
 use Rattle.prover.specs.Companions.{in-mode, LiveMode}

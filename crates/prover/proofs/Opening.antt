@@ -15,8 +15,8 @@ use Rattle.refusal.specs.Limits.{maxRounds}
 use Rattle.refusal.specs.Tests.{passed}
 use Rattle.refusal.specs.TestLaws.{passed-all}
 use Rattle.wire.specs.WordLaws.{canonical-below}
-use Rattle.rounds.specs.Layers.{logUpTo, usedUpTo}
-use Rattle.gate.specs.Refusals.{Call, Rooms, rowCount, roundsFrom, roundsOf, isSize, logRoom, workRoom, shortRoom, tests, firstRefusal}
+use Rattle.prover_rounds.specs.Layers.{logUpTo, usedUpTo}
+use Rattle.prover_gate.specs.Refusals.{Call, Rooms, rowCount, roundsFrom, roundsOf, isSize, logRoom, workRoom, shortRoom, tests, firstRefusal}
 use Rattle.prover.specs.Inner.{Room, Opens}
 
 -- A GATE THAT IS OPEN

@@ -25,8 +25,8 @@ use Rattle.stored.specs.Layout.{layout}
 use Rattle.stored.specs.Lengths.{proofSize}
 use Rattle.stored.specs.Elements.{encoded}
 use Rattle.stored_writer.specs.Messages.{storedProof, readProof}
-use Rattle.run.specs.Runs.{origin, begun, RunOf}
-use Rattle.run.proofs.Whole.{past}
+use Rattle.prover_run.specs.Runs.{origin, begun, RunOf}
+use Rattle.prover_run.proofs.Whole.{past}
 use Rattle.refusal.specs.Fronts.{over}
 use Rattle.prover.specs.Proved.{lent}
 use Rattle.prover.specs.Inner.{runOf, Written}

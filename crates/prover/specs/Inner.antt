@@ -20,9 +20,9 @@ use Rattle.transcript.specs.Log.{Drawing}
 use Rattle.stored.specs.Layout.{layout}
 use Rattle.stored.specs.Elements.{encoded}
 use Rattle.stored.specs.Lengths.{proofSize}
-use Rattle.run.specs.Runs.{begun}
-use Rattle.rounds.specs.Layers.{logUpTo, usedUpTo}
-use Rattle.gate.specs.Refusals.{Rooms, rowCount, roundsOf, logRoom, workRoom}
+use Rattle.prover_run.specs.Runs.{begun}
+use Rattle.prover_rounds.specs.Layers.{logUpTo, usedUpTo}
+use Rattle.prover_gate.specs.Refusals.{Rooms, rowCount, roundsOf, logRoom, workRoom}
 use Rattle.refusal.specs.Fronts.{over}
 use Rattle.prover.specs.Proved.{Buffers}
 

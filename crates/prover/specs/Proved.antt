@@ -15,14 +15,14 @@ use Rattle.gkr.specs.Gkr as Gkr
 use Rattle.gkr.specs.Gkr.{done, non-zero-root-sum}
 use Rattle.transcript.specs.Log.{Drawing, supplied}
 use Rattle.step.specs.declared.Frac.{Frac as FracW}
-use Rattle.tree.specs.Nodes.{node}
+use Rattle.prover_tree.specs.Nodes.{node}
 use Rattle.stored.specs.Layout.{layout}
 use Rattle.stored.specs.Elements.{encoded}
 use Rattle.refusal.specs.Tests.{Tested, passed, refused}
 use Rattle.refusal.specs.Fronts.{over}
 use Rattle.refusal.specs.declared.Refusal.{Refusal}
 use Rattle.refusal.specs.declared.Refusal.the-variants.{NonZeroRootSum, SingleRow}
-use Rattle.gate.specs.Refusals.{Call, Rooms, rowCount, roundsOf, workRoom, firstRefusal}
+use Rattle.prover_gate.specs.Refusals.{Call, Rooms, rowCount, roundsOf, workRoom, firstRefusal}
 use Rattle.prover.specs.declared.Answer.{Answer}
 use Rattle.prover.specs.declared.Answer.the-variants.{Done, Refused}
 

@@ -15,14 +15,14 @@ ghost use Rattle.gkr.specs.Tree as Tree;
 ghost use Rattle.gkr.specs.Gkr as Gkr;
 ghost use Rattle.transcript.specs.Log.{Drawing, supplied};
 ghost use Rattle.step.specs.Values.{CanonFrac, IsFrac};
-ghost use Rattle.tree.specs.Nodes.{node};
-ghost use Rattle.rounds.specs.Layers.{Levels};
-ghost use Rattle.gate.specs.Refusals.{call, rooms, rowCount, roundsOf};
+ghost use Rattle.prover_tree.specs.Nodes.{node};
+ghost use Rattle.prover_rounds.specs.Layers.{Levels};
+ghost use Rattle.prover_gate.specs.Refusals.{call, rooms, rowCount, roundsOf};
 ghost use Rattle.prover.specs.Proved.{lent, outcome, laid, oneRow, after, ran, proved};
 ghost use Rattle.prover.specs.Inner.{Written, Room, Opens};
 ghost use Rattle.prover.specs.Report.{answerReport};
 use field::Ext;
-use gate::Gate;
+use prover_gate::Gate;
 use refusal::Refusal;
 use refusal::Report;
 use step::Frac;
@@ -51,11 +51,11 @@ fn write_run(
         → Written f asserted m (supplied (now (challenges .entry))) (lent (now (proof .entry)) (now (xi .entry)) (now (log .entry)) (now (work .entry)))
         (lent (now (proof .exit)) (now (xi .exit)) (now (log .exit)) (now (work .exit)))) ⌝ }
 {
-    let pos = run::begin(log, asserted, root.p);
-    run::run_rounds(n, size, root.q, work, xi, log, challenges, pos);
+    let pos = prover_run::begin(log, asserted, root.p);
+    prover_run::run_rounds(n, size, root.q, work, xi, log, challenges, pos);
     let i = pos.put / 4;
     stored_writer::put_proof(proof, log, i, n);
-    tree::clear(work); // nothing of the rows stays
+    prover_tree::clear(work); // nothing of the rows stays
 }
 
 // Whether zero is asserted of a sum whose numerator is not zero.
@@ -86,9 +86,9 @@ fn prove(
         ≡ laid (after (supplied (now (challenges .entry))) n (Gkr.fractional-sumcheck Extension (Drawing (supplied (now (challenges .entry)))) asserted m (node (now (rows .entry))) empty))
         (lent (now (proof .entry)) (now (xi .entry)) (now (log .entry)) (now (work .entry)))) ⌝ }
 {
-    let root = run::sum_rows(rows, size, work);
+    let root = prover_run::sum_rows(rows, size, work);
     if contradicts(asserted, root.p) {
-        tree::clear(work);
+        prover_tree::clear(work);
         return Answer::Refused(Refusal::NonZeroRootSum);
     }
     write_run(n, size, root, asserted, challenges, proof, xi, log, work);
@@ -103,7 +103,7 @@ fn one_row(rows: &[u32], asserted: bool) -> Refusal
     requires { ⌜ (8 ≤ length (now rows)) × Clean (now rows) ⌝ }
     ensures { λ r. ⌜ r ≡ oneRow (now (rows .entry)) asserted ⌝ }
 {
-    if contradicts(asserted, tree::load_node(rows, 0).p) {
+    if contradicts(asserted, prover_tree::load_node(rows, 0).p) {
         return Refusal::NonZeroRootSum;
     }
     Refusal::SingleRow
@@ -142,12 +142,12 @@ fn admitted(
         ≡ laid (ran (now (rows .entry)) asserted (now (challenges .entry)) (roundsOf (rowCount (now (rows .entry)))))
         (lent (now (proof .entry)) (now (point .entry)) (now (log .entry)) (now (work .entry))) ⌝ }
 {
-    let size = gate::least_size(rows.len() / 8);
+    let size = prover_gate::least_size(rows.len() / 8);
     let n = size.n;
     if n == 0 {
         return no_rounds(rows, asserted, proof);
     }
-    let need = gate::challenge_words(n);
+    let need = prover_gate::challenge_words(n);
     let k = 4 * n;
     let w = 32 * size.rows;
     prove(
@@ -179,7 +179,7 @@ pub fn fractional_sumcheck(
         ≡ proved (call (now (rows .entry)) live «assert_zero» (now (challenges .entry)))
         (lent (now (proof .entry)) (now (point .entry)) (now (log .entry)) (now (work .entry))) ⌝ }
 {
-    let gate = gate::first_refusal(
+    let gate = prover_gate::first_refusal(
         rows,
         live,
         assert_zero,

@@ -28,7 +28,7 @@ fn next_rooms(text: &[u8], at: usize) -> Rooms {
 
 fn call(proof: &[u8], rounds: usize, challenges: &[u32], point: &mut [u32], log: &mut [u32]) {
     let verdict = verifier::verify_gkr(proof, rounds, challenges, point, log);
-    print::report(round::number_and_values(verdict));
+    print::report(verifier_round::number_and_values(verdict));
     print::words(point);
     print::words(log);
     print::end();

@@ -5,7 +5,7 @@ use answers::print_accepted;
 use answers::print_number;
 use answers::print_sum;
 use refusal::Refusal;
-use round::Verdict;
+use verifier_round::Verdict;
 use stored_sheet::SheetAnswer;
 
 // `refused` and the refusal's number.

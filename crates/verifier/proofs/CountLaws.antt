@@ -29,15 +29,15 @@ use Rattle.stored.specs.Layout.{claimsWords, polysWords}
 use Rattle.stored.specs.Parse.{claimsOf, claimsFrom, entriesFrom, entriesFit, layerCount, entryCount, polysAt, proofOf}
 use Rattle.stored.specs.Elements.{decoded}
 use Rattle.stored.specs.ParseLaws.{Shaped, claims-count, entries-count, claims-step}
-use Rattle.round.specs.declared.Advance.{Advance}
-use Rattle.round.specs.declared.Advance.the-variants.{Stopped}
-use Rattle.round.specs.declared.Verdict.the-variants.{Refused}
-use Rattle.round.specs.Values.{decClaims, decCubic, CanonClaims}
-use Rattle.round.specs.Verdicts.{Model, answerOf, pointOf, loggedBy}
-use Rattle.round.specs.Rounds.{Stops}
-use Rattle.all_rounds.specs.Runs.{Readable, Space, Ends, RootEnd}
-use Rattle.all_rounds.proofs.Messages.{claim-first, claims-rest}
-use Rattle.all_rounds.proofs.RoundLaws.{map-length}
+use Rattle.verifier_round.specs.declared.Advance.{Advance}
+use Rattle.verifier_round.specs.declared.Advance.the-variants.{Stopped}
+use Rattle.verifier_round.specs.declared.Verdict.the-variants.{Refused}
+use Rattle.verifier_round.specs.Values.{decClaims, decCubic, CanonClaims}
+use Rattle.verifier_round.specs.Verdicts.{Model, answerOf, pointOf, loggedBy}
+use Rattle.verifier_round.specs.Rounds.{Stops}
+use Rattle.verifier_rounds.specs.Runs.{Readable, Space, Ends, RootEnd}
+use Rattle.verifier_rounds.proofs.Messages.{claim-first, claims-rest}
+use Rattle.verifier_rounds.proofs.RoundLaws.{map-length}
 use Rattle.verifier.specs.Gates.{Ready, start, verdict, Counted}
 
 -- ---- the model's counts

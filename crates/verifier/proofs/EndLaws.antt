@@ -22,13 +22,13 @@ use Rattle.refusal.specs.Fronts.{over}
 use Rattle.wire.specs.Words.{allCanonical}
 use Rattle.wire.specs.WordLaws.{canonical-below}
 use Rattle.stored.specs.declared.Outline.{Outline}
-use Rattle.round.specs.declared.Advance.{Advance}
-use Rattle.round.specs.declared.Advance.the-variants.{Next, Stopped}
-use Rattle.round.specs.declared.Verdict.{Verdict}
-use Rattle.round.specs.declared.Verdict.the-variants.{Accepted, Refused}
-use Rattle.round.specs.Values.{columns}
-use Rattle.round.specs.Verdicts.{Model, answerOf, pointOf, loggedBy}
-use Rattle.all_rounds.specs.Runs.{Ends}
+use Rattle.verifier_round.specs.declared.Advance.{Advance}
+use Rattle.verifier_round.specs.declared.Advance.the-variants.{Next, Stopped}
+use Rattle.verifier_round.specs.declared.Verdict.{Verdict}
+use Rattle.verifier_round.specs.declared.Verdict.the-variants.{Accepted, Refused}
+use Rattle.verifier_round.specs.Values.{columns}
+use Rattle.verifier_round.specs.Verdicts.{Model, answerOf, pointOf, loggedBy}
+use Rattle.verifier_rounds.specs.Runs.{Ends}
 use Rattle.verifier.specs.Verified.{Asked, Lent, Outcome, outcome, lent, tests, ended, fronts, laid, verified}
 use Rattle.verifier.specs.declared.Gate.{Gate}
 use Rattle.verifier.specs.declared.Gate.the-variants.{Open, Shut}

@@ -11,8 +11,8 @@ use Rattle.transcript.specs.Log.{supplied}
 use Rattle.refusal.specs.declared.Refusal.{Refusal}
 use Rattle.refusal.specs.Numbers.{reportOf}
 use Rattle.refusal.specs.Tests.{Tested, passed, refused, firstOf}
-use Rattle.round.specs.declared.Verdict.the-variants.{Refused}
-use Rattle.round.specs.Verdicts.{Model}
+use Rattle.verifier_round.specs.declared.Verdict.the-variants.{Refused}
+use Rattle.verifier_round.specs.Verdicts.{Model}
 use Rattle.verifier.specs.Verified.{Asked, Lent, needed, tests, ended, fronts, laid, verified}
 use Rattle.verifier.specs.Gates.{verdict}
 use Rattle.verifier.specs.Companions.{Isolation, Untouched}

@@ -5,7 +5,7 @@ use Prim.Native.Nat.{_<_}
 use lib.ListN.{length}
 use Rattle.refusal.specs.declared.Refusal.{Refusal}
 use Rattle.refusal.specs.Numbers.{reportOf}
-use Rattle.round.specs.declared.Verdict.the-variants.{Refused}
+use Rattle.verifier_round.specs.declared.Verdict.the-variants.{Refused}
 use Rattle.verifier.specs.Verified.{Asked, Lent, Outcome, laid, verified}
 
 -- two outcomes over different buffers: the same answer, and the same words written

@@ -21,12 +21,12 @@ use Rattle.stored.specs.Layout.{proofWords}
 use Rattle.stored.specs.Parse.{proofOf}
 use Rattle.stored.specs.ParseLaws.{Shaped}
 use Rattle.stored.specs.Elements.{decoded}
-use Rattle.round.specs.declared.Advance.{Advance}
-use Rattle.round.specs.declared.Advance.the-variants.{Next, Stopped}
-use Rattle.round.specs.declared.Verdict.{Verdict}
-use Rattle.round.specs.declared.Verdict.the-variants.{Accepted, Refused}
-use Rattle.round.specs.Verdicts.{Model}
-use Rattle.all_rounds.specs.Runs.{Ends}
+use Rattle.verifier_round.specs.declared.Advance.{Advance}
+use Rattle.verifier_round.specs.declared.Advance.the-variants.{Next, Stopped}
+use Rattle.verifier_round.specs.declared.Verdict.{Verdict}
+use Rattle.verifier_round.specs.declared.Verdict.the-variants.{Accepted, Refused}
+use Rattle.verifier_round.specs.Verdicts.{Model}
+use Rattle.verifier_rounds.specs.Runs.{Ends}
 use Rattle.verifier.specs.declared.Gate.{Gate}
 use Rattle.verifier.specs.declared.Gate.the-variants.{Open, Shut}
 use Rattle.verifier.specs.Verified.{Asked, tests}

@@ -19,9 +19,9 @@ use Rattle.wire.specs.Words.{allCanonical}
 use Rattle.stored.specs.Layout.{proofWords}
 use Rattle.stored.specs.Parse.{fits, proofOf}
 use Rattle.stored.specs.Elements.{decoded}
-use Rattle.round.specs.declared.Verdict.{Verdict}
-use Rattle.round.specs.declared.Verdict.the-variants.{Refused}
-use Rattle.round.specs.Verdicts.{Model, answerOf, pointOf, loggedBy}
+use Rattle.verifier_round.specs.declared.Verdict.{Verdict}
+use Rattle.verifier_round.specs.declared.Verdict.the-variants.{Refused}
+use Rattle.verifier_round.specs.Verdicts.{Model, answerOf, pointOf, loggedBy}
 
 -- what a call is given: a proof's bytes, the rounds, and challenge words, four a challenge
 abbrev pub Asked : Type 0

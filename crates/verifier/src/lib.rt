@@ -8,13 +8,13 @@ ghost use Rattle.stored.specs.ParseLaws.{Shaped};
 ghost use Rattle.gkr.specs.Sizes.{challenges, log-words};
 ghost use Rattle.refusal.specs.Limits.{maxRounds};
 ghost use Rattle.transcript.specs.Log.{supplied};
-ghost use Rattle.round.specs.declared.Verdict.the-variants.{Accepted};
+ghost use Rattle.verifier_round.specs.declared.Verdict.the-variants.{Accepted};
 ghost use Rattle.verifier.specs.Verified.{asked, lent, outcome, verified};
 ghost use Rattle.verifier.specs.Gates.{wordsGate, Gated, Opened, Ready, Counted, pointLeft, answered};
 use refusal::Refusal;
-use round::Advance;
-use round::Layer;
-use round::Verdict;
+use verifier_round::Advance;
+use verifier_round::Layer;
+use verifier_round::Verdict;
 use stored::Outline;
 use stored::Shape;
 use transcript::Pos;
@@ -109,7 +109,7 @@ fn verify_counted(
         });
     }
     let pos = Pos { put: 0, used: 0 };
-    all_rounds::verify_all(proof, outline.polys, rounds, xi, log, challenges, pos)
+    verifier_rounds::verify_all(proof, outline.polys, rounds, xi, log, challenges, pos)
 }
 
 // The first n words of the point found go to the front of the room for it.

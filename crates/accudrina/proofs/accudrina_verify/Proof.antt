@@ -1,5 +1,5 @@
 use mathlib.Core.Path.{ap, _∙_}
-use Rattle.round.specs.Report.{verdictReport}
+use Rattle.verifier_round.specs.Report.{verdictReport}
 use Rattle.accudrina.proofs.Telling.{returned}
 use borrow.Author.Needs.{needs}
 use Rattle.accudrina.proofs.accudrina_verify.Statement.{statement}

@@ -2,7 +2,7 @@ use mathlib.Core.Path.{_≡_, subst}
 use mathlib.Core.List.{List}
 use Prim.Native.Nat.{ℕ}
 use Rattle.field.specs.Ext as E
-use Rattle.layer.specs.Columns.{Folded}
+use Rattle.prover_layer.specs.Columns.{Folded}
 use native.Mathlib.Omega.{arith}
 use borrow.Author.Needs.{needs}
 use Rattle.layer_bench.proofs.layer_bench_fold.Statement.{statement}
@@ -10,7 +10,7 @@ use Rattle.layer_bench.proofs.layer_bench_fold.Tie as tie
 use Rattle.layer_bench.proofs.layer_bench_fold.Reads as reads
 use Rattle.layer_bench.proofs.layer_bench_fold.Lts as lts
 use Rattle.field.proofs.load.Reads as load-reads
-use Rattle.layer.proofs.fold_mle_evals.Reads as fold-mle-evals-reads
+use Rattle.prover_layer.proofs.fold_mle_evals.Reads as fold-mle-evals-reads
 
 load-requires : tie.Need-load-requires
 load-requires c κs = search needs

@@ -5,7 +5,7 @@ use Rattle.layer_bench.proofs.layer_bench_round_sums.Statement.{stateme
 use Rattle.layer_bench.proofs.layer_bench_round_sums.Tie as tie
 use Rattle.layer_bench.proofs.layer_bench_round_sums.Reads as reads
 use Rattle.layer_bench.proofs.layer_bench_round_sums.Lts as lts
-use Rattle.layer.proofs.sumcheck_round_poly_evals.Reads as sumcheck-round-poly-evals-reads
+use Rattle.prover_layer.proofs.sumcheck_round_poly_evals.Reads as sumcheck-round-poly-evals-reads
 use Rattle.layer_bench.proofs.put_three.Reads as put-three-reads
 
 sumcheck-round-poly-evals-requires : tie.Need-sumcheck-round-poly-evals-requires

@@ -1,18 +1,18 @@
 use Prim.Native.Nat.{_*_}
 use mathlib.Core.Path.{_≡_, refl, sym, _∙_}
 use lib.Seq.{length-take-le}
-use Rattle.gate.proofs.Sizing.{pow-small}
+use Rattle.prover_gate.proofs.Sizing.{pow-small}
 use Rattle.prover.proofs.Opening.{run-room, rows-room, parts-room, supplied-part}
 use Rattle.prover.proofs.Parts.{run-parts, no-parts}
-use Rattle.gate.specs.Refusals.{rowCount, roundsOf}
+use Rattle.prover_gate.specs.Refusals.{rowCount, roundsOf}
 use native.Mathlib.Omega.{arith}
 use borrow.Author.Needs.{needs}
 use Rattle.prover.proofs.admitted.Statement.{statement}
 use Rattle.prover.proofs.admitted.Tie as tie
 use Rattle.prover.proofs.admitted.Reads as reads
 use Rattle.prover.proofs.admitted.Lts as lts
-use Rattle.gate.proofs.challenge_words.Reads as challenge-words-reads
-use Rattle.gate.proofs.least_size.Reads as least-size-reads
+use Rattle.prover_gate.proofs.challenge_words.Reads as challenge-words-reads
+use Rattle.prover_gate.proofs.least_size.Reads as least-size-reads
 use Rattle.prover.proofs.no_rounds.Reads as no-rounds-reads
 use Rattle.prover.proofs.prove.Reads as prove-reads
 

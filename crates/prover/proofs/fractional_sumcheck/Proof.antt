@@ -6,7 +6,7 @@ use Rattle.prover.proofs.fractional_sumcheck.Statement.{statement}
 use Rattle.prover.proofs.fractional_sumcheck.Tie as tie
 use Rattle.prover.proofs.fractional_sumcheck.Reads as reads
 use Rattle.prover.proofs.fractional_sumcheck.Lts as lts
-use Rattle.gate.proofs.first_refusal.Reads as first-refusal-reads
+use Rattle.prover_gate.proofs.first_refusal.Reads as first-refusal-reads
 use Rattle.prover.proofs.admitted.Reads as admitted-reads
 
 first-refusal-requires : tie.Need-first-refusal-requires

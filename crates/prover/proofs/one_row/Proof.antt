@@ -5,7 +5,7 @@ use Rattle.prover.proofs.one_row.Tie as tie
 use Rattle.prover.proofs.one_row.Reads as reads
 use Rattle.prover.proofs.one_row.Lts as lts
 use Rattle.prover.proofs.contradicts.Reads as contradicts-reads
-use Rattle.tree.proofs.load_node.Reads as load-node-reads
+use Rattle.prover_tree.proofs.load_node.Reads as load-node-reads
 
 load-node-requires : tie.Need-load-node-requires
 load-node-requires c κs = search needs

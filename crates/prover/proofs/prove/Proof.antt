@@ -1,7 +1,7 @@
 use Prim.Native.Nat.{_^_}
 use mathlib.Core.Path.{_∙_, ap}
 use lib.Pow.{pow-pos}
-use Rattle.tree.specs.Nodes.{node}
+use Rattle.prover_tree.specs.Nodes.{node}
 use Rattle.prover.proofs.Answering.{prove-refused, prove-done, rewritten, levels-at}
 use native.Mathlib.Omega.{arith}
 use borrow.Author.Needs.{needs}
@@ -11,8 +11,8 @@ use Rattle.prover.proofs.prove.Reads as reads
 use Rattle.prover.proofs.prove.Lts as lts
 use Rattle.prover.proofs.contradicts.Reads as contradicts-reads
 use Rattle.prover.proofs.write_run.Reads as write-run-reads
-use Rattle.run.proofs.sum_rows.Reads as sum-rows-reads
-use Rattle.tree.proofs.clear.Reads as clear-reads
+use Rattle.prover_run.proofs.sum_rows.Reads as sum-rows-reads
+use Rattle.prover_tree.proofs.clear.Reads as clear-reads
 
 sum-rows-requires : tie.Need-sum-rows-requires
 sum-rows-requires c κs =

@@ -6,10 +6,10 @@ use Rattle.prover.proofs.write_run.Statement.{statement}
 use Rattle.prover.proofs.write_run.Tie as tie
 use Rattle.prover.proofs.write_run.Reads as reads
 use Rattle.prover.proofs.write_run.Lts as lts
-use Rattle.run.proofs.begin.Reads as begin-reads
-use Rattle.run.proofs.run_rounds.Reads as run-rounds-reads
+use Rattle.prover_run.proofs.begin.Reads as begin-reads
+use Rattle.prover_run.proofs.run_rounds.Reads as run-rounds-reads
 use Rattle.stored_writer.proofs.put_proof.Reads as put-proof-reads
-use Rattle.tree.proofs.clear.Reads as clear-reads
+use Rattle.prover_tree.proofs.clear.Reads as clear-reads
 
 begin-requires : tie.Need-begin-requires
 begin-requires c κs = search needs

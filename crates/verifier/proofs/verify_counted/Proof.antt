@@ -6,7 +6,7 @@ use Rattle.verifier.proofs.verify_counted.Statement.{statement}
 use Rattle.verifier.proofs.verify_counted.Tie as tie
 use Rattle.verifier.proofs.verify_counted.Reads as reads
 use Rattle.verifier.proofs.verify_counted.Lts as lts
-use Rattle.all_rounds.proofs.verify_all.Reads as verify-all-reads
+use Rattle.verifier_rounds.proofs.verify_all.Reads as verify-all-reads
 
 returns : tie.Need-returns
 returns c = layers-stop (c .before .before .before .before .before .args .proof .now) (c .before .before .before .before .before .args .log .now) (supplied (c .before .before .before .before .before .args .challenges .now)) (c .before .before .before .before .before .args .rounds) (c .before .before .before .before .before .args .outline) (c .before .before .before .before .before .pre .some) (c .before .before .before .before .before .pre .shaped) (c .before .before .before .before .before .args .xi .now) (c .if1 .taken)

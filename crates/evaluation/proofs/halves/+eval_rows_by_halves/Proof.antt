@@ -14,7 +14,7 @@ use Rattle.evaluation.proofs.halves.eval_rows_by_halves.Reads as eval-r
 use Rattle.evaluation.proofs.halves.eval_rows_by_halves.Kinds as eval-rows-by-halves-kinds
 use Rattle.evaluation.proofs.halves.+eval_rows_by_halves.Lts-eval_rows_by_halves as eval-rows-by-halves-lts
 use Rattle.evaluation.proofs.halves.mix.Reads as mix-reads
-use Rattle.tree.proofs.load_node.Reads as load-node-reads
+use Rattle.prover_tree.proofs.load_node.Reads as load-node-reads
 use Rattle.evaluation.proofs.halves.+eval_rows_by_halves.{statement}
 use Rattle.evaluation.proofs.halves.+eval_rows_by_halves.Tie.{close}
 

@@ -1,0 +1,76 @@
+use lib.Pow.{pow-pos}
+use Rattle.prover_rounds.proofs.Descent.{one-layer}
+use native.Mathlib.Omega.{arith}
+use borrow.Author.Needs.{needs}
+use Rattle.prover_rounds.proofs.gkr_round.Statement.{statement}
+use Rattle.prover_rounds.proofs.gkr_round.Tie as tie
+use Rattle.prover_rounds.proofs.gkr_round.Reads as reads
+use Rattle.prover_rounds.proofs.gkr_round.Lts as lts
+use Rattle.prover_layer.proofs.evals_eq_hypercube.Reads as evals-eq-hypercube-reads
+use Rattle.prover_rounds.proofs.close_round.Reads as close-round-reads
+use Rattle.prover_rounds.proofs.sub_rounds.Reads as sub-rounds-reads
+use Rattle.transcript.proofs.sample_ext.Reads as sample-ext-reads
+
+mul-pq : tie.Need-mul-pq
+mul-pq c = search needs
+
+sample-ext-requires : tie.Need-sample-ext-requires
+sample-ext-requires c κs = search needs
+
+evals-eq-hypercube-requires : tie.Need-evals-eq-hypercube-requires
+evals-eq-hypercube-requires c κs =
+    let p = c .before .before .before .before .before .before .before .before .before .before .pre in
+    (p .0, ((p .1 .0 .1, omega (arith, p .1 .1 .0)), (p .1 .1 .1 .0, p .1 .1 .1 .1)))
+
+sub-rounds-requires : tie.Need-sub-rounds-requires
+sub-rounds-requires c κs =
+    let p = c .before .before .before .before .before .before .before .before .before .before .before .before .before .before .before .before .pre in
+    let s = c .before .before .before .before .before .before .before .before .before .before .sample-ext .ensures .0 in (
+      p .0,
+      (
+        (omega (arith, p .1 .0), omega (arith, p .1 .0, c .before .before .before .before .before .evals-eq-hypercube .kept .0)),
+        (
+          (omega (arith, p .1 .1 .0), omega (arith, p .1 .1 .0, c .before .before .before .before .before .before .before .before .before .before .sample-ext .kept .0, s .put), record { room = omega (arith, p .1 .1 .0 .2 .room, s .used); clean = p .1 .1 .0 .2 .clean }),
+          (c .before .before .before .before .before .evals-eq-hypercube .ensures .clean, p .1 .1 .1 .1, c .before .before .before .before .before .before .before .before .before .before .sample-ext .ensures .1 .canon),
+        ),
+      ),
+    )
+
+close-round-requires : tie.Need-close-round-requires
+close-round-requires c κs =
+    let p = c .before .before .before .before .before .before .before .before .before .before .before .before .before .before .before .before .before .before .before .before .before .before .before .before .before .before .pre in
+    let s = c .before .before .before .before .before .before .before .before .before .before .before .before .before .before .before .before .before .before .before .before .sample-ext .ensures .0 in
+    let t = c .before .before .before .before .before .before .before .before .before .sub-rounds .ensures in
+    let u = c .before .before .before .before .before .before .before .before .before .sub-rounds .kept in (
+      (omega (arith, p .0, pow-pos (c .before .before .before .before .before .before .before .before .before .before .before .before .before .before .before .before .before .before .before .before .before .before .before .before .before .before .args .round), p .1 .0, c .before .before .before .before .before .before .before .before .before .before .before .before .before .before .before .evals-eq-hypercube .kept .0, u), omega (arith, p .1 .1 .0, u), omega (arith, p .1 .1 .0, c .before .before .before .before .before .before .before .before .before .before .before .before .before .before .before .before .before .before .before .before .sample-ext .kept .0, s .put, t .steps .put, u), record { room = omega (arith, p .1 .1 .0 .2 .room, s .used, t .steps .used); clean = p .1 .1 .0 .2 .clean }),
+      (t .clean, t .points),
+    )
+
+same-length : tie.Need-same-length
+same-length c = search needs
+
+same-length-2 : tie.Need-same-length-2
+same-length-2 c = search needs
+
+same-length-3 : tie.Need-same-length-3
+same-length-3 c = search needs
+
+returns : tie.Need-returns
+returns c =
+    let p = c .before .before .before .before .before .before .before .before .before .before .before .before .before .before .before .before .before .before .before .before .before .before .before .before .before .before .before .before .before .before .before .pre in
+    let d = c .before .before .before .before .before .before .before .before .before .before .before .before .before .before .before .before .before .before .before .before .before .before .before .before .before .sample-ext .ensures in
+    one-layer _ _ _ _ _ _ _ _ _ _ _ _ _ _ _ _ _ _ (p .0) (p .1 .0 .0) (d .0) (d .1) (c .before .before .before .before .before .before .before .before .before .before .before .before .before .before .before .before .before .before .before .before .evals-eq-hypercube .ensures) (c .before .before .before .before .before .before .before .before .before .before .before .before .before .before .sub-rounds .ensures) (c .before .before .before .before .close-round .ensures)
+
+pub gkr-round-spec : {M : Type 1} → statement M
+gkr-round-spec =
+    tie.close
+    (tie.spec
+    mul-pq
+    sample-ext-requires
+    evals-eq-hypercube-requires
+    sub-rounds-requires
+    close-round-requires
+    same-length
+    same-length-2
+    same-length-3
+    returns)

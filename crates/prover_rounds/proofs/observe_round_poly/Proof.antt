@@ -1,0 +1,32 @@
+use Rattle.prover_rounds.proofs.Sending.{three-observed}
+use borrow.Author.Needs.{needs}
+use Rattle.prover_rounds.proofs.observe_round_poly.Statement.{statement}
+use Rattle.prover_rounds.proofs.observe_round_poly.Tie as tie
+use Rattle.prover_rounds.proofs.observe_round_poly.Reads as reads
+use Rattle.prover_rounds.proofs.observe_round_poly.Lts as lts
+use Rattle.transcript.proofs.observe_ext.Reads as observe-ext-reads
+
+observe-ext-requires : tie.Need-observe-ext-requires
+observe-ext-requires c κs = search needs
+
+observe-ext-requires-2 : tie.Need-observe-ext-requires-2
+observe-ext-requires-2 c κs = search needs
+
+observe-ext-requires-3 : tie.Need-observe-ext-requires-3
+observe-ext-requires-3 c κs = search needs
+
+same-length : tie.Need-same-length
+same-length c = search needs
+
+returns : tie.Need-returns
+returns c = three-observed _ _ _ _ _ _ _ _ (c .before .before .before .before .before .before .before .before .before .before .before .before .before .args .s) (c .before .before .before .before .before .before .before .before .before .before .observe-ext .ensures) (c .before .before .before .before .before .before .observe-ext2 .ensures) (c .before .before .observe-ext3 .ensures)
+
+pub observe-round-poly-spec : {M : Type 1} → statement M
+observe-round-poly-spec =
+    tie.close
+    (tie.spec
+    observe-ext-requires
+    observe-ext-requires-2
+    observe-ext-requires-3
+    same-length
+    returns)

@@ -1,0 +1,195 @@
+// The GKR rounds over lent buffers: the tree and the eq table in one workspace, the point, the log and the challenges.
+ghost use mathlib.Core.Path.{_≡_};
+ghost use Prim.Native.Nat.{ℕ, suc, _+_, _*_, _-_, _^_, _<_, _≤_};
+ghost use lib.ListN.{length, drop};
+ghost use Rattle.field.specs.Ext as E;
+ghost use Rattle.field.specs.Element.{dec, Canon};
+ghost use Rattle.field.specs.Cells.{Clean};
+ghost use Rattle.gkr.specs.Run.{Frac as Fraction};
+ghost use Rattle.transcript.specs.Log.{supplied, Enough, logOf, Steps};
+ghost use Rattle.step.specs.Values.{CanonFrac, decFrac, CanonThree};
+ghost use Rattle.prover_rounds.specs.SubRounds.{observedThree, SubRound, SubRounds};
+ghost use Rattle.prover_rounds.specs.Layers.{observedFrac, Closed, OneLayer, Levels, logUpTo, usedUpTo, AllLayers};
+use field::Ext;
+use step::Frac;
+use step::Three;
+use transcript::Pos;
+
+// s(1), s(2), s(3) go into the log.
+fn observe_round_poly(log: &mut [u32], pos: Pos, s: Three) -> Pos
+    requires room { ⌜ pos .put + 12 ≤ length (now log) ⌝ }
+    requires canon { ⌜ CanonThree s ⌝ }
+    ensures { λ r. ⌜ Steps (now (log .entry)) (now (log .exit)) pos r 12 0 (observedThree s (logOf (now (log .entry)) pos)) ⌝ }
+{
+    let a = transcript::observe_ext(log, pos, s.s1);
+    let b = transcript::observe_ext(log, a, s.s2);
+    transcript::observe_ext(log, b, s.s3)
+}
+
+// One sub-round over weighed claims: its polynomial is observed, rho sampled and kept in cell i of the point, and all columns are folded at rho.
+fn sub_round(
+    work: &mut [u32],
+    eq: usize,
+    pq: usize,
+    half: usize,
+    xi: &mut [u32],
+    i: usize,
+    log: &mut [u32],
+    challenges: &[u32],
+    pos: Pos,
+) -> Pos
+    requires layer { ⌜ (2 * pq + 8 * half ≤ eq) × (4 * (eq + 2 * half) ≤ length (now work)) ⌝ }
+    requires room { ⌜ (4 * i + 3 < length (now xi)) × (pos .put + 16 ≤ length (now log)) × Enough (now challenges) pos 1 ⌝ }
+    requires clean { ⌜ Clean (now work) × Clean (now xi) ⌝ }
+    ensures { λ r. ⌜ ((k : ℕ) → half ≡ 2 ^ k → SubRound (now (work .entry)) (now (work .exit)) (now (xi .entry)) (now (xi .exit)) (now (log .entry)) (now (log .exit)) (supplied (now (challenges .entry))) eq pq k half i E.nil pos r) ⌝ }
+{
+    let s = prover_layer::sumcheck_round_poly_evals(work, eq, pq, half);
+    let p = observe_round_poly(log, pos, s);
+    let d = transcript::sample_ext(log, challenges, p);
+    let rho = d.x;
+    field::store(xi, i, rho);
+    prover_layer::fold_mle_evals(work, eq, pq, half, rho);
+    d.pos
+}
+
+// The sub-rounds of a round over size = 2^round entries with weighed claims; each rho goes into the point behind cell 0, in order.
+fn weighed_sub_rounds(
+    work: &mut [u32],
+    eq: usize,
+    pq: usize,
+    round: usize,
+    size: usize,
+    xi: &mut [u32],
+    log: &mut [u32],
+    challenges: &[u32],
+    pos: Pos,
+) -> Pos
+    requires size { ⌜ size ≡ 2 ^ round ⌝ }
+    requires layer { ⌜ (2 * pq + 4 * size ≤ eq) × (4 * (eq + size) ≤ length (now work)) ⌝ }
+    requires room { ⌜ (4 * round + 4 ≤ length (now xi)) × (pos .put + 16 * round ≤ length (now log)) × Enough (now challenges) pos round ⌝ }
+    requires clean { ⌜ Clean (now work) × Clean (now xi) ⌝ }
+    ensures { λ r. ⌜ SubRounds (now (work .entry)) (now (work .exit)) (now (xi .entry)) (now (xi .exit)) (now (log .entry)) (now (log .exit)) (supplied (now (challenges .entry))) eq pq round size E.nil pos r ⌝ }
+{
+    let mut p = pos;
+    let mut half = size;
+    for j in 0..round {
+        half = half / 2;
+        p = sub_round(work, eq, pq, half, xi, j + 1, log, challenges, p);
+    }
+    p
+}
+
+// The sub-rounds of a round: the claims are weighed by lambda before, and those that are left are taken back after.
+fn sub_rounds(
+    work: &mut [u32],
+    eq: usize,
+    pq: usize,
+    round: usize,
+    size: usize,
+    lambda: Ext,
+    xi: &mut [u32],
+    log: &mut [u32],
+    challenges: &[u32],
+    pos: Pos,
+) -> Pos
+    requires size { ⌜ size ≡ 2 ^ round ⌝ }
+    requires layer { ⌜ (2 * pq + 4 * size ≤ eq) × (4 * (eq + size) ≤ length (now work)) ⌝ }
+    requires room { ⌜ (4 * round + 4 ≤ length (now xi)) × (pos .put + 16 * round ≤ length (now log)) × Enough (now challenges) pos round ⌝ }
+    requires clean { ⌜ Clean (now work) × Clean (now xi) × Canon lambda ⌝ }
+    ensures { λ r. ⌜ SubRounds (now (work .entry)) (now (work .exit)) (now (xi .entry)) (now (xi .exit)) (now (log .entry)) (now (log .exit)) (supplied (now (challenges .entry))) eq pq round size (dec lambda) pos r ⌝ }
+{
+    prover_layer::weigh(work, pq, size, lambda);
+    let p = weighed_sub_rounds(work, eq, pq, round, size, xi, log, challenges, pos);
+    prover_layer::weigh(work, pq, 1, Ext::ZERO.minus(lambda));
+    p
+}
+
+// p, then q, go into the log.
+fn observe_fraction(log: &mut [u32], pos: Pos, f: Frac) -> Pos
+    requires room { ⌜ pos .put + 8 ≤ length (now log) ⌝ }
+    requires canon { ⌜ CanonFrac f ⌝ }
+    ensures { λ r. ⌜ Steps (now (log .entry)) (now (log .exit)) pos r 8 0 (observedFrac (decFrac f) (logOf (now (log .entry)) pos)) ⌝ }
+{
+    let a = transcript::observe_ext(log, pos, f.p);
+    transcript::observe_ext(log, a, f.q)
+}
+
+// The end of a round: its claims, on nodes pq and pq + 1, are observed, and mu is sampled into cell 0 of the point.
+pub fn close_round(
+    work: &[u32],
+    pq: usize,
+    xi: &mut [u32],
+    log: &mut [u32],
+    challenges: &[u32],
+    pos: Pos,
+) -> Pos
+    requires room { ⌜ (8 * pq + 15 < length (now work)) × (4 ≤ length (now xi)) × (pos .put + 20 ≤ length (now log)) × Enough (now challenges) pos 1 ⌝ }
+    requires clean { ⌜ Clean (now work) × Clean (now xi) ⌝ }
+    ensures { λ r. ⌜ Closed (now (work .entry)) (now (xi .entry)) (now (xi .exit)) (now (log .entry)) (now (log .exit)) (supplied (now (challenges .entry))) pq pos r ⌝ }
+{
+    let p = observe_fraction(log, pos, prover_tree::load_node(work, pq));
+    let q = observe_fraction(log, p, prover_tree::load_node(work, pq + 1));
+    let d = transcript::sample_ext(log, challenges, q);
+    field::store(xi, 0, d.x);
+    d.pos
+}
+
+// Round `round`, over size = 2^round entries: lambda, the eq table of the old point, the sub-rounds, the claims and mu.
+fn gkr_round(
+    work: &mut [u32],
+    eq: usize,
+    round: usize,
+    size: usize,
+    xi: &mut [u32],
+    log: &mut [u32],
+    challenges: &[u32],
+    pos: Pos,
+) -> Pos
+    requires size { ⌜ size ≡ 2 ^ round ⌝ }
+    requires layer { ⌜ (8 * size ≤ eq) × (4 * (eq + size) ≤ length (now work)) ⌝ }
+    requires room { ⌜ (4 * round + 4 ≤ length (now xi)) × (pos .put + 16 * round + 24 ≤ length (now log)) × Enough (now challenges) pos (round + 2) ⌝ }
+    requires clean { ⌜ Clean (now work) × Clean (now xi) ⌝ }
+    ensures { λ r. ⌜ OneLayer (now (work .entry)) (now (work .exit)) (now (xi .entry)) (now (xi .exit)) (now (log .entry)) (now (log .exit)) (supplied (now (challenges .entry))) eq round size pos r ⌝ }
+{
+    let pq = 2 * size;
+    let lambda = transcript::sample_ext(log, challenges, pos);
+    prover_layer::evals_eq_hypercube(work, eq, xi, round, size);
+    let p = sub_rounds(
+        work,
+        eq,
+        pq,
+        round,
+        size,
+        lambda.x,
+        xi,
+        log,
+        challenges,
+        lambda.pos,
+    );
+    close_round(work, pq, xi, log, challenges, p)
+}
+
+// The rounds from 1 to n - 1.
+pub fn gkr_rounds(
+    work: &mut [u32],
+    eq: usize,
+    n: usize,
+    xi: &mut [u32],
+    log: &mut [u32],
+    challenges: &[u32],
+    pos: Pos,
+) -> Pos
+    requires layer { ⌜ (1 ≤ n) × (4 * 2 ^ n ≤ eq) × (4 * eq + 2 * 2 ^ n ≤ length (now work)) ⌝ }
+    requires room { ⌜ (4 * n ≤ length (now xi)) × (pos .put + logUpTo n ≤ length (now log) + logUpTo 1) × Enough (now challenges) pos (usedUpTo n - usedUpTo 1) ⌝ }
+    requires clean { ⌜ Clean (now work) × Clean (now xi) ⌝ }
+    ensures run { λ r. ⌜ ((f : ℕ → Fraction E.Ext) (g : ℕ) → n ≡ suc g → Levels f (now (work .entry)) n 1 → AllLayers f (now (xi .entry)) (now (xi .exit)) (now (log .entry)) (now (log .exit)) (supplied (now (challenges .entry))) n g pos r) ⌝ }
+    ensures rest { λ r. ⌜ (drop (r .put) (now (log .exit)) ≡ drop (r .put) (now (log .entry))) × (r .put + logUpTo 1 ≡ pos .put + logUpTo n) × (r .used + usedUpTo 1 ≡ pos .used + usedUpTo n) × Clean (now (xi .exit)) × Clean (now (work .exit)) ⌝ }
+{
+    let mut p = pos;
+    let mut size = 2;
+    for round in 1..n {
+        p = gkr_round(work, eq, round, size, xi, log, challenges, p);
+        size = 2 * size;
+    }
+    p
+}

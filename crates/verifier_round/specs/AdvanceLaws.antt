@@ -1,0 +1,77 @@
+-- No second answer and no second log fit the end of a layer. Of the point only the coordinates so far are said: it is an array of the caller's own. A lent slice keeps its length.
+-- Assumes nothing.
+use mathlib.Core.Path.{_≡_, refl, sym, _∙_, ap, ap₂}
+use mathlib.Core.List.{List, [], _++_}
+use Prim.Native.Nat.{ℕ}
+use native.Mathlib.Omega.{arith}
+use lib.ListN.{length, drop, take-append-drop}
+use lib.Seq.{length-take-le}
+use Rattle.field.specs.Ext as E
+use Rattle.field.specs.Element.{dec, Canon}
+use Rattle.field.specs.ElementLaws.{is-unique}
+use Rattle.field.specs.declared.Ext.{Ext}
+use Rattle.field.specs.Cells.{cells}
+use Rattle.multilinear.specs.RoundSum.{Claims}
+use Rattle.gkr.specs.Run.{Frac, Cubic}
+use Rattle.gkr.specs.Transcripts.{Words, Source}
+use Rattle.gkr.specs.Gkr as Gkr
+use Rattle.gkr.specs.Gkr.{accepted}
+use Rattle.refusal.specs.declared.Refusal.{Refusal}
+use Rattle.transcript.specs.declared.Pos.{Pos}
+use Rattle.transcript.specs.Log.{logOf}
+use Rattle.transcript.specs.LogLaws.{log-unique}
+use Rattle.verifier_round.specs.declared.Layer.{Layer}
+use Rattle.verifier_round.specs.declared.Advance.{Advance}
+use Rattle.verifier_round.specs.declared.Advance.the-variants.{Next, Stopped}
+use Rattle.verifier_round.specs.declared.Verdict.the-variants.{Accepted, Refused}
+use Rattle.verifier_round.specs.Values.{columns}
+use Rattle.verifier_round.specs.Verdicts.{Model, answerOf, loggedBy}
+use Rattle.verifier_round.specs.Rounds.{Goes, Stops, Advances}
+
+-- canonical words that stand for one element
+pub canon-unique : {r s : Ext} → Canon r → Canon s → dec r ≡ dec s → r ≡ s
+canon-unique h k e = is-unique (record { canon = h; value = e }) (record { canon = k; value = refl })
+
+-- what an accepting verdict holds
+pub accepted-parts : (ch : Source E.Ext) {f g : Frac E.Ext} {y z : List E.Ext} {t u : Words} → _≡_ {A = Model ch} (accepted f y t) (accepted g z u) → (f ≡ g) × (y ≡ z) × (t ≡ u)
+accepted-parts ch e = (cc, cc, cc)
+
+pub accepted-or-refused : {a b : Ext} {e : Refusal} → Accepted a b ≡ Refused e → ⊥
+accepted-or-refused h = let z : _≡_ {A = ℕ} 0 1 = cc in omega arith
+
+pub stops-buffer : {lg lg' : List ℕ} {ch : Source E.Ext} {pos : Pos} {w : Model ch} {e : Refusal} → length lg' ≡ length lg → Stops lg lg' ch pos w e → lg' ≡ loggedBy ch w ++ drop (length (loggedBy ch w)) lg
+stops-buffer {lg} {lg'} {ch} {pos} {w} q h =
+    let n : h .end ≡ length (loggedBy ch w) = sym (length-take-le (h .end) lg' (omega (arith, h .room, q))) ∙ ap length (h .log) in
+    sym (take-append-drop (h .end) lg') ∙ ap₂ _++_ (h .log) (h .rest ∙ ap (λ (a : ℕ). drop a lg) n)
+
+pub stops-unique : {lg lg' lg″ : List ℕ} {ch : Source E.Ext} {pos : Pos} {w : Model ch} {e e' : Refusal} → length lg' ≡ length lg → length lg″ ≡ length lg → Stops lg lg' ch pos w e → Stops lg lg″ ch pos w e' → (e ≡ e') × (lg' ≡ lg″)
+stops-unique {e = e} {e' = e'} q q' h k =
+    let r : Refused e ≡ Refused e' = sym (h .answer) ∙ k .answer in
+    (cc, stops-buffer q h ∙ sym (stops-buffer q' k))
+
+module _ (lg : List ℕ) (ch : Source E.Ext) (pos : Pos) (k n m : ℕ) (v : List (List (Cubic E.Ext)) → List (Claims E.Ext) → Model ch) where
+  ends-in : {p l : List ℕ} {s : Layer} → Goes lg l p ch pos k n m v s → v [] [] ≡ accepted (columns s) (cells p 0 k) (logOf l (s .pos))
+  unfolding Gkr.rounds
+  ends-in h = h .verdict [] []
+
+  goes-unique : {lg' lg″ pt' pt″ : List ℕ} {a b : Layer} → Goes lg lg' pt' ch pos k n m v a → Goes lg lg″ pt″ ch pos k n m v b → (a ≡ b) × (cells pt' 0 k ≡ cells pt″ 0 k) × (lg' ≡ lg″)
+  goes-unique {a = a} {b = b} h h' =
+      let e = accepted-parts ch (sym (ends-in h) ∙ ends-in h') in
+      let l = log-unique lg (h .steps .put ∙ sym (h' .steps .put)) (e .2) (h .steps .rest) (h' .steps .rest) in (
+        (λ i. record {
+          pos = l .0 i;
+          numer = canon-unique (h .numer) (h' .numer) (ap (λ (f : Frac E.Ext). f .p) (e .0)) i;
+          denom = canon-unique (h .denom) (h' .denom) (ap (λ (f : Frac E.Ext). f .q) (e .0)) i;
+        }),
+        e .1,
+        l .1,
+      )
+
+  one-way : {p l l' : List ℕ} {a : Layer} {e : Refusal} → Goes lg l p ch pos k n m v a → Stops lg l' ch pos (v [] []) e → ⊥
+  one-way h s = accepted-or-refused (ap (answerOf ch) (sym (ends-in h)) ∙ s .answer)
+
+  pub advances-unique : (lg' lg″ pt' pt″ : List ℕ) (r s : Advance) → length lg' ≡ length lg → length lg″ ≡ length lg → Advances lg lg' pt' ch pos k n m v r → Advances lg lg″ pt″ ch pos k n m v s → (r ≡ s) × (lg' ≡ lg″)
+  advances-unique lg' lg″ pt' pt″ (Next a) (Next b) q q' h h' = let e = goes-unique h h' in (ap Next (e .0), e .2)
+  advances-unique lg' lg″ pt' pt″ (Next a) (Stopped x) q q' h h' = absurd (one-way h (h' [] []))
+  advances-unique lg' lg″ pt' pt″ (Stopped x) (Next b) q q' h h' = absurd (one-way h' (h [] []))
+  advances-unique lg' lg″ pt' pt″ (Stopped x) (Stopped y) q q' h h' = let e = stops-unique q q' (h [] []) (h' [] []) in (ap Stopped (e .0), e .1)
