@@ -5,7 +5,7 @@ use Prim.Native.Nat.{ℕ, _+_, _*_}
 use lib.Dec.{leb}
 use Rattle.gkr.specs.Sizes.{challenges, proof-bytes, point-words}
 use Rattle.refusal.specs.Limits.{maxRounds}
-use Rattle.prover_gate.specs.Refusals.{roundsOf, isSize, logRoom, workRoom}
+use Rattle.sizes.specs.Sizes.{roundsOf, isSize, logRoom, workRoom}
 
 -- the room for so many rounds; for more than are taken it is 0
 abbrev pub taken : ℕ → ℕ → ℕ

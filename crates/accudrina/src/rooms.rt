@@ -11,7 +11,7 @@ pub extern "C" fn accudrina_proof_bytes(rounds: usize) -> usize
     if rounds > MAX_ROUNDS {
         return 0;
     }
-    prover_gate::proof_bytes(rounds)
+    sizes::proof_bytes(rounds)
 }
 
 // The words of the point: four a round.
@@ -33,7 +33,7 @@ pub extern "C" fn accudrina_log_words(rounds: usize, assert_zero: bool) -> usize
     if rounds > MAX_ROUNDS {
         return 0;
     }
-    prover_gate::log_words(assert_zero, rounds)
+    sizes::log_words(assert_zero, rounds)
 }
 
 // The words of the prover's workspace.
@@ -44,7 +44,7 @@ pub extern "C" fn accudrina_workspace_words(rounds: usize) -> usize
     if rounds > MAX_ROUNDS {
         return 0;
     }
-    prover_gate::work_words(rounds, 1 << rounds)
+    sizes::work_words(rounds, 1 << rounds)
 }
 
 // The words of the challenges that a run takes.
@@ -55,7 +55,7 @@ pub extern "C" fn accudrina_challenge_words(rounds: usize) -> usize
     if rounds > MAX_ROUNDS {
         return 0;
     }
-    prover_gate::challenge_words(rounds)
+    sizes::challenge_words(rounds)
 }
 
 // The rounds of so many rows: 0 for no rows and for one, one more than are taken for a number of rows that is refused.
@@ -63,8 +63,8 @@ pub extern "C" fn accudrina_challenge_words(rounds: usize) -> usize
 pub extern "C" fn accudrina_rounds(rows: usize) -> usize
     ensures { λ r. ⌜ r ≡ Rooms.rounds rows ⌝ }
 {
-    if prover_gate::is_size(rows) {
-        return prover_gate::least_size(rows).n;
+    if sizes::is_size(rows) {
+        return sizes::least_size(rows).n;
     }
     MAX_ROUNDS + 1
 }

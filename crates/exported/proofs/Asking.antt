@@ -9,10 +9,11 @@ use lib.Dec.{eqb}
 use Rattle.gkr.specs.Tests.{pass}
 use Rattle.gkr.specs.Sizes.{challenges, point-words, log-words}
 use Rattle.refusal.specs.Limits.{maxRounds}
-use Rattle.prover_gate.specs.Refusals.{Call, roundsOf, isSize, logRoom, shortRoom}
+use Rattle.sizes.specs.Sizes.{roundsOf, isSize, logRoom}
+use Rattle.prover_gate.specs.Refusals.{Call, shortRoom}
 use Rattle.prover.specs.Proved.{Buffers, roomsOf}
 use Rattle.verifier.specs.Verified.{Lent}
-use Rattle.agreement.proofs.Sizing.{rounds-taken, size-taken, counted}
+use Rattle.sizes.specs.SizeLaws.{rounds-taken, size-taken, counted}
 use Rattle.accudrina.specs.Rooms.{logWords, rounds}
 use Rattle.exported.specs.Exported.{Premises}
 use Rattle.exported.specs.Asked.{asked, ForProver, ForVerifier, Sheet, Demand3Asked}

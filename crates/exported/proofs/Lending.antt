@@ -8,7 +8,7 @@ use borrow.Author.Tests.{le-ltb, eqb-false}
 use lib.Dec.{eqb, ltb}
 use Rattle.gkr.specs.Sizes.{log-words}
 use Rattle.refusal.specs.Limits.{maxRounds}
-use Rattle.prover_gate.specs.Refusals.{logRoom}
+use Rattle.sizes.specs.Sizes.{logRoom}
 use Rattle.accudrina.specs.Rooms.{taken}
 use Rattle.accudrina.proofs.RoomLaws.{within}
 use Rattle.exported.specs.Asked.{NotShort}

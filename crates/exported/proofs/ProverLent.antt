@@ -7,12 +7,13 @@ use borrow.Author.Tests.{not-false}
 use Rattle.gkr.specs.Tests.{pass}
 use Rattle.gkr.specs.Sizes as Sizes
 use Rattle.refusal.specs.Limits.{maxRounds}
-use Rattle.prover_gate.specs.Refusals.{Call, rowCount, roundsOf, isSize, logRoom, workRoom, shortRoom}
-use Rattle.prover_gate.proofs.Admitting.{both}
+use Rattle.sizes.specs.Sizes.{rowCount, roundsOf, isSize, logRoom, workRoom}
+use Rattle.prover_gate.specs.Refusals.{Call, shortRoom}
+use Rattle.refusal.specs.TestWays.{both}
 use Rattle.prover.specs.Proved as Prover
 use Rattle.prover.specs.Report.{answerReport}
 use Rattle.prover.proofs.Theorems.{Ends, each-end, each-front}
-use Rattle.agreement.proofs.Sizing.{few-rounds}
+use Rattle.sizes.specs.SizeLaws.{few-rounds}
 use Rattle.exported.specs.Asked.{asked, ForProver, NotShort, ProverNotShort}
 use Rattle.exported.proofs.Lending.{never, lent, other}
 

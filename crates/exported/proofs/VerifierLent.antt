@@ -1,9 +1,9 @@
 -- A verifier's caller who asked is never refused as 4 or 5.
 -- Assumes nothing.
-use mathlib.Core.Path.{_≡_, refl, ap₂, subst}
-use mathlib.Core.Bool.{true, false, not, _||_}
-use Prim.Native.Nat.{ℕ, _*_, _≤_}
-use borrow.Author.Tests.{le-ltb, ltb-false}
+use mathlib.Core.Path.{refl, ap₂}
+use mathlib.Core.Bool.{true, not, _||_}
+use Prim.Native.Nat.{_*_}
+use borrow.Author.Tests.{ltb-false}
 use lib.Dec.{eqb, ltb}
 use lib.ListN.{length, getD}
 use Rattle.field.specs.Ext as E
@@ -18,14 +18,14 @@ use Rattle.wire.specs.Words.{allCanonical}
 use Rattle.stored.specs.Layout.{proofWords}
 use Rattle.stored.specs.Parse as Parse
 use Rattle.stored.specs.Parse.{proofOf}
-use Rattle.prover_gate.specs.Refusals.{logRoom}
+use Rattle.sizes.specs.Sizes.{logRoom}
 use Rattle.verifier_round.specs.Verdicts.{Model, answerOf}
 use Rattle.verifier.specs.Verified as Verifier
 use Rattle.verifier.specs.Verified.{Asked, Lent, needed, fronts}
 use Rattle.verifier.specs.Gates.{verdict}
 use Rattle.verifier_round.specs.Report.{verdictReport}
-use Rattle.exported.specs.Asked.{ForVerifier, NotShort, VerifierNotShort}
-use Rattle.exported.proofs.Lending.{never, fits, lent, log-room, other}
+use Rattle.exported.specs.Asked.{NotShort, VerifierNotShort}
+use Rattle.exported.proofs.Lending.{never, lent, other}
 
 -- what the run answers
 model : (ch : Source E.Ext) (w : Model ch) → NotShort (verdictReport (answerOf ch w) .number)
@@ -42,10 +42,6 @@ module _ (a : Asked) (v : Lent) where
   abbrev Passed : Tested → Type 0
   Passed w = NotShort (verdictReport (fronts a w .answer) .number)
 
-  -- the log of one round or more
-  logged : a .rounds ≤ maxRounds → eqb (a .rounds) 0 ≡ false → ForVerifier (a .rounds) (a .challenges) v → ltb (length (v .log)) (Sizes.log-words true (a .rounds)) ≡ false
-  logged few some h = le-ltb _ _ (subst (λ (k : ℕ). k ≤ length (v .log)) (log-room (a .rounds) some) (fits (a .rounds) (logRoom true (a .rounds)) _ few (h .log)))
-
 pub verifier-not-short : VerifierNotShort
 unfolding Verifier.verified firstOf
 verifier-not-short a v h =
@@ -55,7 +51,7 @@ verifier-not-short a v h =
     either P (ltb maxRounds n) _ _ (λ e. other 11 refl refl) (λ e.
     let few = ltb-false maxRounds n e in
     either P (ltb (length (a .challenges)) (4 * Sizes.challenges n)) _ _ (never (lent n _ _ few (h .challenges))) (λ e3.
-    either P (ltb (length (v .point)) (4 * n) || ltb (length (v .log)) (Sizes.log-words true n)) _ _ (never (ap₂ _||_ (lent n (4 * n) _ few (h .point)) (logged a v few some h))) (λ e4.
+    either P (ltb (length (v .point)) (4 * n) || ltb (length (v .log)) (logRoom true n)) _ _ (never (ap₂ _||_ (lent n (4 * n) _ few (h .point)) (lent n (logRoom true n) _ few (h .log)))) (λ e4.
     either P (not (eqb (getD (a .proof) 0 0) 1)) _ _ (λ e. other 12 refl refl) (λ e5.
     either P (not (Parse.fits (a .proof))) _ _ (λ e. other 13 refl refl) (λ e6.
     either P (not (allCanonical (proofWords (proofOf (a .proof))))) _ _ (λ e. other 6 refl refl) (λ e7.

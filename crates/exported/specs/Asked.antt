@@ -10,7 +10,8 @@ use Rattle.gkr.specs.Sizes as Sizes
 use Rattle.refusal.specs.Limits.{maxRounds}
 use Rattle.wire.specs.Words.{allCanonical}
 use Rattle.prover_tree.specs.Nodes.{node}
-use Rattle.prover_gate.specs.Refusals.{Call, rowCount, degenerate}
+use Rattle.sizes.specs.Sizes.{rowCount}
+use Rattle.prover_gate.specs.Refusals.{Call, degenerate}
 use Rattle.prover.specs.Proved.{Buffers}
 use Rattle.verifier.specs.Verified as Verifier
 use Rattle.verifier.specs.Verified.{Lent}

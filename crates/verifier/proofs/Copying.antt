@@ -1,16 +1,12 @@
--- Sizes for few rounds stay small, and a copy one word further.
+-- A copy, one word further.
 -- Assumes nothing.
 use mathlib.Core.Path.{_≡_, sym, _∙_, ap, ap₂}
 use mathlib.Core.List.{List, _++_}
-use Prim.Native.Nat.{ℕ, suc, _+_, _*_, _-_, _<_, _≤_}
-use native.Mathlib.Nat.{mul-le-mul}
+use Prim.Native.Nat.{ℕ, suc, _+_, _<_}
 use native.Mathlib.Numerals.{add-one}
 use native.Mathlib.Omega.{arith}
 use lib.ListN.{length, getD, take, drop, set}
 use lib.Seq.{paste-suc}
-
-pub square-small : (n k : ℕ) → n ≤ 10 → k ≤ 10 → n * k ≤ 100
-square-small n k h l = mul-le-mul h l
 
 pub copy-next : (s d : List ℕ) (j : ℕ) → j < length d → j < length s → set (take j s ++ drop j d) j (getD s j 0) ≡ take (j + 1) s ++ drop (j + 1) d
 copy-next s d j h l =

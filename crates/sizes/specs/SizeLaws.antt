@@ -1,4 +1,4 @@
--- Rounds are never more than the limit, and a sheet of 2 ^ n rows takes n.
+-- Rounds are never more than the limit, 2 ^ n rows take n of them, and no second size fits.
 -- Assumes nothing.
 use mathlib.Core.Path.{_≡_, refl, sym, _∙_, ap}
 use mathlib.Core.Bool.{Bool, true, false, cond, _||_}
@@ -8,12 +8,13 @@ use Prim.Native.Nat.{ℕ, zero, suc, _+_, _*_, _%_, _/_, _^_, _<_, _≤_}
 use native.Mathlib.Nat.{eq-or-lt-of-le, pow-succ', one-le-pow, pow-le-pow-right}
 use native.Mathlib.Bridge.{le-by-compare, IsLe}
 use native.Mathlib.Omega.{arith}
-use borrow.Author.Tests.{le-leb, lt-leb, eq-eqb}
+use borrow.Author.Tests.{le-leb, lt-leb, eq-eqb, ne-eqb, eqb-true}
 use lib.Dec.{eqb, leb}
 use lib.ListN.{length}
-use Rattle.refusal.specs.Limits.{maxRounds, maxRows}
 use Rattle.gkr.specs.Tests.{pass, fail}
-use Rattle.prover_gate.specs.Refusals.{rowCount, roundsFrom, roundsOf, isSize}
+use Rattle.refusal.specs.Limits.{maxRounds}
+use Rattle.sizes.specs.declared.Size.{Size}
+use Rattle.sizes.specs.Sizes.{rowCount, roundsFrom, roundsOf, isSize}
 
 -- never more than the limit
 atmost : (b : Bool) (k x most : ℕ) → k ≤ most → x ≤ most → cond b k x ≤ most
@@ -63,8 +64,10 @@ pub size-taken : (n : ℕ) → n ≤ maxRounds → isSize (2 ^ n) ≡ true
 unfolding isSize
 size-taken n h = either (eqb (2 ^ n) 0) (eqb (2 ^ n) (2 ^ roundsOf (2 ^ n))) (eq-eqb (2 ^ n) (2 ^ roundsOf (2 ^ n)) (ap (λ k. 2 ^ k) (sym (rounds-taken n h))))
 
-pub rows-taken : (n : ℕ) → n ≤ maxRounds → 2 ^ n ≤ maxRows
-rows-taken n h = grows h
+-- a size that is not 0 is the power of two
+pub some-size : (count : ℕ) → isSize count ≡ true → (count ≡ 0 → ⊥) → count ≡ 2 ^ roundsOf count
+unfolding isSize
+some-size count h z = eqb-true _ _ (rw (ne-eqb count 0 z) at h)
 
 module _ (rows : List ℕ) (n : ℕ) (h : length rows ≡ 8 * 2 ^ n) where
   pub whole : length rows % 8 ≡ 0
@@ -72,3 +75,10 @@ module _ (rows : List ℕ) (n : ℕ) (h : length rows ≡ 8 * 2 ^ n) where
 
   pub counted : rowCount rows ≡ 2 ^ n
   counted = omega arith
+
+-- NO SECOND SIZE
+
+pub size-unique : (count : ℕ) {r s : Size} → (r .n ≡ roundsOf count) × (r .rows ≡ 2 ^ r .n) × (r .n ≤ maxRounds) → (s .n ≡ roundsOf count) × (s .rows ≡ 2 ^ s .n) × (s .n ≤ maxRounds) → r ≡ s
+size-unique count h k =
+    let e = h .0 ∙ sym (k .0) in
+    λ i. record { n = e i; rows = (h .1 ∙ ap (λ (n : ℕ). 2 ^ n) e ∙ sym (k .1)) i }

@@ -1,11 +1,11 @@
-use Rattle.prover_gate.proofs.Sizing.{size-none, size-some}
+use Rattle.sizes.proofs.Sizing.{size-none, size-some}
 use native.Mathlib.Omega.{arith}
 use borrow.Author.Needs.{needs}
-use Rattle.prover_gate.proofs.is_size.Statement.{statement}
-use Rattle.prover_gate.proofs.is_size.Tie as tie
-use Rattle.prover_gate.proofs.is_size.Reads as reads
-use Rattle.prover_gate.proofs.is_size.Lts as lts
-use Rattle.prover_gate.proofs.least_size.Reads as least-size-reads
+use Rattle.sizes.proofs.is_size.Statement.{statement}
+use Rattle.sizes.proofs.is_size.Tie as tie
+use Rattle.sizes.proofs.is_size.Reads as reads
+use Rattle.sizes.proofs.is_size.Lts as lts
+use Rattle.sizes.proofs.least_size.Reads as least-size-reads
 
 returns : tie.Need-returns
 returns c = size-none _ (c .if1 .taken)

@@ -1,10 +1,11 @@
-use Rattle.prover_gate.proofs.Sizing.{log-none, log-asserted, log-open, square-small}
+use Rattle.sizes.specs.LimitLaws.{square-small}
+use Rattle.sizes.proofs.Sizing.{log-none, log-asserted, log-open}
 use native.Mathlib.Omega.{arith}
 use borrow.Author.Needs.{needs}
-use Rattle.prover_gate.proofs.log_words.Statement.{statement}
-use Rattle.prover_gate.proofs.log_words.Tie as tie
-use Rattle.prover_gate.proofs.log_words.Reads as reads
-use Rattle.prover_gate.proofs.log_words.Lts as lts
+use Rattle.sizes.proofs.log_words.Statement.{statement}
+use Rattle.sizes.proofs.log_words.Tie as tie
+use Rattle.sizes.proofs.log_words.Reads as reads
+use Rattle.sizes.proofs.log_words.Lts as lts
 
 returns : tie.Need-returns
 returns c = log-none _ _ (c .if1 .taken)

@@ -1,17 +1,16 @@
--- Sizes: the least number of rounds, the formulas of document 01 for small n, and the rooms.
+-- The least number of rounds, and the formulas of document 01.
 -- Assumes nothing.
 use mathlib.Core.Path.{_≡_, refl, sym, _∙_, ap}
 use mathlib.Core.Bool.{Bool, true, false}
 use Prim.Native.Nat.{ℕ, zero, suc, _+_, _*_, _-_, _^_, _<_, _≤_}
-use native.Mathlib.Nat.{mul-le-mul, pow-succ', pow-le-pow-right}
-use native.Mathlib.Bridge.{le-by-compare, IsLe}
+use native.Mathlib.Nat.{pow-succ'}
 use native.Mathlib.Numerals.{add-one}
 use native.Mathlib.Omega.{arith}
-use borrow.Author.Tests.{lt-ltb, le-ltb, le-leb, lt-leb, eq-eqb, ne-eqb}
-use lib.Dec.{eqb, ltb}
+use borrow.Author.Tests.{le-leb, lt-leb, eq-eqb, ne-eqb}
+use lib.Dec.{eqb}
 use Rattle.gkr.specs.Sizes.{challenges, proof-bytes}
 use Rattle.refusal.specs.Limits.{maxRounds}
-use Rattle.prover_gate.specs.Refusals.{Rooms, roundsFrom, roundsOf, isSize, logRoom, workRoom, shortRoom}
+use Rattle.sizes.specs.Sizes.{roundsFrom, roundsOf, isSize, logRoom, workRoom}
 
 -- THE LEAST NUMBER OF ROUNDS
 
@@ -54,17 +53,7 @@ pub size-some : (count n rows : ℕ) → (count ≡ 0 → ⊥) → n ≡ roundsO
 unfolding isSize
 size-some count n rows h e p = rw (ne-eqb count 0 h) (ap (eqb count) (p ∙ ap (λ k. 2 ^ k) e))
 
--- THE FORMULAS, for n up to the limit
-
-pub square-small : (n : ℕ) → n ≤ maxRounds → n * n ≤ 100
-square-small n h = mul-le-mul {n₂ = 10} {m₂ = 10} h h
-
-pub pair-small : (n : ℕ) → n ≤ maxRounds → n * (n - 1) ≤ 90
-pair-small n h = mul-le-mul {n₂ = 10} {m₂ = 9} h (omega arith)
-
-pub pow-small : (n : ℕ) → n ≤ maxRounds → 2 ^ n ≤ 1024
-unfolding IsLe
-pow-small n h = pow-le-pow-right (le-by-compare 1 2 tt) h
+-- THE FORMULAS
 
 pub challenges-none : (n : ℕ) → n ≡ 0 → 0 ≡ 4 * challenges n
 challenges-none n h = ap (λ k. 4 * challenges k) (sym h)
@@ -93,24 +82,3 @@ work-none n h = ap workRoom (sym h)
 pub work-some : (n rows : ℕ) → (n ≡ 0 → ⊥) → rows ≡ 2 ^ n → 32 * rows ≡ workRoom n
 work-some zero rows h e = absurd (h refl)
 work-some (suc m) rows h e = ap (λ k. 32 * k) e
-
--- THE ROOMS
-
-module _ (b : Bool) (n : ℕ) (r : Rooms) {p : ℕ} (pe : p ≡ proof-bytes n) where
-  pub short-proof : r .proof < p → true ≡ shortRoom b n r
-  unfolding shortRoom
-  short-proof h = rw (lt-ltb _ _ (rw pe at h))
-
-  module _ (h1 : p ≤ r .proof) where
-    pub short-point : r .point < 4 * n → true ≡ shortRoom b n r
-    unfolding shortRoom
-    short-point h = rw (le-ltb _ _ (rw pe at h1), lt-ltb _ _ h)
-
-    module _ (h2 : 4 * n ≤ r .point) {l : ℕ} (le : l ≡ logRoom b n) where
-      pub short-log : r .log < l → true ≡ shortRoom b n r
-      unfolding shortRoom
-      short-log h = rw (le-ltb _ _ (rw pe at h1), le-ltb _ _ h2, lt-ltb _ _ (rw le at h))
-
-      pub short-work : l ≤ r .log → {w : ℕ} → w ≡ workRoom n → ltb (r .work) w ≡ shortRoom b n r
-      unfolding shortRoom
-      short-work h3 we = rw (le-ltb _ _ (rw pe at h1), le-ltb _ _ h2, le-ltb _ _ (rw le at h3), we)

@@ -1,12 +1,13 @@
 use Prim.Native.Nat.{_-_}
 use Rattle.refusal.specs.Limits.{maxRounds}
-use Rattle.prover_gate.proofs.Sizing.{Seeking, seek-none, seek-next, seek-here, seek-end, pow-small}
+use Rattle.sizes.specs.LimitLaws.{rows-taken}
+use Rattle.sizes.proofs.Sizing.{Seeking, seek-none, seek-next, seek-here, seek-end}
 use borrow.Author.Needs.{needs}
 use native.Mathlib.Omega.{arith}
-use Rattle.prover_gate.proofs.least_size.Statement.{statement}
-use Rattle.prover_gate.proofs.least_size.Tie as tie
-use Rattle.prover_gate.proofs.least_size.Reads as reads
-use Rattle.prover_gate.proofs.least_size.Lts as lts
+use Rattle.sizes.proofs.least_size.Statement.{statement}
+use Rattle.sizes.proofs.least_size.Tie as tie
+use Rattle.sizes.proofs.least_size.Reads as reads
+use Rattle.sizes.proofs.least_size.Lts as lts
 
 abbrev Inv-loop : tie.InvT-loop
 Inv-loop count n₀ rows₀ n rows = Seeking count n rows
@@ -21,7 +22,7 @@ returns : tie.Need-returns Inv-loop μ-loop
 returns c = (seek-here _ _ _ (c .before .loop-test .taken) (c .if1 .taken) (c .before .before .loop .inv), c .before .before .loop .inv .pow, c .before .before .loop .inv .few)
 
 mul-rows : tie.Need-mul-rows Inv-loop μ-loop
-mul-rows c = omega (arith, c .before .before .loop .inv .pow, pow-small (c .before .before .loop .n) (c .before .before .loop .inv .few))
+mul-rows c = omega (arith, c .before .before .loop .inv .pow, rows-taken (c .before .before .loop .n) (c .before .before .loop .inv .few))
 
 add-n : tie.Need-add-n Inv-loop μ-loop
 add-n c = search needs

@@ -1,10 +1,11 @@
-use Rattle.prover_gate.proofs.Sizing.{challenges-none, pair-small}
+use Rattle.sizes.specs.LimitLaws.{pair-small}
+use Rattle.sizes.proofs.Sizing.{challenges-none}
 use native.Mathlib.Omega.{arith}
 use borrow.Author.Needs.{needs}
-use Rattle.prover_gate.proofs.challenge_words.Statement.{statement}
-use Rattle.prover_gate.proofs.challenge_words.Tie as tie
-use Rattle.prover_gate.proofs.challenge_words.Reads as reads
-use Rattle.prover_gate.proofs.challenge_words.Lts as lts
+use Rattle.sizes.proofs.challenge_words.Statement.{statement}
+use Rattle.sizes.proofs.challenge_words.Tie as tie
+use Rattle.sizes.proofs.challenge_words.Reads as reads
+use Rattle.sizes.proofs.challenge_words.Lts as lts
 
 returns : tie.Need-returns
 returns c = challenges-none _ (c .if1 .taken)

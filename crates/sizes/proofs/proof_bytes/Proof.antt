@@ -1,10 +1,11 @@
-use Rattle.prover_gate.proofs.Sizing.{proof-none, proof-some, pair-small}
+use Rattle.sizes.specs.LimitLaws.{pair-small}
+use Rattle.sizes.proofs.Sizing.{proof-none, proof-some}
 use native.Mathlib.Omega.{arith}
 use borrow.Author.Needs.{needs}
-use Rattle.prover_gate.proofs.proof_bytes.Statement.{statement}
-use Rattle.prover_gate.proofs.proof_bytes.Tie as tie
-use Rattle.prover_gate.proofs.proof_bytes.Reads as reads
-use Rattle.prover_gate.proofs.proof_bytes.Lts as lts
+use Rattle.sizes.proofs.proof_bytes.Statement.{statement}
+use Rattle.sizes.proofs.proof_bytes.Tie as tie
+use Rattle.sizes.proofs.proof_bytes.Reads as reads
+use Rattle.sizes.proofs.proof_bytes.Lts as lts
 
 returns : tie.Need-returns
 returns c = proof-none _ (c .if1 .taken)
