@@ -9,7 +9,8 @@ use lib.Dec.{eqb, ltb}
 use Rattle.gkr.specs.Sizes.{log-words}
 use Rattle.refusal.specs.Limits.{maxRounds}
 use Rattle.prover_gate.specs.Refusals.{logRoom}
-use Rattle.accudrina.specs.Rooms.{taken}
+use Rattle.accudrina.specs.Modes.{ASSERT-ZERO, has}
+use Rattle.accudrina.specs.Rooms.{taken, logWords}
 use Rattle.accudrina.proofs.RoomLaws.{within}
 use Rattle.exported.specs.Asked.{NotShort}
 
@@ -23,10 +24,11 @@ fits n room have few h = subst (λ (k : ℕ). k ≤ have) (within n room few) h
 pub lent : (n room have : ℕ) → n ≤ maxRounds → taken n room ≤ have → ltb have room ≡ false
 lent n room have few h = le-ltb have room (fits n room have few h)
 
--- one round or more
-pub log-room : (n : ℕ) → eqb n 0 ≡ false → logRoom true n ≡ log-words true n
-log-room zero h = never h refl
-log-room (suc m) h = refl
+-- the log of one round or more, where zero is asserted
+pub log-lent : (n have : ℕ) → n ≤ maxRounds → eqb n 0 ≡ false → logWords n ASSERT-ZERO ≤ have → log-words true n ≤ have
+unfolding has
+log-lent zero have few h l = never h refl
+log-lent (suc m) have few h l = fits (suc m) (logRoom true (suc m)) have few l
 
 pub other : (k : ℕ) → eqb k 4 ≡ false → eqb k 5 ≡ false → NotShort k
 other k h l = record { challenges = eqb-false k 4 h; room = eqb-false k 5 l }
