@@ -1,6 +1,8 @@
 // How much room a run asks for, so that a caller can size buffers: 0 for more rounds than are taken.
 ghost use mathlib.Core.Path.{_≡_};
 ghost use Rattle.accudrina.specs.Rooms as Rooms;
+use crate::modes::ASSERT_ZERO;
+use crate::modes::has;
 use refusal::MAX_ROUNDS;
 
 // The bytes of a stored proof of so many rounds.
@@ -25,15 +27,15 @@ pub extern "C" fn accudrina_point_words(rounds: usize) -> usize
     4 * rounds
 }
 
-// The words of the log: four more where the sum is observed, since zero is not asserted.
+// The words of the log in these modes: four more where the sum is observed, since zero is not asserted; other bits are not looked at.
 #[no_mangle]
-pub extern "C" fn accudrina_log_words(rounds: usize, assert_zero: bool) -> usize
-    ensures { λ r. ⌜ r ≡ Rooms.logWords rounds «assert_zero» ⌝ }
+pub extern "C" fn accudrina_log_words(rounds: usize, modes: u32) -> usize
+    ensures { λ r. ⌜ r ≡ Rooms.logWords rounds modes ⌝ }
 {
     if rounds > MAX_ROUNDS {
         return 0;
     }
-    sizes::log_words(assert_zero, rounds)
+    sizes::log_words(has(modes, ASSERT_ZERO), rounds)
 }
 
 // The words of the prover's workspace.
