@@ -2,7 +2,7 @@
 -- Assumes nothing.
 use mathlib.Core.Bool.{Bool, cond, not, _&&_, _||_}
 use mathlib.Core.List.{List, [], _∷_}
-use Prim.Native.Nat.{ℕ, zero, suc, _*_, _%_}
+use Prim.Native.Nat.{ℕ, zero, suc, _*_, _%_, _^_}
 use lib.Dec.{eqb, ltb}
 use lib.ListN.{length, take}
 use Rattle.field.specs.Ext as E
@@ -65,7 +65,7 @@ tests c r =
 unfoldable pub firstRefusal : Call → Rooms → Tested
 firstRefusal c r = firstOf (tests c r)
 
--- as the code answers it
-abbrev pub asGate : Tested → Gate
-asGate passed = Open
-asGate (refused e) = Shut e
+-- as the code answers it, with the size of so many rows
+abbrev pub asGate : (count : ℕ) → Tested → Gate
+asGate count passed = Open (record { n = roundsOf count; rows = 2 ^ roundsOf count })
+asGate count (refused e) = Shut e

@@ -4,14 +4,16 @@ ghost use Prim.Native.Nat.{_*_, _^_, _≤_};
 ghost use lib.ListN.{length};
 ghost use Rattle.field.specs.Cells.{Clean};
 ghost use Rattle.refusal.specs.Limits.{maxRounds};
+ghost use Rattle.sizes.specs.Sizes.{rowCount};
 ghost use Rattle.step.specs.Values.{decFrac};
 ghost use Rattle.prover_gate.specs.Refusals.{shortRoom, degenerate, lowest, call, rooms, firstRefusal, asGate};
 use refusal::Refusal;
 use sizes::Size;
 use step::Frac;
 
+// Open tells the size of the sheet.
 pub enum Gate {
-    Open,
+    Open(Size),
     Shut(Refusal),
 }
 
@@ -71,7 +73,8 @@ pub fn first_refusal(
     log: usize,
     work: usize,
 ) -> Gate
-    ensures { λ r. ⌜ r ≡ asGate (firstRefusal (call (now (rows .entry)) live asserted (now (challenges .entry))) (rooms proof point log work)) ⌝ }
+    ensures { λ r. ⌜ r ≡ asGate (rowCount (now (rows .entry)))
+        (firstRefusal (call (now (rows .entry)) live asserted (now (challenges .entry))) (rooms proof point log work)) ⌝ }
 {
     let count = rows.len() / 8;
     if rows.len() % 8 != 0 {
@@ -80,10 +83,10 @@ pub fn first_refusal(
     if refusal::MAX_ROWS < count {
         return Gate::Shut(Refusal::TooManyRows);
     }
-    if !sizes::is_size(count) {
+    let size = sizes::least_size(count);
+    if !sizes::fills(count, size) {
         return Gate::Shut(Refusal::NotPowerOfTwo);
     }
-    let size = sizes::least_size(count);
     let need = sizes::challenge_words(size.n);
     if challenges.len() < need {
         return Gate::Shut(Refusal::ShortChallenges);
@@ -98,11 +101,11 @@ pub fn first_refusal(
         return Gate::Shut(Refusal::BadWord);
     }
     if !live {
-        return Gate::Open;
+        return Gate::Open(size);
     }
     let row = lowest_row(rows, count);
     if row < count {
         return Gate::Shut(Refusal::ZeroDenominator { row });
     }
-    Gate::Open
+    Gate::Open(size)
 }
