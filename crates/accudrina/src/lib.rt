@@ -35,13 +35,12 @@ pub extern "C" fn accudrina_prove(
     answer: &mut [u32; 16],
 ) -> u32
     ensures { λ r. ⌜ record { told = record { number = r; words = now (answer .exit) }; buffers = lent (now (proof .exit)) (now (point .exit)) (now (log .exit)) (now (work .exit)) }
-        ≡ proving (call (now (rows .entry)) live «assert_zero» (now (challenges .entry)))
+        ≡ proving (call (now (rows .entry)) (record { live = live; «assert_zero» = «assert_zero» }) (now (challenges .entry)))
         (lent (now (proof .entry)) (now (point .entry)) (now (log .entry)) (now (work .entry))) ⌝ }
 {
     let proved = prover::fractional_sumcheck(
         rows,
-        live,
-        assert_zero,
+        refusal::Proving { live, assert_zero },
         challenges,
         proof,
         point,

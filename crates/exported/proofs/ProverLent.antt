@@ -21,11 +21,11 @@ use Rattle.exported.proofs.Lending.{never, lent, other}
 none : {p q r s : Bool} → p ≡ false → q ≡ false → r ≡ false → s ≡ false → (p || (q || (r || s))) ≡ false
 none p q r s = λ i. p i || (q i || (r i || s i))
 
-pub roomy : (c : Call) (b : Prover.Buffers) (n : ℕ) → n ≤ maxRounds → ForProver n c b → shortRoom (c .asserted) n (Prover.roomsOf b) ≡ false
+pub roomy : (c : Call) (b : Prover.Buffers) (n : ℕ) → n ≤ maxRounds → ForProver n c b → shortRoom (c .modes .«assert_zero») n (Prover.roomsOf b) ≡ false
 unfolding shortRoom
 roomy c b n few asks =
     none (lent n (Sizes.proof-bytes n) _ few (asks .proof)) (lent n (Sizes.point-words n) _ few (asks .point))
-    (lent n (logRoom (c .asserted) n) _ few (asks .log)) (lent n (workRoom n) _ few (asks .work))
+    (lent n (logRoom (c .modes .«assert_zero») n) _ few (asks .log)) (lent n (workRoom n) _ few (asks .work))
 
 abbrev Fine : Prover.Outcome → Type 0
 Fine f = NotShort (answerReport (f .answer) .number)
@@ -50,4 +50,4 @@ prover-not-short c b h =
     both (λ e. other 6 refl refl) (λ u6.
     both (λ e. other 6 refl refl) (λ u7.
     both (λ e. other 7 refl refl) (λ u8.
-    each-end Fine (c .rows) (c .asserted) (c .challenges) n (ends n))))))))))
+    each-end Fine (c .rows) (c .modes .«assert_zero») (c .challenges) n (ends n))))))))))

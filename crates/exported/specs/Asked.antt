@@ -28,7 +28,7 @@ asked c = rounds (rowCount (c .rows))
 pub record ForProver (n : ℕ) (c : Call) (b : Buffers) : Type 0 where
   pub proof : proofBytes n ≤ length (b .proof)
   pub point : pointWords n ≤ length (b .point)
-  pub log : logWords n (c .asserted) ≤ length (b .log)
+  pub log : logWords n (c .modes .«assert_zero») ≤ length (b .log)
   pub work : workspaceWords n ≤ length (b .work)
   pub challenges : challengeWords n ≤ length (c .challenges)
 
@@ -59,8 +59,8 @@ pub record Sheet (c : Call) (n : ℕ) : Type 0 where
   pub rows : length (c .rows) ≡ 8 * 2 ^ n
   pub valid-rows : allCanonical (c .rows) ≡ true
   pub valid-challenges : allCanonical (take (4 * Sizes.challenges n) (c .challenges)) ≡ true
-  pub checked : c .live ≡ true → (i : ℕ) → i < 2 ^ n → degenerate (node (c .rows) i) ≡ false
-  pub asserted : c .asserted ≡ true
+  pub checked : c .modes .live ≡ true → (i : ℕ) → i < 2 ^ n → degenerate (node (c .rows) i) ≡ false
+  pub asserted : c .modes .«assert_zero» ≡ true
   pub zero-sum : root c n .p ≡ E.nil
 
 abbrev pub Demand3Asked : Type 0

@@ -31,7 +31,7 @@ handed c n P v = verifying (asked (take (proof-bytes n) (P .buffers .proof)) n (
 -- DEMAND 3'S PREMISES: a sheet that is taken, zero asserted, the root numerator zero, every buffer long enough
 pub record Premises (c : Call) (n : ℕ) (b : Buffers) (v : Lent) : Type 0 where
   pub taken : Taken c n
-  pub asserted : c .asserted ≡ true
+  pub asserted : c .modes .«assert_zero» ≡ true
   pub zero-sum : root c n .p ≡ E.nil
   pub room : Room true n b v
 

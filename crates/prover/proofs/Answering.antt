@@ -155,16 +155,16 @@ module _ (c : Call) (r : Rooms) {g : Gate} {s : Size} (h : g ≡ asGate (rowCoun
   opened : (firstRefusal c r ≡ passed) × (s ≡ record { n = roundsOf (rowCount (c .rows)); rows = 2 ^ roundsOf (rowCount (c .rows)) })
   opened = told-open _ (firstRefusal c r) s (sym k ∙ h)
 
-  pub gate-told : Opens (c .rows) (c .asserted) (c .challenges) r (s .n) (s .rows)
-  gate-told = subst (λ z. Opens (c .rows) (c .asserted) (c .challenges) r (z .n) (z .rows)) (sym (opened .1)) (gate-opens c r (opened .0))
+  pub gate-told : Opens (c .rows) (c .modes .«assert_zero») (c .challenges) r (s .n) (s .rows)
+  gate-told = subst (λ z. Opens (c .rows) (c .modes .«assert_zero») (c .challenges) r (z .n) (z .rows)) (sym (opened .1)) (gate-opens c r (opened .0))
 
 pub proved-shut : (c : Call) (b : Buffers) {g : Gate} {e : Refusal} → g ≡ asGate (rowCount (c .rows)) (firstRefusal c (roomsOf b)) → g ≡ Shut e → laid (untouched e) b ≡ proved c b
 unfolding proved fronts
 proved-shut c b {e = e} h s = ap (λ t. laid (entered c t) b) (sym (told-shut _ (firstRefusal c (roomsOf b)) e (sym s ∙ h)))
 
 pub proved-open : (c : Call) (b : Buffers) {g : Gate} {s : Size} {o : Outcome} → g ≡ asGate (rowCount (c .rows)) (firstRefusal c (roomsOf b)) → g ≡ Open s
-    → o ≡ laid (ran (c .rows) (c .asserted) (c .challenges) (s .n)) b → o ≡ proved c b
+    → o ≡ laid (ran (c .rows) (c .modes .«assert_zero») (c .challenges) (s .n)) b → o ≡ proved c b
 unfolding proved fronts
 proved-open c b h k q =
     let z = opened c (roomsOf b) h k in
-    q ∙ ap (λ s. laid (ran (c .rows) (c .asserted) (c .challenges) (s .n)) b) (z .1) ∙ ap (λ t. laid (entered c t) b) (sym (z .0))
+    q ∙ ap (λ s. laid (ran (c .rows) (c .modes .«assert_zero») (c .challenges) (s .n)) b) (z .1) ∙ ap (λ t. laid (entered c t) b) (sym (z .0))

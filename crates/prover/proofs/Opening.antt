@@ -30,14 +30,14 @@ or-right : (a b : Bool) → (a || b) ≡ false → b ≡ false
 or-right true b h = let z : _≡_ {A = ℕ} 0 1 = cc in absurd (omega arith)
 or-right false b h = h
 
-pub gate-opens : (c : Call) (r : Rooms) → firstRefusal c r ≡ passed → let n = roundsOf (rowCount (c .rows)) in Opens (c .rows) (c .asserted) (c .challenges) r n (2 ^ n)
+pub gate-opens : (c : Call) (r : Rooms) → firstRefusal c r ≡ passed → let n = roundsOf (rowCount (c .rows)) in Opens (c .rows) (c .modes .«assert_zero») (c .challenges) r n (2 ^ n)
 unfolding firstRefusal shortRoom
 gate-opens c r h =
     let n = roundsOf (rowCount (c .rows)) in
     let p1 = passed-all (tests c r) h in
     let p3 = p1 .1 .1 in
     let p5 = p3 .1 .1 in
-    let s1 : shortRoom (c .asserted) n r ≡ false = p5 .0 in
+    let s1 : shortRoom (c .modes .«assert_zero») n r ≡ false = p5 .0 in
     let s2 = or-right (ltb (r .proof) (Sizes.proof-bytes n)) _ s1 in
     let s3 = or-right (ltb (r .point) (Sizes.point-words n)) _ s2 in
     let e : length (c .rows) % 8 ≡ 0 = eqb-true _ _ (not-false _ (p1 .0)) in
@@ -50,8 +50,8 @@ gate-opens c r h =
       challenges = ltb-false _ _ (p3 .1 .0);
       proof = ltb-false _ _ (or-left (ltb (r .proof) (Sizes.proof-bytes n)) _ s1);
       point = ltb-false _ _ (or-left (ltb (r .point) (Sizes.point-words n)) _ s2);
-      log = ltb-false _ _ (or-left (ltb (r .log) (logRoom (c .asserted) n)) _ s3);
-      work = ltb-false _ _ (or-right (ltb (r .log) (logRoom (c .asserted) n)) _ s3);
+      log = ltb-false _ _ (or-left (ltb (r .log) (logRoom (c .modes .«assert_zero») n)) _ s3);
+      work = ltb-false _ _ (or-right (ltb (r .log) (logRoom (c .modes .«assert_zero») n)) _ s3);
       clean = record { below = canonical-below (c .rows) (not-false _ (p5 .1 .0)) };
       supplied = record { below = canonical-below _ (not-false _ (p5 .1 .1 .0)) };
     }

@@ -24,6 +24,7 @@ ghost use Rattle.prover.specs.Inner.{Written, Room, Opens};
 ghost use Rattle.prover.specs.Report.{answerReport};
 use field::Ext;
 use prover_gate::Gate;
+use refusal::Proving;
 use refusal::Refusal;
 use refusal::Report;
 use sizes::Size;
@@ -165,12 +166,11 @@ fn admitted(
     )
 }
 
-// Proves that the fractions of a sheet sum up, over lent buffers: row words, live or sandbox, zero asserted or not, challenge words;
+// Proves that the fractions of a sheet sum up, over lent buffers: row words, how they are proved, challenge words;
 // rooms for the proof's bytes, the point, the log, and a workspace.
 pub fn fractional_sumcheck(
     rows: &[u32],
-    live: bool,
-    assert_zero: bool,
+    modes: Proving,
     challenges: &[u32],
     proof: &mut [u8],
     point: &mut [u32],
@@ -178,13 +178,12 @@ pub fn fractional_sumcheck(
     work: &mut [u32],
 ) -> Answer
     ensures { λ r. ⌜ outcome r (now (proof .exit)) (now (point .exit)) (now (log .exit)) (now (work .exit))
-        ≡ proved (call (now (rows .entry)) live «assert_zero» (now (challenges .entry)))
+        ≡ proved (call (now (rows .entry)) modes (now (challenges .entry)))
         (lent (now (proof .entry)) (now (point .entry)) (now (log .entry)) (now (work .entry))) ⌝ }
 {
     let gate = prover_gate::first_refusal(
         rows,
-        live,
-        assert_zero,
+        modes,
         challenges,
         proof.len(),
         point.len(),
@@ -193,7 +192,16 @@ pub fn fractional_sumcheck(
     );
     match gate {
         Gate::Shut(r) => Answer::Refused(r),
-        Gate::Open(size) => admitted(rows, size, assert_zero, challenges, proof, point, log, work),
+        Gate::Open(size) => admitted(
+            rows,
+            size,
+            modes.assert_zero,
+            challenges,
+            proof,
+            point,
+            log,
+            work,
+        ),
     }
 }
 

@@ -100,12 +100,12 @@ module _ (c : Call) (r : Rooms) where
         pub refuse-4 : length (c .challenges) < need → Tells (Shut ShortChallenges)
         refuse-4 h = shut 3 ShortChallenges (p1, (p2, (p3, (ap (ltb (length (c .challenges))) (sym d) ∙ lt-ltb _ _ h, refl))))
 
-        module _ (h4 : need ≤ length (c .challenges)) {t : Bool} (te : t ≡ shortRoom (c .asserted) (z .n) r) where
+        module _ (h4 : need ≤ length (c .challenges)) {t : Bool} (te : t ≡ shortRoom (c .modes .«assert_zero») (z .n) r) where
           p4 : ltb (length (c .challenges)) (4 * challenges (roundsOf count)) ≡ false
           p4 = ap (ltb (length (c .challenges))) (sym d) ∙ le-ltb _ _ h4
 
-          room : shortRoom (c .asserted) (roundsOf count) r ≡ t
-          room = ap (λ k. shortRoom (c .asserted) k r) (sym (ze .0)) ∙ sym te
+          room : shortRoom (c .modes .«assert_zero») (roundsOf count) r ≡ t
+          room = ap (λ k. shortRoom (c .modes .«assert_zero») k r) (sym (ze .0)) ∙ sym te
 
           pub refuse-5 : t ≡ true → Tells (Shut ShortRoom)
           refuse-5 h = shut 4 ShortRoom (p1, (p2, (p3, (p4, (room ∙ h, refl)))))
@@ -122,14 +122,14 @@ module _ (c : Call) (r : Rooms) where
               refuse-6' h = shut 6 BadWord (p1, (p2, (p3, (p4, (room ∙ h5, (ap not (sym ue ∙ h6), (words ∙ ap not h, refl)))))))
 
               module _ (h7 : v ≡ true) where
-                passes : (c .live && ltb low count) ≡ false → Tells (Open z)
+                passes : (c .modes .live && ltb low count) ≡ false → Tells (Open z)
                 passes h = opened (p1, (p2, (p3, (p4, (room ∙ h5, (ap not (sym ue ∙ h6), (words ∙ ap not h7, (h, tt)))))))) ze
 
-                pub sandbox-passes : c .live ≡ false → Tells (Open z)
+                pub sandbox-passes : c .modes .live ≡ false → Tells (Open z)
                 sandbox-passes h = passes (ap (λ b. b && ltb low count) h)
 
-                module _ (h8 : c .live ≡ true) {row : ℕ} (e : row ≡ low) where
-                  row-test : (c .live && ltb low count) ≡ ltb row count
+                module _ (h8 : c .modes .live ≡ true) {row : ℕ} (e : row ≡ low) where
+                  row-test : (c .modes .live && ltb low count) ≡ ltb row count
                   row-test = ap (λ b. b && ltb low count) h8 ∙ ap (λ k. ltb k count) (sym e)
 
                   pub refuse-7 : row < count → Tells (Shut (ZeroDenominator row))

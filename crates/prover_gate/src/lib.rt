@@ -7,6 +7,7 @@ ghost use Rattle.refusal.specs.Limits.{maxRounds};
 ghost use Rattle.sizes.specs.Sizes.{rowCount};
 ghost use Rattle.step.specs.Values.{decFrac};
 ghost use Rattle.prover_gate.specs.Refusals.{shortRoom, degenerate, lowest, call, rooms, firstRefusal, asGate};
+use refusal::Proving;
 use refusal::Refusal;
 use sizes::Size;
 use step::Frac;
@@ -65,8 +66,7 @@ fn lowest_row(rows: &[u32], count: usize) -> usize
 // The first refusal that fits. The last four numbers are the rooms: proof bytes, and words of point, log and workspace.
 pub fn first_refusal(
     rows: &[u32],
-    live: bool,
-    asserted: bool,
+    modes: Proving,
     challenges: &[u32],
     proof: usize,
     point: usize,
@@ -74,7 +74,7 @@ pub fn first_refusal(
     work: usize,
 ) -> Gate
     ensures { λ r. ⌜ r ≡ asGate (rowCount (now (rows .entry)))
-        (firstRefusal (call (now (rows .entry)) live asserted (now (challenges .entry))) (rooms proof point log work)) ⌝ }
+        (firstRefusal (call (now (rows .entry)) modes (now (challenges .entry))) (rooms proof point log work)) ⌝ }
 {
     let count = rows.len() / 8;
     if rows.len() % 8 != 0 {
@@ -91,7 +91,7 @@ pub fn first_refusal(
     if challenges.len() < need {
         return Gate::Shut(Refusal::ShortChallenges);
     }
-    if short_room(size, asserted, proof, point, log, work) {
+    if short_room(size, modes.assert_zero, proof, point, log, work) {
         return Gate::Shut(Refusal::ShortRoom);
     }
     if !wire::canonical_words(rows) {
@@ -100,7 +100,7 @@ pub fn first_refusal(
     if !wire::canonical_words(&challenges[..need]) {
         return Gate::Shut(Refusal::BadWord);
     }
-    if !live {
+    if !modes.live {
         return Gate::Open(size);
     }
     let row = lowest_row(rows, count);

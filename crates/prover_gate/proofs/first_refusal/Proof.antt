@@ -64,23 +64,23 @@ returns-7 c =
 
 returns-8 : tie.Need-returns-8
 returns-8 c =
-    let w = c .before .before in let u = w .before .before .before in let t = u .before .before in let k = t .before .before in let s = k .before .before in let z = s .before in
-    sandbox-passes _ _ (z .before .before .if1 .left) (z .before .if2 .left) (s .fills .ensures) (not-false _ (k .before .if3 .left)) (z .least-size .ensures) (k .challenge-words .ensures) (t .before .if4 .left) (t .short-room .ensures) (u .before .if5 .left) (u .canonical-words .ensures) (not-false _ (w .before .before .if6 .left)) (w .canonical-words2 .ensures) (not-false _ (c .before .if7 .left)) (not-true _ (c .if8 .taken))
+    let w = c .before .before .before in let u = w .before .before .before in let t = u .before .before in let k = t .before .before in let s = k .before .before in let z = s .before in
+    sandbox-passes _ _ (z .before .before .if1 .left) (z .before .if2 .left) (s .fills .ensures) (not-false _ (k .before .if3 .left)) (z .least-size .ensures) (k .challenge-words .ensures) (t .before .if4 .left) (t .short-room .ensures) (u .before .if5 .left) (u .canonical-words .ensures) (not-false _ (w .before .before .if6 .left)) (w .canonical-words2 .ensures) (not-false _ (c .before .before .if7 .left)) (not-true _ (c .if8 .taken))
 
 lowest-row-requires : tie.Need-lowest-row-requires
 lowest-row-requires c κs =
-    let u = c .before .before .before .before .before in
-    (omega arith, record { below = canonical-below _ (sym (u .canonical-words .ensures) ∙ not-false _ (c .before .before .before .before .if6 .left)) })
+    let u = c .before .before .before .before .before .before in
+    (omega arith, record { below = canonical-below _ (sym (u .canonical-words .ensures) ∙ not-false _ (c .before .before .before .before .before .if6 .left)) })
 
 returns-9 : tie.Need-returns-9
 returns-9 c =
-    let l = c .before in let v = l .before in let w = v .before .before in let u = w .before .before .before in let t = u .before .before in let k = t .before .before in let s = k .before .before in let z = s .before in
-    refuse-7 _ _ (z .before .before .if1 .left) (z .before .if2 .left) (s .fills .ensures) (not-false _ (k .before .if3 .left)) (z .least-size .ensures) (k .challenge-words .ensures) (t .before .if4 .left) (t .short-room .ensures) (u .before .if5 .left) (u .canonical-words .ensures) (not-false _ (w .before .before .if6 .left)) (w .canonical-words2 .ensures) (not-false _ (v .before .if7 .left)) (not-false _ (v .if8 .left)) (l .lowest-row .ensures) (c .if9 .taken)
+    let l = c .before in let v = l .before in let w = v .before .before .before in let u = w .before .before .before in let t = u .before .before in let k = t .before .before in let s = k .before .before in let z = s .before in
+    refuse-7 _ _ (z .before .before .if1 .left) (z .before .if2 .left) (s .fills .ensures) (not-false _ (k .before .if3 .left)) (z .least-size .ensures) (k .challenge-words .ensures) (t .before .if4 .left) (t .short-room .ensures) (u .before .if5 .left) (u .canonical-words .ensures) (not-false _ (w .before .before .if6 .left)) (w .canonical-words2 .ensures) (not-false _ (v .before .before .if7 .left)) (not-false _ (v .if8 .left)) (l .lowest-row .ensures) (c .if9 .taken)
 
 returns-10 : tie.Need-returns-10
 returns-10 c =
-    let l = c .before in let v = l .before in let w = v .before .before in let u = w .before .before .before in let t = u .before .before in let k = t .before .before in let s = k .before .before in let z = s .before in
-    live-passes _ _ (z .before .before .if1 .left) (z .before .if2 .left) (s .fills .ensures) (not-false _ (k .before .if3 .left)) (z .least-size .ensures) (k .challenge-words .ensures) (t .before .if4 .left) (t .short-room .ensures) (u .before .if5 .left) (u .canonical-words .ensures) (not-false _ (w .before .before .if6 .left)) (w .canonical-words2 .ensures) (not-false _ (v .before .if7 .left)) (not-false _ (v .if8 .left)) (l .lowest-row .ensures) (c .if9 .left)
+    let l = c .before in let v = l .before in let w = v .before .before .before in let u = w .before .before .before in let t = u .before .before in let k = t .before .before in let s = k .before .before in let z = s .before in
+    live-passes _ _ (z .before .before .if1 .left) (z .before .if2 .left) (s .fills .ensures) (not-false _ (k .before .if3 .left)) (z .least-size .ensures) (k .challenge-words .ensures) (t .before .if4 .left) (t .short-room .ensures) (u .before .if5 .left) (u .canonical-words .ensures) (not-false _ (w .before .before .if6 .left)) (w .canonical-words2 .ensures) (not-false _ (v .before .before .if7 .left)) (not-false _ (v .if8 .left)) (l .lowest-row .ensures) (c .if9 .left)
 
 pub first-refusal-spec : {M : Type 1} → statement M
 first-refusal-spec =
