@@ -4,8 +4,7 @@ ghost use Rattle.prover_gate.specs.Refusals.{call};
 ghost use Rattle.prover.specs.Proved.{lent};
 ghost use Rattle.verifier.specs.Verified.{asked, lent as again};
 ghost use Rattle.accudrina.specs.Calls.{reading, proving, provingTaken, verifying, verifyingTaken, evaluating};
-use modes::ASSERT_ZERO;
-use modes::LIVE;
+use refusal::Proving;
 
 mod answer; // the sixteen words
 mod modes; // the bits of a word
@@ -28,8 +27,7 @@ pub extern "C" fn accudrina_read_sheet(
 // A sheet's proof, point and log, in modes that are taken.
 fn prove_taken(
     rows: &[u32],
-    live: bool,
-    assert_zero: bool,
+    modes: Proving,
     challenges: &[u32],
     proof: &mut [u8],
     point: &mut [u32],
@@ -38,19 +36,10 @@ fn prove_taken(
     answer: &mut [u32; 16],
 ) -> u32
     ensures { λ r. ⌜ record { told = record { number = r; words = now (answer .exit) }; buffers = lent (now (proof .exit)) (now (point .exit)) (now (log .exit)) (now (work .exit)) }
-        ≡ provingTaken (call (now (rows .entry)) live «assert_zero» (now (challenges .entry)))
+        ≡ provingTaken (call (now (rows .entry)) modes (now (challenges .entry)))
         (lent (now (proof .entry)) (now (point .entry)) (now (log .entry)) (now (work .entry))) ⌝ }
 {
-    let proved = prover::fractional_sumcheck(
-        rows,
-        live,
-        assert_zero,
-        challenges,
-        proof,
-        point,
-        log,
-        work,
-    );
+    let proved = prover::fractional_sumcheck(rows, modes, challenges, proof, point, log, work);
     answer::tell(prover::number_and_values(proved), answer)
 }
 
@@ -74,19 +63,8 @@ pub extern "C" fn accudrina_prove(
     if untaken != 0 {
         return answer::tell(modes::unknown_mode(untaken), answer);
     }
-    let live = modes::has(modes, LIVE);
-    let assert_zero = modes::has(modes, ASSERT_ZERO);
-    prove_taken(
-        rows,
-        live,
-        assert_zero,
-        challenges,
-        proof,
-        point,
-        log,
-        work,
-        answer,
-    )
+    let proving = modes::proving(modes);
+    prove_taken(rows, proving, challenges, proof, point, log, work, answer)
 }
 
 // What the verifier says of a proof, in modes that are taken.

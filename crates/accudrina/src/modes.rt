@@ -4,6 +4,7 @@ ghost use mathlib.Core.List.{[], _∷_};
 ghost use Prim.Native.Nat.{_≤_};
 ghost use Rattle.accudrina.specs.Modes as Modes;
 use field::Ext;
+use refusal::Proving;
 use refusal::Report;
 
 // A row over zero is refused.
@@ -36,6 +37,16 @@ pub fn untaken_by_prover(modes: u32) -> u32
     ensures { λ r. ⌜ r ≡ Modes.untaken (Modes.LIVE ∷ Modes.ASSERT-ZERO ∷ []) modes ⌝ }
 {
     without(without(modes, LIVE), ASSERT_ZERO)
+}
+
+// The modes of proving that a word says.
+pub fn proving(modes: u32) -> Proving
+    ensures { λ r. ⌜ r ≡ Modes.provingOf modes ⌝ }
+{
+    Proving {
+        live: has(modes, LIVE),
+        assert_zero: has(modes, ASSERT_ZERO),
+    }
 }
 
 // The number 28, with the bits that are not taken.

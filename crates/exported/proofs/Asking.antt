@@ -39,7 +39,7 @@ module _ (c : Call) (n : ℕ) (b : Buffers) (v : Lent) (s : Sheet c n) where
       record {
         sheet = s;
         room = record {
-          prover = ap (λ a. shortRoom a n (roomsOf b)) (sym (read-back (c .live) (c .asserted) .zero-asserted ∙ s .asserted)) ∙ roomy (wordOf c) (c .challenges) b n few h;
+          prover = ap (λ a. shortRoom a n (roomsOf b)) (sym (ap (λ m. m .«assert_zero») (read-back (c .modes) .modes) ∙ s .asserted)) ∙ roomy (wordOf c) (c .challenges) b n few h;
           point-again = fits n (point-words n) _ few (k .point);
           log-again = subst (λ (w : ℕ). w ≤ length (v .log)) (log-room n one-or-more) (log-lent n _ few (omega (arith, k .log)));
         };
