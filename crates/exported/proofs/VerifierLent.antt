@@ -19,6 +19,7 @@ use Rattle.wire.specs.Words.{allCanonical}
 use Rattle.stored.specs.Layout.{proofWords}
 use Rattle.stored.specs.Parse as Parse
 use Rattle.stored.specs.Parse.{proofOf}
+use Rattle.sizes.specs.Sizes.{logRoom}
 use Rattle.verifier_round.specs.Verdicts.{Model, answerOf}
 use Rattle.verifier.specs.Verified as Verifier
 use Rattle.verifier.specs.Verified.{Asked, Lent, asked, needed, fronts}
