@@ -8,7 +8,7 @@ use native.Mathlib.Numerals.{add-one}
 use native.Mathlib.Omega.{arith}
 use borrow.Author.Tests.{eqb-true, eq-eqb, leb-true, le-leb}
 use lib.Dec.{eqb, leb}
-use lib.ListN.{length, getD, take, drop, length-drop}
+use lib.ListN.{length, getD, take, drop, length-drop, length-append}
 use lib.Seq.{drop-cons, drop-drop, getD-drop, take-all}
 use Rattle.refusal.specs.Limits.{maxRows}
 use Rattle.refusal.specs.Powers.{powerOfTwo}
@@ -70,6 +70,30 @@ pub read-ok : (bs : List ℕ) (room n : ℕ) → IsRead bs room n → readAnswer
 unfolding readAnswer
 read-ok bs room n r =
     rw (eq-eqb (getD bs 0 0) 1 (r .version), eq-eqb (3 + 32 * rowCount bs) (length bs) (r .size), le-leb (rowCount bs) maxRows (r .most), r .power, le-leb (8 * rowCount bs) room (r .room), r .canonical) (ap Done (r .count))
+
+-- what is read of a sheet, by the reader's end: its buffer begins with the rows
+answered : (a : SheetAnswer) (ws old : List ℕ) → ended a ws old .answer ≡ a
+answered (Done n) ws old = refl
+answered (Refused e) ws old = refl
+
+module _ (bs old new : List ℕ) (n : ℕ) {r : SheetAnswer} (e : _≡_ {A = SheetEnd} (record { answer = r; buffer = new }) (sheetRead bs old)) (d : r ≡ Done n) where
+  done : readAnswer bs (length old) ≡ Done n
+  done = sym (answered (readAnswer bs (length old)) (rowWords bs) old) ∙ sym (ap (λ o. o .answer) e) ∙ d
+
+  pub is-read : IsRead bs (length old) n
+  is-read = read-done bs (length old) n done
+
+  pub read-front : new ≡ rowWords bs ++ drop (length (rowWords bs)) old
+  read-front = ap (λ o. o .buffer) e ∙ ap (λ x. ended x (rowWords bs) old .buffer) done
+
+  pub read-long : length (rowWords bs) ≡ 8 * n
+  read-long = words-length (8 * rowCount bs) (drop 3 bs) ∙ ap (λ k. 8 * k) (is-read .count)
+
+  pub read-most : n ≤ maxRows
+  read-most = omega (arith, is-read .most, is-read .count)
+
+  pub read-fits : 8 * n ≤ length new
+  read-fits = let l = ap length read-front ∙ length-append (rowWords bs) (drop (length (rowWords bs)) old) in omega (arith, read-long, l)
 
 -- rows that are written
 pub record IsWritten (ws : List ℕ) (space n : ℕ) : Type 0 where
