@@ -23,7 +23,7 @@ fn second_difference(e0: Ext, e1: Ext, e2: Ext) -> Ext
     e2.minus(e1).minus(e1.minus(e0))
 }
 
-// interpolate_quadratic_at_012 by forward differences: two products, and one by the inverse of 2.
+// interpolate_quadratic_at_012 by forward differences, e0 + x·(d1 + (x - 1)·d2/2): two products, and one by the inverse of 2.
 pub fn quadratic_at(e0: Ext, e1: Ext, e2: Ext, x: Ext) -> Ext
     requires { ⌜ Canon e0 × Canon e1 × Canon e2 × Canon x ⌝ }
     ensures { λ r. ⌜ Is r (Interpolate.quadratic Extension (dec e0) (dec e1) (dec e2) (dec x)) ⌝ }
@@ -34,7 +34,7 @@ pub fn quadratic_at(e0: Ext, e1: Ext, e2: Ext, x: Ext) -> Ext
     half_d2.times_plus(x.minus(Ext::ONE), d1).times_plus(x, e0)
 }
 
-// interpolate_cubic_at_0123 by forward differences: three products, one by the inverse of 2 and one by the inverse of 6.
+// interpolate_cubic_at_0123 by forward differences, e0 + x·(d1 + (x - 1)·(d2/2 + (x - 2)·d3/6)): three products, one by the inverse of 2 and one by the inverse of 6.
 pub fn cubic_at(e0: Ext, e1: Ext, e2: Ext, e3: Ext, x: Ext) -> Ext
     requires { ⌜ Canon e0 × Canon e1 × Canon e2 × Canon e3 × Canon x ⌝ }
     ensures { λ r. ⌜ Is r (Interpolate.cubic Extension (dec e0) (dec e1) (dec e2) (dec e3) (dec x)) ⌝ }
