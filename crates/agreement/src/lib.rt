@@ -13,8 +13,8 @@ use field::Ext;
 use prover::Answer;
 use refusal::Refusal;
 use refusal::Report;
-use verifier_round::Verdict;
 use step::Frac;
+use verifier_round::Verdict;
 
 // What the prover is done with and what the verifier makes of its proof; or the prover's refusal.
 pub enum Joint {

@@ -5,8 +5,8 @@ use answers::print_accepted;
 use answers::print_number;
 use answers::print_sum;
 use refusal::Refusal;
-use verifier_round::Verdict;
 use stored_sheet::SheetAnswer;
+use verifier_round::Verdict;
 
 // `refused` and the refusal's number.
 pub fn print_refusal(refusal: Refusal) {

@@ -12,12 +12,12 @@ ghost use Rattle.verifier_round.specs.declared.Verdict.the-variants.{Accepted};
 ghost use Rattle.verifier.specs.Verified.{asked, lent, outcome, verified};
 ghost use Rattle.verifier.specs.Gates.{wordsGate, Gated, Opened, Ready, Counted, pointLeft, answered};
 use refusal::Refusal;
-use verifier_round::Advance;
-use verifier_round::Layer;
-use verifier_round::Verdict;
 use stored::Outline;
 use stored::Shape;
 use transcript::Pos;
+use verifier_round::Advance;
+use verifier_round::Layer;
+use verifier_round::Verdict;
 
 // What the checks before the run answer.
 pub enum Gate {

@@ -14,10 +14,10 @@ ghost use Rattle.verifier_round.specs.Values.{decCubic, CanonCubic, CanonClaims
 ghost use Rattle.verifier_round.specs.Rounds.{SubRound};
 ghost use Rattle.verifier_rounds.specs.Runs.{Summed, RoundDone, Readable, Space, LayersEnd, RootEnd};
 use refusal::Refusal;
+use transcript::Pos;
 use verifier_round::Advance;
 use verifier_round::Layer;
 use verifier_round::Sums;
-use transcript::Pos;
 
 // One sub-round, whose message stands at a place of the proof.
 fn sub_round_at(
