@@ -135,13 +135,14 @@ decide a b = go (E.same a b) refl
 
 inverse : (a : Ext) → ¬ (a ≡ E.nil) → (b : Ext) × (E.mul a b ≡ E.one)
 inverse a h =
-    let i = base-field .inverse (norm a) (λ e. h (norm-nil a e)) in
-    (E.mul (others a) (emb (i .0)),
-    sym (ExtRing .mul-assoc a (others a) (emb (i .0)))
-    ∙ ap (λ t. E.mul t (emb (i .0))) (norm-is a)
-    ∙ sym (emb-mul (norm a) (i .0))
-    ∙ ap emb (i .1)
-    ∙ (unfold E.one in refl))
+    let i = base-field .inverse (norm a) (λ e. h (norm-nil a e)) in (
+      E.mul (others a) (emb (i .0)),
+      sym (ExtRing .mul-assoc a (others a) (emb (i .0)))
+          ∙ ap (λ t. E.mul t (emb (i .0))) (norm-is a)
+          ∙ sym (emb-mul (norm a) (i .0))
+          ∙ ap emb (i .1)
+          ∙ (unfold E.one in refl),
+    )
 
 pub ext-field : IsField ExtRing
 ext-field = record { decide = decide; inverse = inverse }
