@@ -107,10 +107,16 @@ module _ (R : CommRing) where
   sum-step : (x : A) (n : ℕ) → sum (suc (suc n)) (term x (suc n)) ≡ x * sum (suc n) (term x n) + sum (suc n) (term x n)
   sum-step x n =
       first-term (suc n) (term x (suc n))
-      ∙ ap₂ _+_ (term-first x (suc n)) (sum-below R (suc n) _ _ (λ k l. term-step x n k) ∙ sum-add R (suc n) _ _ ∙ ap (λ t. t + sum (suc n) (λ k. term x n (suc k))) (sum-mul R (suc n) x (term x n)))
+      ∙ ap₂ _+_ (term-first x (suc n)) spread
       ∙ swap _ _ _
       ∙ ap (λ t. x * sum (suc n) (term x n) + t) (all-terms x n)
     where
+      spread : sum (suc n) (λ k. term x (suc n) (suc k)) ≡ x * sum (suc n) (term x n) + sum (suc n) (λ k. term x n (suc k))
+      spread =
+          sum-below R (suc n) _ _ (λ k l. term-step x n k)
+          ∙ sum-add R (suc n) _ _
+          ∙ ap (λ t. t + sum (suc n) (λ k. term x n (suc k))) (sum-mul R (suc n) x (term x n))
+
       swap : (a b c : A) → a + (b + c) ≡ b + (a + c)
       swap a b c = ring R (a ∷ b ∷ c ∷ []) (search quote) tt
 
