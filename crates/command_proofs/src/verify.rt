@@ -14,7 +14,7 @@ fn verify_with(proof: &[u8], rounds: usize, challenges: &[u32], counted: bool, s
     match verifier::verify_gkr(proof, rounds, challenges, &mut point, &mut log) {
         Verdict::Accepted { numer, denom } => {
             answers::print_accepted(numer, denom, &point, rounds);
-            print_notes(claims::is_over_zero(proof), counted);
+            print_notes(stored::is_over_zero(proof), counted);
             compare_sheet(sheet, &point, rounds, Frac { p: numer, q: denom });
         }
         Verdict::Refused(refusal) => print_refusal(refusal),

@@ -25,6 +25,11 @@ pub fn most_rows() -> usize
     MAX_ROWS
 }
 
+// How a proof is verified: whether a root over zero is refused.
+pub struct Verifying {
+    pub live: bool,
+}
+
 pub enum Refusal {
     RaggedRows,
     TooManyRows,
@@ -66,6 +71,7 @@ pub enum Refusal {
         expected: Ext,
         actual: Ext,
     },
+    ZeroRoot,
 }
 
 // A refusal as document 01's table has it: its number, its plain fields and its elements in order, zero where it has none.
@@ -153,6 +159,7 @@ pub fn number_and_fields(refusal: Refusal) -> Report
             expected,
             actual,
         } => element_report(19, round, expected, actual),
+        Refusal::ZeroRoot => plain_report(27, 0, 0, 0),
     }
 }
 
