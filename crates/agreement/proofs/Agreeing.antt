@@ -28,7 +28,8 @@ use Rattle.stored.specs.ParseLaws.{parse-reads}
 use Rattle.stored.specs.RoundTrip.{write-read}
 use Rattle.stored.specs.Elements.{encoded, decoded}
 use Rattle.prover_tree.specs.Nodes.{node}
-use Rattle.prover_gate.specs.Refusals.{Call, rowCount, roundsOf}
+use Rattle.sizes.specs.Sizes.{rowCount, roundsOf}
+use Rattle.prover_gate.specs.Refusals.{Call}
 use Rattle.prover.specs.Proved as Prover
 use Rattle.prover.specs.declared.Answer.the-variants.{Done}
 use Rattle.verifier.specs.Verified as Verifier

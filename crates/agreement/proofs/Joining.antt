@@ -12,7 +12,8 @@ use Rattle.refusal.specs.Limits.{maxRounds}
 use Rattle.refusal.specs.Tests.{Tested, passed, refused}
 use Rattle.refusal.specs.declared.Refusal.{Refusal}
 use Rattle.step.specs.declared.Frac.{Frac}
-use Rattle.prover_gate.specs.Refusals.{Call, rowCount, roundsOf, firstRefusal}
+use Rattle.sizes.specs.Sizes.{rowCount, roundsOf}
+use Rattle.prover_gate.specs.Refusals.{Call, firstRefusal}
 use Rattle.prover.specs.Proved as Prover
 use Rattle.prover.specs.Proved.{Buffers, roomsOf, entered, fronts, proved}
 use Rattle.prover.proofs.Theorems.{Ends, each-end, done-refused}
@@ -26,7 +27,7 @@ use Rattle.verifier_round.specs.declared.Verdict.{Verdict}
 use Rattle.agreement.specs.declared.Joint.the-variants.{Proved, Refused}
 use Rattle.agreement.specs.Demand3.{Taken, root, Room, verdict, Agreed}
 use Rattle.agreement.specs.Together.{Joined, follow, ended, together, joined, Agrees}
-use Rattle.agreement.proofs.Sizing.{few-rounds}
+use Rattle.sizes.specs.SizeLaws.{few-rounds}
 use Rattle.agreement.proofs.Agreeing.{demand-3}
 
 -- WHAT DONE TELLS: the gate was open, and n is the rounds of the rows

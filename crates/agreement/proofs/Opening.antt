@@ -12,13 +12,15 @@ use Rattle.refusal.specs.Limits.{maxRows}
 use Rattle.refusal.specs.Tests.{passed}
 use Rattle.refusal.specs.TestLaws.{all-passed}
 use Rattle.wire.specs.Words.{allCanonical}
-use Rattle.prover_gate.specs.Refusals.{Call, rowCount, roundsOf, isSize, shortRoom, lowest, tests, firstRefusal}
-use Rattle.prover_gate.proofs.Admitting.{both}
+use Rattle.sizes.specs.Sizes.{rowCount, roundsOf, isSize}
+use Rattle.prover_gate.specs.Refusals.{Call, shortRoom, lowest, tests, firstRefusal}
+use Rattle.refusal.specs.TestWays.{both}
 use Rattle.prover.specs.Proved.{Buffers, roomsOf}
 use Rattle.prover.proofs.Modes.{lowest-none}
 use Rattle.verifier.specs.Verified.{Lent}
 use Rattle.agreement.specs.Demand3.{Taken, Room}
-use Rattle.agreement.proofs.Sizing.{rounds-taken, size-taken, rows-taken, whole, counted}
+use Rattle.sizes.specs.SizeLaws.{rounds-taken, size-taken, whole, counted}
+use Rattle.sizes.specs.LimitLaws.{rows-taken}
 
 module _ (c : Call) (m : ℕ) (b : Buffers) (v : Lent) (h : Taken c (suc m)) (r : Room (c .asserted) (suc m) b v) where
   rounds-are : roundsOf (rowCount (c .rows)) ≡ suc m

@@ -86,7 +86,7 @@ pub fn prove_and_verify(
         work,
     ) {
         Answer::Done { rounds, sum } => {
-            let size = prover_gate::proof_bytes(rounds);
+            let size = sizes::proof_bytes(rounds);
             let verdict = verifier::verify_gkr(
                 &proof[..size],
                 rounds,

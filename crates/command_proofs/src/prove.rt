@@ -16,7 +16,7 @@ fn proof_length(rounds: usize) -> usize {
     if rounds > refusal::MAX_ROUNDS {
         return 0;
     }
-    prover_gate::proof_bytes(rounds)
+    sizes::proof_bytes(rounds)
 }
 
 // The proof goes to its file, and then what it is of is printed; whether that was done.

@@ -1,12 +1,11 @@
 -- Each way through the evaluation is the one answer that fits.
 -- Assumes nothing.
 use mathlib.Core.Path.{_≡_, refl, sym, _∙_, ap}
-use mathlib.Core.Bool.{Bool, true, false, _||_}
+use mathlib.Core.Bool.{Bool, true, false}
 use mathlib.Core.List.{List}
 use Prim.Native.Nat.{ℕ, _*_, _%_, _^_, _<_, _≤_}
 use native.Mathlib.Omega.{arith}
-use borrow.Author.Tests.{lt-ltb, le-ltb, eq-eqb, ne-eqb, eqb-true}
-use lib.Dec.{eqb}
+use borrow.Author.Tests.{lt-ltb, le-ltb, eq-eqb, ne-eqb}
 use lib.ListN.{length}
 use Rattle.field.specs.ExtRing.{ExtRing}
 use Rattle.field.specs.ElementLaws.{enc-of-is, zero-is, one-is}
@@ -18,15 +17,11 @@ use Rattle.wire.specs.Words.{allCanonical}
 use Rattle.step.specs.declared.Frac.{Frac as FracW}
 use Rattle.step.specs.Values.{IsFrac}
 use Rattle.prover_tree.specs.Nodes.{node}
-use Rattle.prover_gate.specs.Refusals.{rowCount, roundsOf, isSize}
+use Rattle.sizes.specs.Sizes.{rowCount, roundsOf, isSize}
+use Rattle.sizes.specs.SizeLaws.{some-size}
 use Rattle.evaluation.specs.declared.Evaluation.{Evaluation}
 use Rattle.evaluation.specs.declared.Evaluation.the-variants.{Done, Refused}
 use Rattle.evaluation.specs.Evaluated.{told, noRows, evaluated}
-
--- a size that is not 0 is the power of two
-some-size : (count : ℕ) → isSize count ≡ true → (count ≡ 0 → ⊥) → count ≡ 2 ^ roundsOf count
-unfolding isSize
-some-size count h z = eqb-true _ _ (rw (ne-eqb count 0 z) at h)
 
 module _ (rows point : List ℕ) where
   abbrev count : ℕ

@@ -29,7 +29,8 @@ use Rattle.refusal.specs.Tests.{Tested, passed, refused}
 use Rattle.refusal.specs.Fronts.{over}
 use Rattle.prover_gate.specs.declared.Gate.{Gate}
 use Rattle.prover_gate.specs.declared.Gate.the-variants.{Open, Shut}
-use Rattle.prover_gate.specs.Refusals.{Call, rowCount, roundsOf, workRoom, firstRefusal, asGate}
+use Rattle.sizes.specs.Sizes.{rowCount, roundsOf, workRoom}
+use Rattle.prover_gate.specs.Refusals.{Call, firstRefusal, asGate}
 use Rattle.stored.specs.Layout.{layout}
 use Rattle.stored_writer.specs.Messages.{noRows}
 use Rattle.prover.specs.declared.Answer.{Answer}

@@ -2,12 +2,11 @@
 -- Assumes nothing.
 use mathlib.Core.Path.{_≡_, refl, sym, _∙_, ap, subst}
 use mathlib.Core.Bool.{Bool, true, false, _||_}
-use mathlib.Core.Logic.{_⊎_, inl, inr}
 use mathlib.Core.List.{List}
 use Prim.Native.Nat.{ℕ, zero, suc, _+_, _*_, _-_, _/_, _%_, _^_, _≤_}
 use native.Mathlib.Omega.{arith}
 use borrow.Author.Tests.{not-false, ltb-false, eqb-true}
-use lib.Dec.{eqb, ltb}
+use lib.Dec.{ltb}
 use lib.ListN.{length, take}
 use Rattle.field.specs.Cells.{Clean}
 use Rattle.gkr.specs.Sizes as Sizes
@@ -16,7 +15,9 @@ use Rattle.refusal.specs.Tests.{passed}
 use Rattle.refusal.specs.TestLaws.{passed-all}
 use Rattle.wire.specs.WordLaws.{canonical-below}
 use Rattle.prover_rounds.specs.Layers.{logUpTo, usedUpTo}
-use Rattle.prover_gate.specs.Refusals.{Call, Rooms, rowCount, roundsFrom, roundsOf, isSize, logRoom, workRoom, shortRoom, tests, firstRefusal}
+use Rattle.sizes.specs.Sizes.{rowCount, roundsFrom, roundsOf, logRoom, workRoom}
+use Rattle.sizes.specs.SizeLaws.{some-size}
+use Rattle.prover_gate.specs.Refusals.{Call, Rooms, shortRoom, tests, firstRefusal}
 use Rattle.prover.specs.Inner.{Room, Opens}
 
 -- A GATE THAT IS OPEN
@@ -28,14 +29,6 @@ or-left false b h = refl
 or-right : (a b : Bool) → (a || b) ≡ false → b ≡ false
 or-right true b h = let z : _≡_ {A = ℕ} 0 1 = cc in absurd (omega arith)
 or-right false b h = h
-
-sized : (count : ℕ) → isSize count ≡ true → (roundsOf count ≡ 0) ⊎ (count ≡ 2 ^ roundsOf count)
-unfolding isSize roundsFrom
-sized count h = go (eqb count 0) (eqb-true count 0) h
-  where
-    go : (b : Bool) → (b ≡ true → count ≡ 0) → (b || eqb count (2 ^ roundsOf count)) ≡ true → (roundsOf count ≡ 0) ⊎ (count ≡ 2 ^ roundsOf count)
-    go true z h = inl (ap roundsOf (z refl))
-    go false z h = inr (eqb-true count (2 ^ roundsOf count) h)
 
 pub gate-opens : (c : Call) (r : Rooms) → firstRefusal c r ≡ passed → Opens (c .rows) (c .asserted) (c .challenges) r
 unfolding firstRefusal shortRoom
@@ -50,7 +43,7 @@ gate-opens c r h =
     let e : length (c .rows) % 8 ≡ 0 = eqb-true _ _ (not-false _ (p1 .0)) in
     record {
       words = omega arith;
-      size = sized (rowCount (c .rows)) (not-false _ (p3 .0));
+      size = some-size (rowCount (c .rows)) (not-false _ (p3 .0));
       challenges = ltb-false _ _ (p3 .1 .0);
       proof = ltb-false _ _ (or-left (ltb (r .proof) (Sizes.proof-bytes n)) _ s1);
       point = ltb-false _ _ (or-left (ltb (r .point) (Sizes.point-words n)) _ s2);
@@ -94,11 +87,11 @@ run-room rows asserted ch r (suc m) size need c p x l w O e f z s d ec ep ex el 
 }
 
 pub rows-room : (rows : List ℕ) (asserted : Bool) (ch : List ℕ) (r : Rooms) (n size : ℕ) → Opens rows asserted ch r → n ≡ roundsOf (rowCount rows) → (n ≡ 0 → ⊥) → size ≡ 2 ^ n → 8 * size ≤ length rows
-rows-room rows asserted ch r n size O e z s = go (O .size)
-  where
-    go : (roundsOf (rowCount rows) ≡ 0) ⊎ (rowCount rows ≡ 2 ^ roundsOf (rowCount rows)) → 8 * size ≤ length rows
-    go (inl h) = absurd (z (e ∙ h))
-    go (inr h) = let w = O .words in let q : rowCount rows ≡ size = h ∙ ap (λ k. 2 ^ k) (sym e) ∙ sym s in omega arith
+unfolding roundsFrom
+rows-room rows asserted ch r n size O e z s =
+    let w = O .words in
+    let q : rowCount rows ≡ size = O .size (λ h. z (e ∙ ap roundsOf h)) ∙ ap (λ k. 2 ^ k) (sym e) ∙ sym s in
+    omega arith
 
 -- the needed parts are there
 pub parts-room : (rows : List ℕ) (asserted : Bool) (ch : List ℕ) (r : Rooms) (n size need : ℕ) → Opens rows asserted ch r → n ≡ roundsOf (rowCount rows) → (n ≡ 0 → ⊥) → size ≡ 2 ^ n → need ≡ 4 * Sizes.challenges n

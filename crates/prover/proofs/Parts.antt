@@ -18,7 +18,7 @@ use Rattle.gkr.specs.Gkr as Gkr
 use Rattle.gkr.specs.Gkr.{done, non-zero-root-sum}
 use Rattle.transcript.specs.Log.{Drawing, supplied}
 use Rattle.prover_tree.specs.Nodes.{node}
-use Rattle.prover_gate.specs.Refusals.{rowCount, roundsOf, workRoom}
+use Rattle.sizes.specs.Sizes.{rowCount, roundsOf, workRoom}
 use Rattle.prover.specs.declared.Answer.{Answer}
 use Rattle.refusal.specs.Fronts.{over}
 use Rattle.prover.specs.Proved.{Buffers, Outcome, lent, outcome, laid, after, ran}

@@ -3,7 +3,6 @@
 use mathlib.Core.Path.{_≡_}
 use mathlib.Core.Bool.{Bool, cond}
 use mathlib.Core.List.{List}
-use mathlib.Core.Logic.{_⊎_}
 use Prim.Native.Nat.{ℕ, suc, _+_, _*_, _^_, _<_, _≤_}
 use lib.ListN.{length, take, replicate}
 use Rattle.field.specs.Ext as E
@@ -22,7 +21,8 @@ use Rattle.stored.specs.Elements.{encoded}
 use Rattle.stored.specs.Lengths.{proofSize}
 use Rattle.prover_run.specs.Runs.{begun}
 use Rattle.prover_rounds.specs.Layers.{logUpTo, usedUpTo}
-use Rattle.prover_gate.specs.Refusals.{Rooms, rowCount, roundsOf, logRoom, workRoom}
+use Rattle.sizes.specs.Sizes.{rowCount, roundsOf, logRoom, workRoom}
+use Rattle.prover_gate.specs.Refusals.{Rooms}
 use Rattle.refusal.specs.Fronts.{over}
 use Rattle.prover.specs.Proved.{Buffers}
 
@@ -51,7 +51,7 @@ pub record Room (asserted : Bool) (n size : ℕ) (c p x l w : ℕ) : Type 0 wher
 -- what an open gate tells
 pub record Opens (rows : List ℕ) (asserted : Bool) (ch : List ℕ) (r : Rooms) : Type 0 where
   pub words : length rows ≡ 8 * rowCount rows
-  pub size : (roundsOf (rowCount rows) ≡ 0) ⊎ (rowCount rows ≡ 2 ^ roundsOf (rowCount rows))
+  pub size : (rowCount rows ≡ 0 → ⊥) → rowCount rows ≡ 2 ^ roundsOf (rowCount rows)
   pub challenges : 4 * Sizes.challenges (roundsOf (rowCount rows)) ≤ length ch
   pub proof : Sizes.proof-bytes (roundsOf (rowCount rows)) ≤ r .proof
   pub point : Sizes.point-words (roundsOf (rowCount rows)) ≤ r .point

@@ -17,7 +17,8 @@ ghost use Rattle.transcript.specs.Log.{Drawing, supplied};
 ghost use Rattle.step.specs.Values.{CanonFrac, IsFrac};
 ghost use Rattle.prover_tree.specs.Nodes.{node};
 ghost use Rattle.prover_rounds.specs.Layers.{Levels};
-ghost use Rattle.prover_gate.specs.Refusals.{call, rooms, rowCount, roundsOf};
+ghost use Rattle.sizes.specs.Sizes.{rowCount, roundsOf};
+ghost use Rattle.prover_gate.specs.Refusals.{call, rooms};
 ghost use Rattle.prover.specs.Proved.{lent, outcome, laid, oneRow, after, ran, proved};
 ghost use Rattle.prover.specs.Inner.{Written, Room, Opens};
 ghost use Rattle.prover.specs.Report.{answerReport};
@@ -142,12 +143,12 @@ fn admitted(
         ≡ laid (ran (now (rows .entry)) asserted (now (challenges .entry)) (roundsOf (rowCount (now (rows .entry)))))
         (lent (now (proof .entry)) (now (point .entry)) (now (log .entry)) (now (work .entry))) ⌝ }
 {
-    let size = prover_gate::least_size(rows.len() / 8);
+    let size = sizes::least_size(rows.len() / 8);
     let n = size.n;
     if n == 0 {
         return no_rounds(rows, asserted, proof);
     }
-    let need = prover_gate::challenge_words(n);
+    let need = sizes::challenge_words(n);
     let k = 4 * n;
     let w = 32 * size.rows;
     prove(
@@ -200,18 +201,7 @@ pub fn number_and_values(answer: Answer) -> Report
     ensures { λ r. ⌜ r ≡ answerReport answer ⌝ }
 {
     match answer {
-        Answer::Done { rounds, sum } => {
-            let p = sum.p;
-            let q = sum.q;
-            Report {
-                number: 0,
-                first: rounds,
-                second: 0,
-                third: 0,
-                left: p,
-                right: q,
-            }
-        }
+        Answer::Done { rounds, sum } => refusal::done(rounds, sum.p, sum.q),
         Answer::Refused(r) => refusal::number_and_fields(r),
     }
 }

@@ -23,7 +23,8 @@ use Rattle.step.specs.Values.{IsFrac, decFrac}
 use Rattle.prover_tree.specs.Nodes.{node}
 use Rattle.prover_tree.proofs.Memory.{frac-path}
 use Rattle.prover_gate.specs.declared.Gate.the-variants.{Open, Shut}
-use Rattle.prover_gate.specs.Refusals.{Call, Rooms, rowCount, roundsOf, isSize, shortRoom, degenerate, lowest, tests, firstRefusal, asGate}
+use Rattle.sizes.specs.Sizes.{rowCount, roundsOf, isSize}
+use Rattle.prover_gate.specs.Refusals.{Call, Rooms, shortRoom, degenerate, lowest, tests, firstRefusal, asGate}
 
 -- ROWS OVER ZERO
 
@@ -48,10 +49,6 @@ unfolding lowest
 rows-end rows count i h s = let e : count - i ≡ 0 = omega arith in sym (s ∙ rw e h)
 
 -- THE ORDER
-
--- a pair: one test's fact, and those of the others
-pub both : {A B : Type 0} → A → B → A × B
-both a b = (a, b)
 
 module _ (c : Call) (r : Rooms) where
   abbrev count : ℕ

@@ -12,7 +12,8 @@ use Rattle.domain.specs.Extension.{one-not-nil}
 use Rattle.step.specs.declared.Frac.{Frac}
 use Rattle.refusal.specs.Tests.{Tested, passed, refused}
 use Rattle.refusal.specs.declared.Refusal.the-variants.{ZeroDenominator}
-use Rattle.prover_gate.specs.Refusals.{Call, Rooms, rowCount, firstRefusal}
+use Rattle.sizes.specs.Sizes.{rowCount}
+use Rattle.prover_gate.specs.Refusals.{Call, Rooms, firstRefusal}
 use Rattle.prover.specs.declared.Answer.the-variants.{Done, Refused}
 use Rattle.prover.specs.Proved.{roomsOf, entered, fronts, proved}
 use Rattle.prover.specs.Companions.{in-mode, Sound, Lowest}

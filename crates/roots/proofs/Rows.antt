@@ -12,7 +12,8 @@ use Rattle.field.specs.ExtRing.{same-true, same-of}
 use Rattle.gkr.specs.Run.{Frac}
 use Rattle.domain.specs.Tree.{zero-root}
 use Rattle.prover_tree.specs.Nodes.{node}
-use Rattle.prover_gate.specs.Refusals.{rowCount, degenerate}
+use Rattle.sizes.specs.Sizes.{rowCount}
+use Rattle.prover_gate.specs.Refusals.{degenerate}
 use Rattle.prover.specs.Companions.{Sound, Lowest}
 use Rattle.roots.specs.Roots.{OverZero, RowsAndSum}
 

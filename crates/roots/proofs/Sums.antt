@@ -24,7 +24,8 @@ use Rattle.step.specs.declared.Frac.{Frac as FracW}
 use Rattle.refusal.specs.Tests.{Tested, passed, refused}
 use Rattle.refusal.specs.declared.Refusal.the-variants.{NonZeroRootSum}
 use Rattle.prover_tree.specs.Nodes.{node}
-use Rattle.prover_gate.specs.Refusals.{Call, Rooms, rowCount, roundsOf, firstRefusal}
+use Rattle.sizes.specs.Sizes.{rowCount, roundsOf}
+use Rattle.prover_gate.specs.Refusals.{Call, Rooms, firstRefusal}
 use Rattle.prover.specs.declared.Answer.the-variants.{Done}
 use Rattle.prover.specs.Proved.{Outcome, encFrac, oneRow, after, ran, entered, fronts}
 use Rattle.prover.proofs.Opening.{gate-opens}

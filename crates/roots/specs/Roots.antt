@@ -13,7 +13,8 @@ use Rattle.step.specs.declared.Frac.{Frac}
 use Rattle.refusal.specs.Tests.{passed}
 use Rattle.refusal.specs.declared.Refusal.the-variants.{ZeroDenominator}
 use Rattle.prover_tree.specs.Nodes.{node}
-use Rattle.prover_gate.specs.Refusals.{Call, Rooms, rowCount, firstRefusal}
+use Rattle.sizes.specs.Sizes.{rowCount}
+use Rattle.prover_gate.specs.Refusals.{Call, Rooms, firstRefusal}
 use Rattle.prover.specs.declared.Answer.the-variants.{Done, Refused}
 use Rattle.prover.specs.Proved.{Buffers, fronts, proved}
 use Rattle.prover.specs.Companions.{in-mode, Sound}

@@ -1,18 +1,18 @@
 use Prim.Native.Nat.{_*_}
 use mathlib.Core.Path.{_≡_, refl, sym, _∙_}
 use lib.Seq.{length-take-le}
-use Rattle.prover_gate.proofs.Sizing.{pow-small}
+use Rattle.sizes.specs.LimitLaws.{rows-taken}
 use Rattle.prover.proofs.Opening.{run-room, rows-room, parts-room, supplied-part}
 use Rattle.prover.proofs.Parts.{run-parts, no-parts}
-use Rattle.prover_gate.specs.Refusals.{rowCount, roundsOf}
+use Rattle.sizes.specs.Sizes.{rowCount, roundsOf}
 use native.Mathlib.Omega.{arith}
 use borrow.Author.Needs.{needs}
 use Rattle.prover.proofs.admitted.Statement.{statement}
 use Rattle.prover.proofs.admitted.Tie as tie
 use Rattle.prover.proofs.admitted.Reads as reads
 use Rattle.prover.proofs.admitted.Lts as lts
-use Rattle.prover_gate.proofs.challenge_words.Reads as challenge-words-reads
-use Rattle.prover_gate.proofs.least_size.Reads as least-size-reads
+use Rattle.sizes.proofs.challenge_words.Reads as challenge-words-reads
+use Rattle.sizes.proofs.least_size.Reads as least-size-reads
 use Rattle.prover.proofs.no_rounds.Reads as no-rounds-reads
 use Rattle.prover.proofs.prove.Reads as prove-reads
 
@@ -42,7 +42,7 @@ mul-k c = search needs
 mul-w : tie.Need-mul-w
 mul-w c =
     let z = c .before .before .before .least-size .ensures in
-    omega (arith, z .1, pow-small (c .before .before .before .least-size .result .n) (z .2))
+    omega (arith, z .1, rows-taken (c .before .before .before .least-size .result .n) (z .2))
 
 slice-aggregate-prove : tie.Need-slice-aggregate-prove
 slice-aggregate-prove c =

@@ -9,10 +9,10 @@ use Rattle.prover_gate.proofs.first_refusal.Statement.{statement}
 use Rattle.prover_gate.proofs.first_refusal.Tie as tie
 use Rattle.prover_gate.proofs.first_refusal.Reads as reads
 use Rattle.prover_gate.proofs.first_refusal.Lts as lts
-use Rattle.prover_gate.proofs.challenge_words.Reads as challenge-words-reads
+use Rattle.sizes.proofs.challenge_words.Reads as challenge-words-reads
 use Rattle.prover_gate.proofs.lowest_row.Reads as lowest-row-reads
-use Rattle.prover_gate.proofs.is_size.Reads as is-size-reads
-use Rattle.prover_gate.proofs.least_size.Reads as least-size-reads
+use Rattle.sizes.proofs.is_size.Reads as is-size-reads
+use Rattle.sizes.proofs.least_size.Reads as least-size-reads
 use Rattle.prover_gate.proofs.short_room.Reads as short-room-reads
 use Rattle.wire.proofs.canonical_words.Reads as canonical-words-reads
 
