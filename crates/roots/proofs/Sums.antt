@@ -24,7 +24,7 @@ use Rattle.step.specs.declared.Frac.{Frac as FracW}
 use Rattle.refusal.specs.Tests.{Tested, passed, refused}
 use Rattle.refusal.specs.declared.Refusal.the-variants.{NonZeroRootSum}
 use Rattle.prover_tree.specs.Nodes.{node}
-use Rattle.sizes.specs.Sizes.{rowCount, roundsOf}
+use Rattle.sizes.specs.Sizes.{rowCount, roundsFrom, roundsOf}
 use Rattle.prover_gate.specs.Refusals.{Call, Rooms, firstRefusal}
 use Rattle.prover.specs.declared.Answer.the-variants.{Done}
 use Rattle.prover.specs.Proved.{Outcome, encFrac, oneRow, after, ran, entered, fronts}
@@ -68,10 +68,16 @@ module _ (rows : List ℕ) where
       let needed = supplied (take (4 * challenges (suc m)) ch) in
       after-tells needed m size (Gkr.fractional-sumcheck Extension (Drawing needed) asserted m (node rows) empty) (run-sum needed asserted m)
 
+-- no rounds, or a power of two
+sized : (k : ℕ) → ((k ≡ 0 → ⊥) → k ≡ 2 ^ roundsOf k) → (roundsOf k ≡ 0) ⊎ (k ≡ 2 ^ roundsOf k)
+unfolding roundsFrom
+sized zero h = inl refl
+sized (suc k) h = inr (h (λ e. omega arith))
+
 pub done-sum : (c : Call) (r : Rooms) (n : ℕ) (s : FracW) → fronts c r .answer ≡ Done n s → Told (c .rows) n s
 unfolding fronts
 done-sum c r = go (firstRefusal c r) refl
   where
     go : (t : Tested) → firstRefusal c r ≡ t → Tells (c .rows) (entered c t)
-    go passed h = ran-tells (c .rows) _ _ (roundsOf (rowCount (c .rows))) (gate-opens c r h .size)
+    go passed h = ran-tells (c .rows) _ _ (roundsOf (rowCount (c .rows))) (sized (rowCount (c .rows)) (gate-opens c r h .size))
     go (refused e) h = λ n s d. absurd (done-refused n s e (sym d))

@@ -1,14 +1,16 @@
 -- A proof of elements is got back from its words, and canonical words are got back from their elements; where a root is over zero.
 -- Assumes nothing.
 use mathlib.Core.Path.{_≡_, refl, sym, _∙_, ap, ap₂}
-use mathlib.Core.Bool.{true, false, _&&_}
+use mathlib.Core.Bool.{true, false, _&&_, and-eq-true-iff}
 use mathlib.Core.List.{List, [], _∷_, _++_, map}
 use Prim.Native.Nat.{ℕ, _<_, _≤_}
 use borrow.Author.Tests.{le-leb, lt-leb}
+use lib.Dec.{leb}
 use lib.ListN.{length}
 use Rattle.field.specs.Ext as E
 use Rattle.field.specs.Element.{dec, enc, Canon}
 use Rattle.field.specs.ElementLaws.{dec-enc, enc-dec, canon-enc}
+use Rattle.field.specs.ExtRing.{same-true}
 use Rattle.field.specs.declared.Ext.{Ext}
 use Rattle.multilinear.specs.RoundSum.{Claims}
 use Rattle.gkr.specs.Run.{Cubic, Proof}
@@ -125,3 +127,7 @@ no-root bs h = ap (λ b. b && E.same (decoded (proofOf bs) .q0) E.nil) (lt-leb 2
 pub root-there : (bs : List ℕ) → 21 ≤ length bs → overZero bs ≡ E.same (decoded (proofOf bs) .q0) E.nil
 unfolding overZero
 root-there bs h = ap (λ b. b && E.same (decoded (proofOf bs) .q0) E.nil) (le-leb 21 (length bs) h)
+
+pub root-nil : (bs : List ℕ) → overZero bs ≡ true → decoded (proofOf bs) .q0 ≡ E.nil
+unfolding overZero
+root-nil bs h = same-true _ E.nil (and-eq-true-iff (leb 21 (length bs)) (E.same (decoded (proofOf bs) .q0) E.nil) .0 h .1)

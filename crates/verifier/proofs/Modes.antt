@@ -2,14 +2,13 @@
 -- Assumes nothing.
 use mathlib.Core.Path.{_≡_, refl, sym, _∙_, ap, ap₂}
 use mathlib.Core.Bool.{Bool, true, false, cond, _&&_, and-eq-true-iff, false≢true}
-use mathlib.Core.Logic.{_↔_}
 use Prim.Native.Nat.{ℕ, _-_}
 use native.Mathlib.Omega.{arith}
 use borrow.Author.Tests.{eq-eqb, eqb-true, not-false}
-use lib.Dec.{eqb, leb}
+use lib.Dec.{eqb}
 use lib.ListN.{length}
 use Rattle.field.specs.Ext as E
-use Rattle.field.specs.ExtRing.{same-true, same-of}
+use Rattle.field.specs.ExtRing.{same-of}
 use Rattle.gkr.specs.Transcripts.{Source}
 use Rattle.gkr.specs.Gkr.{accepted, zero-rounds, layer-count, poly-count, zero-check, root-check, subround-count, layer-check}
 use Rattle.transcript.specs.Log.{supplied}
@@ -19,10 +18,10 @@ use Rattle.refusal.specs.Numbers.{reportOf}
 use Rattle.refusal.specs.Tests.{Tested, passed, refused, firstOf}
 use Rattle.refusal.specs.TestLaws.{passed-all}
 use Rattle.refusal.specs.TestWays.{next, each-way}
-use Rattle.stored.specs.Parse.{layerCount, entryCount, proofOf}
+use Rattle.stored.specs.Parse.{layerCount, entryCount}
 use Rattle.stored.specs.ParseLaws.{fits-reads}
-use Rattle.stored.specs.Elements.{decoded, overZero}
-use Rattle.stored.specs.ElementLaws.{root-there}
+use Rattle.stored.specs.Elements.{overZero}
+use Rattle.stored.specs.ElementLaws.{root-there, root-nil}
 use Rattle.verifier_round.specs.declared.Verdict.{Verdict}
 use Rattle.verifier_round.specs.declared.Verdict.the-variants.{Refused}
 use Rattle.verifier_round.specs.Report.{verdictReport}
@@ -30,7 +29,7 @@ use Rattle.verifier_round.specs.Verdicts.{Model}
 use Rattle.verifier.specs.Verified.{Asked, Lent, needed, counted, tests, ended, fronts, laid, verified}
 use Rattle.verifier.specs.Gates.{verdict}
 use Rattle.verifier.specs.Companions.{in-mode, ZeroRooted, LiveVerifying}
-use Rattle.verifier.proofs.RootLaws.{last, then-root}
+use Rattle.verifier.proofs.RootLaws.{then-root}
 
 -- 27 IS NO OTHER ANSWER
 
@@ -101,12 +100,10 @@ module _ (a : Asked) (b : Lent) where
   root = counted (a .proof) (a .rounds) && overZero (a .proof)
 
   rooted : root ≡ true → ZeroRooted a
-  unfolding overZero
   rooted h =
       let x = and-eq-true-iff (counted (a .proof) (a .rounds)) (overZero (a .proof)) .0 h in
       let y = and-eq-true-iff (eqb (layerCount (a .proof)) (a .rounds)) (eqb (entryCount (a .proof)) (a .rounds - 1)) .0 (x .0) in
-      let z = and-eq-true-iff (leb 21 (length (a .proof))) (E.same (decoded (proofOf (a .proof)) .q0) E.nil) .0 (x .1) in
-      record { layers = eqb-true _ _ (y .0); entries = eqb-true _ _ (y .1); q0 = same-true _ E.nil (z .1) }
+      record { layers = eqb-true _ _ (y .0); entries = eqb-true _ _ (y .1); q0 = root-nil (a .proof) (x .1) }
 
   root-of : front ≡ passed → ZeroRooted a → root ≡ true
   root-of p r =

@@ -50,7 +50,7 @@ module _ (modes : Verifying) (bs : List ℕ) (n : ℕ) (o : Outline) (s : Shaped
 
 module _ (a : Asked) (points logs : ℕ) where
   -- a root over zero, live
-  abbrev pub last : Tested
+  abbrev last : Tested
   last = cond (a .modes .live && (counted (a .proof) (a .rounds) && overZero (a .proof))) (refused ZeroRoot) passed
 
   abbrev sandboxed : Tested
