@@ -4,8 +4,8 @@ ghost use Rattle.prover_gate.specs.Refusals.{call};
 ghost use Rattle.prover.specs.Proved.{lent};
 ghost use Rattle.verifier.specs.Verified.{asked, lent as again};
 ghost use Rattle.accudrina.specs.Calls.{reading, proving, provingTaken, verifying, verifyingTaken, evaluating};
-use modes::ASSERT_ZERO;
-use modes::LIVE;
+use refusal::Proving;
+use refusal::Verifying;
 
 mod answer; // the sixteen words
 mod modes; // the bits of a word
@@ -28,8 +28,7 @@ pub extern "C" fn accudrina_read_sheet(
 // A sheet's proof, point and log, in modes that are taken.
 fn prove_taken(
     rows: &[u32],
-    live: bool,
-    assert_zero: bool,
+    modes: Proving,
     challenges: &[u32],
     proof: &mut [u8],
     point: &mut [u32],
@@ -38,19 +37,10 @@ fn prove_taken(
     answer: &mut [u32; 16],
 ) -> u32
     ensures { λ r. ⌜ record { told = record { number = r; words = now (answer .exit) }; buffers = lent (now (proof .exit)) (now (point .exit)) (now (log .exit)) (now (work .exit)) }
-        ≡ provingTaken (call (now (rows .entry)) live «assert_zero» (now (challenges .entry)))
+        ≡ provingTaken (call (now (rows .entry)) modes (now (challenges .entry)))
         (lent (now (proof .entry)) (now (point .entry)) (now (log .entry)) (now (work .entry))) ⌝ }
 {
-    let proved = prover::fractional_sumcheck(
-        rows,
-        live,
-        assert_zero,
-        challenges,
-        proof,
-        point,
-        log,
-        work,
-    );
+    let proved = prover::fractional_sumcheck(rows, modes, challenges, proof, point, log, work);
     answer::tell(prover::number_and_values(proved), answer)
 }
 
@@ -74,38 +64,28 @@ pub extern "C" fn accudrina_prove(
     if untaken != 0 {
         return answer::tell(modes::unknown_mode(untaken), answer);
     }
-    let live = modes::has(modes, LIVE);
-    let assert_zero = modes::has(modes, ASSERT_ZERO);
-    prove_taken(
-        rows,
-        live,
-        assert_zero,
-        challenges,
-        proof,
-        point,
-        log,
-        work,
-        answer,
-    )
+    let proving = modes::proving(modes);
+    prove_taken(rows, proving, challenges, proof, point, log, work, answer)
 }
 
 // What the verifier says of a proof, in modes that are taken.
 fn verify_taken(
     proof: &[u8],
     rounds: usize,
+    modes: Verifying,
     challenges: &[u32],
     point: &mut [u32],
     log: &mut [u32],
     answer: &mut [u32; 16],
 ) -> u32
     ensures { λ r. ⌜ record { told = record { number = r; words = now (answer .exit) }; buffers = again (now (point .exit)) (now (log .exit)) }
-        ≡ verifyingTaken (asked (now (proof .entry)) rounds (now (challenges .entry))) (again (now (point .entry)) (now (log .entry))) ⌝ }
+        ≡ verifyingTaken (asked (now (proof .entry)) rounds modes (now (challenges .entry))) (again (now (point .entry)) (now (log .entry))) ⌝ }
 {
-    let verdict = verifier::verify_gkr(proof, rounds, challenges, point, log);
+    let verdict = verifier::verify_gkr(proof, rounds, modes, challenges, point, log);
     answer::tell(verifier_round::number_and_values(verdict), answer)
 }
 
-// What the verifier says of a proof: the number 0 and both claims at the point written, or the refusal with its fields; first of all 28, since it takes no modes.
+// What the verifier says of a proof: the number 0 and both claims at the point written, or the refusal with its fields; first of all 28, the bits of the modes that are not taken.
 #[no_mangle]
 pub extern "C" fn accudrina_verify(
     proof: &[u8],
@@ -119,10 +99,12 @@ pub extern "C" fn accudrina_verify(
     ensures { λ r. ⌜ record { told = record { number = r; words = now (answer .exit) }; buffers = again (now (point .exit)) (now (log .exit)) }
         ≡ verifying (now (proof .entry)) rounds modes (now (challenges .entry)) (again (now (point .entry)) (now (log .entry))) ⌝ }
 {
-    if modes != 0 {
-        return answer::tell(modes::unknown_mode(modes), answer);
+    let unknown = modes::untaken_by_verifier(modes);
+    if unknown != 0 {
+        return answer::tell(modes::unknown_mode(unknown), answer);
     }
-    verify_taken(proof, rounds, challenges, point, log, answer)
+    let verifying = modes::verifying(modes);
+    verify_taken(proof, rounds, verifying, challenges, point, log, answer)
 }
 
 // The values of both columns of a sheet at a point: the number 0, the rounds and both values, or the refusal; it only reads.

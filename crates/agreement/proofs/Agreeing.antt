@@ -48,7 +48,7 @@ use Rattle.agreement.proofs.HonestSize.{honest-size}
 use Rattle.agreement.proofs.Opening.{opens, rounds-taken-are}
 
 -- The run over a sheet that is taken, zero asserted or not: t is the log before root q.
-module _ (c : Call) (how : Verifying) (m : ℕ) (b : Prover.Buffers) (v : Lent) (h : Taken c (suc m)) (r : Room (c .asserted) (suc m) b v) (sound : how .live ≡ true → Sound (c .rows)) where
+module _ (c : Call) (how : Verifying) (m : ℕ) (b : Prover.Buffers) (v : Lent) (h : Taken c (suc m)) (r : Room (c .modes .«assert_zero») (suc m) b v) (sound : how .live ≡ true → Sound (c .rows)) where
   abbrev needed : List ℕ
   needed = take (4 * challenges (suc m)) (c .challenges)
 
@@ -64,7 +64,7 @@ module _ (c : Call) (how : Verifying) (m : ℕ) (b : Prover.Buffers) (v : Lent) 
   abbrev ended : Lent → Gkr.Verdict Extension S → Verifier.Outcome
   ended v w = Verifier.laid (Verifier.ended source w) v
 
-  module _ (t : Words) (e : Gkr.fractional-sumcheck Extension S (c .asserted) m rows empty ≡ done (Gkr.run Extension S m rows t)) where
+  module _ (t : Words) (e : Gkr.fractional-sumcheck Extension S (c .modes .«assert_zero») m rows empty ≡ done (Gkr.run Extension S m rows t)) where
     abbrev run : Gkr.Proved Extension S
     run = Gkr.run Extension S m rows t
 
@@ -73,7 +73,7 @@ module _ (c : Call) (how : Verifying) (m : ℕ) (b : Prover.Buffers) (v : Lent) 
     unfolding Prover.proved Prover.fronts
     proved-run =
         ap (λ t. Prover.laid (Prover.entered c t) b) (opens c m b v h r)
-        ∙ ap (λ (n : ℕ). Prover.laid (Prover.ran (c .rows) (c .asserted) (c .challenges) n) b) (rounds-taken-are c m b v h r)
+        ∙ ap (λ (n : ℕ). Prover.laid (Prover.ran (c .rows) (c .modes .«assert_zero») (c .challenges) n) b) (rounds-taken-are c m b v h r)
         ∙ ap (λ a. Prover.laid (Prover.after source (suc m) a) b) e
 
     abbrev bytes : List ℕ
@@ -119,7 +119,7 @@ module _ (c : Call) (how : Verifying) (m : ℕ) (b : Prover.Buffers) (v : Lent) 
 
 -- ZERO ASSERTED, AND THE ROOT NUMERATOR ZERO
 
-module _ (c : Call) (how : Verifying) (m : ℕ) (b : Prover.Buffers) (v : Lent) (h : Taken c (suc m)) (a : c .asserted ≡ true) (z : root c (suc m) .p ≡ E.nil) (r : Room true (suc m) b v)
+module _ (c : Call) (how : Verifying) (m : ℕ) (b : Prover.Buffers) (v : Lent) (h : Taken c (suc m)) (a : c .modes .«assert_zero» ≡ true) (z : root c (suc m) .p ≡ E.nil) (r : Room true (suc m) b v)
     (sound : how .live ≡ true → Sound (c .rows)) where
   abbrev ch : Source E.Ext
   ch = supplied (take (4 * challenges (suc m)) (c .challenges))
@@ -131,10 +131,10 @@ module _ (c : Call) (how : Verifying) (m : ℕ) (b : Prover.Buffers) (v : Lent) 
       × (Gkr.verify-gkr Extension (Drawing ch) (suc m) (P .proof) empty ≡ accepted (Tree.value ExtRing (node (c .rows)) (P .point)) (P .point) (P .log))
   theorem = Honest.honest Extension (Drawing ch) m (node (c .rows)) empty z
 
-  is-done : Gkr.fractional-sumcheck Extension (Drawing ch) (c .asserted) m (node (c .rows)) empty ≡ done P
+  is-done : Gkr.fractional-sumcheck Extension (Drawing ch) (c .modes .«assert_zero») m (node (c .rows)) empty ≡ done P
   is-done = ap (λ s. Gkr.fractional-sumcheck Extension (Drawing ch) s m (node (c .rows)) empty) a ∙ theorem .0
 
-  r′ : Room (c .asserted) (suc m) b v
+  r′ : Room (c .modes .«assert_zero») (suc m) b v
   r′ = subst (λ s. Room s (suc m) b v) (sym a) r
 
   run-is : Prover.proved c b ≡ Prover.laid (Prover.finished ch (suc m) P) b
@@ -182,9 +182,9 @@ other-sum c how (suc m) b v h a z r sound =
     let ch = supplied (take (4 * challenges (suc m)) (c .challenges)) in
     let f = node (c .rows) in
     let t = Drawing ch .observe (root c (suc m) .p) empty in
-    let e : Gkr.fractional-sumcheck Extension (Drawing ch) (c .asserted) m f empty ≡ done (Gkr.run Extension (Drawing ch) m f t) =
+    let e : Gkr.fractional-sumcheck Extension (Drawing ch) (c .modes .«assert_zero») m f empty ≡ done (Gkr.run Extension (Drawing ch) m f t) =
     ap (λ s. Gkr.fractional-sumcheck Extension (Drawing ch) s m f empty) a in
-    let r′ : Room (c .asserted) (suc m) b v = subst (λ s. Room s (suc m) b v) (sym a) r in
+    let r′ : Room (c .modes .«assert_zero») (suc m) b v = subst (λ s. Room s (suc m) b v) (sym a) r in
     let n = Honest.not-zero Extension (Drawing ch) m f t empty (differs (root c (suc m) .p) z) in
     (sum-run c how m b v h r′ sound t e, ap (λ o. o .answer) (verdict-run c how m b v h r′ sound t e ∙ ap (λ w. Verifier.laid (Verifier.ended ch w) v) n))
 

@@ -19,9 +19,9 @@ use Rattle.agreement.specs.Demand3.{Taken, root, Room, verdict}
 -- ANOTHER SUM, not asserted: the prover is done, and the verifier answers 16 with that sum
 abbrev pub OtherSum : Type 0
 OtherSum =
-    (c : Call) (how : Verifying) (n : ℕ) (b : Buffers) (v : Lent) → Taken c n → c .asserted ≡ false → (root c n .p ≡ E.nil → ⊥) → Room false n b v → (how .live ≡ true → Sound (c .rows))
+    (c : Call) (how : Verifying) (n : ℕ) (b : Buffers) (v : Lent) → Taken c n → c .modes .«assert_zero» ≡ false → (root c n .p ≡ E.nil → ⊥) → Room false n b v → (how .live ≡ true → Sound (c .rows))
     → (proved c b .answer ≡ Done n (encFrac (root c n))) × (verdict c how n (proved c b) v .answer ≡ TurnedAway (ZeroCheckFailed (enc (root c n .p))))
 
 -- PROVED LIVE: what a live verifier asks of the rows follows from done
 abbrev pub ProvedLive : Type 0
-ProvedLive = (c : Call) (b : Buffers) (n : ℕ) (s : Frac) → c .live ≡ true → proved c b .answer ≡ Done n s → Sound (c .rows)
+ProvedLive = (c : Call) (b : Buffers) (n : ℕ) (s : Frac) → c .modes .live ≡ true → proved c b .answer ≡ Done n s → Sound (c .rows)

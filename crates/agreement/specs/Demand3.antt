@@ -32,7 +32,7 @@ pub record Taken (c : Call) (n : ℕ) : Type 0 where
   pub enough : 4 * challenges n ≤ length (c .challenges)
   pub valid-rows : allCanonical (c .rows) ≡ true
   pub valid-challenges : allCanonical (take (4 * challenges n) (c .challenges)) ≡ true
-  pub checked : c .live ≡ true → Sound (c .rows)
+  pub checked : c .modes .live ≡ true → Sound (c .rows)
 
 -- the sum of all rows
 abbrev pub root : (c : Call) (n : ℕ) → Frac E.Ext
@@ -67,5 +67,5 @@ pub record Agreed (c : Call) (n : ℕ) (b : Prover.Buffers) (v : Lent) (P : Prov
 -- THE DEMAND: zero asserted, the root numerator zero, and where the verifier is live no row over zero
 abbrev pub Demand3 : Type 0
 Demand3 =
-    (c : Call) (how : Verifying) (n : ℕ) (b : Prover.Buffers) (v : Lent) → Taken c n → c .asserted ≡ true → root c n .p ≡ E.nil → Room true n b v → (how .live ≡ true → Sound (c .rows))
+    (c : Call) (how : Verifying) (n : ℕ) (b : Prover.Buffers) (v : Lent) → Taken c n → c .modes .«assert_zero» ≡ true → root c n .p ≡ E.nil → Room true n b v → (how .live ≡ true → Sound (c .rows))
     → let P = Prover.proved c b in Agreed c n b v P (verdict c how n P v)

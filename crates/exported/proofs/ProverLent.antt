@@ -16,7 +16,7 @@ use Rattle.prover.specs.Proved as Prover
 use Rattle.prover.specs.Report.{answerReport}
 use Rattle.prover.proofs.Theorems.{Ends, each-end, each-front}
 use Rattle.sizes.specs.SizeLaws.{few-rounds}
-use Rattle.accudrina.specs.Modes.{LIVE, ASSERT-ZERO, has, untaken}
+use Rattle.accudrina.specs.Modes.{LIVE, ASSERT-ZERO, has, untaken, provingOf}
 use Rattle.accudrina.specs.Calls.{Returned, provingTaken}
 use Rattle.exported.specs.Asked.{asked, ForProver, NotShort, ProverNotShort}
 use Rattle.exported.proofs.Lending.{never, lent, other}
@@ -39,14 +39,14 @@ ends n = record { finishes = λ ch P. other 0 refl refl; eight = other 8 refl re
 
 -- in modes that are taken
 run-not-short : (rows : List ℕ) (modes : ℕ) (ch : List ℕ) (b : Prover.Buffers) → ForProver (asked rows) modes ch b
-    → NotShort (provingTaken (call rows (has LIVE modes) (has ASSERT-ZERO modes) ch) b .told .number)
+    → NotShort (provingTaken (call rows (provingOf modes) ch) b .told .number)
 unfolding Prover.proved
 run-not-short rows modes ch b h =
     let count = rowCount rows in
     let n = roundsOf count in
     let few = few-rounds count in
     let asks : isSize count ≡ true → ForProver n modes ch b = (λ e. subst (λ k. ForProver k modes ch b) (pass (isSize count) n (maxRounds + 1) e) h) in
-    each-front Fine (call rows (has LIVE modes) (has ASSERT-ZERO modes) ch) (Prover.roomsOf b)
+    each-front Fine (call rows (provingOf modes) ch) (Prover.roomsOf b)
     (both (λ e. other 1 refl refl) (λ u1.
     both (λ e. other 2 refl refl) (λ u2.
     both (λ e. other 3 refl refl) (λ u3.

@@ -111,4 +111,4 @@ wiping c r =
     both (λ m. quiet n BadWord (λ z. omega arith)) (λ u6.
     both (λ m. quiet n BadWord (λ z. omega arith)) (λ u7.
     both (λ m. quiet n (ZeroDenominator _) (λ z. omega arith)) (λ u8.
-    each-end (Left n) (c .rows) (c .asserted) (c .challenges) n (ends-left n))))))))))
+    each-end (Left n) (c .rows) (c .modes .«assert_zero») (c .challenges) n (ends-left n))))))))))

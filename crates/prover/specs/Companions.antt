@@ -31,7 +31,7 @@ Wiping = (c : Call) (r : Rooms) → Left (roundsOf (rowCount (c .rows))) (fronts
 -- LIVE MODE
 
 abbrev pub in-mode : (live : Bool) → Call → Call
-in-mode live c = call (c .rows) live (c .asserted) (c .challenges)
+in-mode live c = call (c .rows) (record { live = live; «assert_zero» = c .modes .«assert_zero» }) (c .challenges)
 
 -- no row is over zero
 abbrev pub Sound : List ℕ → Type 0

@@ -81,7 +81,7 @@ ran rows asserted ch (suc m) =
 
 abbrev pub entered : Call → Tested → Outcome
 entered c (refused e) = untouched e
-entered c passed = ran (c .rows) (c .asserted) (c .challenges) (roundsOf (rowCount (c .rows)))
+entered c passed = ran (c .rows) (c .modes .«assert_zero») (c .challenges) (roundsOf (rowCount (c .rows)))
 
 -- the answer, and the words at the front of each buffer
 unfoldable pub fronts : Call → Rooms → Outcome

@@ -4,14 +4,17 @@ ghost use Prim.Native.Nat.{_*_, _^_, _≤_};
 ghost use lib.ListN.{length};
 ghost use Rattle.field.specs.Cells.{Clean};
 ghost use Rattle.refusal.specs.Limits.{maxRounds};
+ghost use Rattle.sizes.specs.Sizes.{rowCount};
 ghost use Rattle.step.specs.Values.{decFrac};
 ghost use Rattle.prover_gate.specs.Refusals.{shortRoom, degenerate, lowest, call, rooms, firstRefusal, asGate};
+use refusal::Proving;
 use refusal::Refusal;
 use sizes::Size;
 use step::Frac;
 
+// Open tells the size of the sheet.
 pub enum Gate {
-    Open,
+    Open(Size),
     Shut(Refusal),
 }
 
@@ -63,15 +66,15 @@ fn lowest_row(rows: &[u32], count: usize) -> usize
 // The first refusal that fits. The last four numbers are the rooms: proof bytes, and words of point, log and workspace.
 pub fn first_refusal(
     rows: &[u32],
-    live: bool,
-    asserted: bool,
+    modes: Proving,
     challenges: &[u32],
     proof: usize,
     point: usize,
     log: usize,
     work: usize,
 ) -> Gate
-    ensures { λ r. ⌜ r ≡ asGate (firstRefusal (call (now (rows .entry)) live asserted (now (challenges .entry))) (rooms proof point log work)) ⌝ }
+    ensures { λ r. ⌜ r ≡ asGate (rowCount (now (rows .entry)))
+        (firstRefusal (call (now (rows .entry)) modes (now (challenges .entry))) (rooms proof point log work)) ⌝ }
 {
     let count = rows.len() / 8;
     if rows.len() % 8 != 0 {
@@ -80,15 +83,15 @@ pub fn first_refusal(
     if refusal::MAX_ROWS < count {
         return Gate::Shut(Refusal::TooManyRows);
     }
-    if !sizes::is_size(count) {
+    let size = sizes::least_size(count);
+    if !sizes::fills(count, size) {
         return Gate::Shut(Refusal::NotPowerOfTwo);
     }
-    let size = sizes::least_size(count);
     let need = sizes::challenge_words(size.n);
     if challenges.len() < need {
         return Gate::Shut(Refusal::ShortChallenges);
     }
-    if short_room(size, asserted, proof, point, log, work) {
+    if short_room(size, modes.assert_zero, proof, point, log, work) {
         return Gate::Shut(Refusal::ShortRoom);
     }
     if !wire::canonical_words(rows) {
@@ -97,12 +100,12 @@ pub fn first_refusal(
     if !wire::canonical_words(&challenges[..need]) {
         return Gate::Shut(Refusal::BadWord);
     }
-    if !live {
-        return Gate::Open;
+    if !modes.live {
+        return Gate::Open(size);
     }
     let row = lowest_row(rows, count);
     if row < count {
         return Gate::Shut(Refusal::ZeroDenominator { row });
     }
-    Gate::Open
+    Gate::Open(size)
 }

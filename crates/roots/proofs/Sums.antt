@@ -79,5 +79,5 @@ unfolding fronts
 done-sum c r = go (firstRefusal c r) refl
   where
     go : (t : Tested) → firstRefusal c r ≡ t → Tells (c .rows) (entered c t)
-    go passed h = ran-tells (c .rows) _ _ (roundsOf (rowCount (c .rows))) (sized (rowCount (c .rows)) (gate-opens c r h .size))
+    go passed h = ran-tells (c .rows) _ _ (roundsOf (rowCount (c .rows))) (sized (rowCount (c .rows)) (gate-opens c r h .all))
     go (refused e) h = λ n s d. absurd (done-refused n s e (sym d))

@@ -27,14 +27,22 @@ pub fn least_size(count: usize) -> Size
     Size { n, rows }
 }
 
-// Whether there are no rows, or a power of two of them.
-pub fn is_size(count: usize) -> bool
+// Whether so many rows, of which this is the least size, are none or all of its rows.
+pub fn fills(count: usize, size: Size) -> bool
+    requires { ⌜ (size .n ≡ roundsOf count) × (size .rows ≡ 2 ^ size .n) ⌝ }
     ensures { λ r. ⌜ r ≡ isSize count ⌝ }
 {
     if count == 0 {
         return true;
     }
-    count == least_size(count).rows
+    count == size.rows
+}
+
+// Whether there are no rows, or a power of two of them.
+pub fn is_size(count: usize) -> bool
+    ensures { λ r. ⌜ r ≡ isSize count ⌝ }
+{
+    fills(count, least_size(count))
 }
 
 // The challenges that n rounds take, in words.

@@ -15,11 +15,8 @@ tell-requires c κs = search needs
 returns : tie.Need-returns
 returns c = refused-modes _ _ (c .before .before .before .before .untaken-by-prover .ensures) (c .before .before .before .if1 .taken) (c .before .before .unknown-mode .ensures) (c .tell .ensures)
 
-has-requires : tie.Need-has-requires
-has-requires c κs = search needs
-
-has-requires-2 : tie.Need-has-requires-2
-has-requires-2 c κs = search needs
+proving-requires : tie.Need-proving-requires
+proving-requires c κs = search needs
 
 prove-taken-requires : tie.Need-prove-taken-requires
 prove-taken-requires c κs = search needs
@@ -40,8 +37,8 @@ returns-2 : tie.Need-returns-2
 returns-2 c =
     let run = c .before .before .before .before .before .before .before .before in
     let modes = run .before .before .before .before .before .before in
-    let tested = modes .before .before in
-    proved-in _ _ _ _ (tested .before .untaken-by-prover .ensures) (tested .if1 .left) (modes .before .has .ensures) (modes .has2 .ensures) (run .prove-taken .ensures)
+    let tested = modes .before in
+    proved-in _ _ _ _ (tested .before .untaken-by-prover .ensures) (tested .if1 .left) (modes .proving .ensures) (run .prove-taken .ensures)
 
 pub accudrina-prove-spec : {M : Type 1} → statement M
 accudrina-prove-spec =
@@ -51,8 +48,7 @@ accudrina-prove-spec =
     unknown-mode-requires
     tell-requires
     returns
-    has-requires
-    has-requires-2
+    proving-requires
     prove-taken-requires
     same-length
     same-length-2

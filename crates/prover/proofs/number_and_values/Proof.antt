@@ -3,9 +3,6 @@ use Rattle.prover.specs.Report.{answerReport}
 use borrow.Author.Needs.{needs}
 use Rattle.prover.proofs.number_and_values.Statement.{statement}
 use Rattle.prover.proofs.number_and_values.Tie as tie
-use Rattle.prover.proofs.number_and_values.Reads as reads
-use Rattle.prover.proofs.number_and_values.Lts as lts
-use Rattle.refusal.proofs.number_and_fields.Reads as number-and-fields-reads
 
 enum-known-answer : tie.Need-enum-known-answer
 enum-known-answer c = search needs

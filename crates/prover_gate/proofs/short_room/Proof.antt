@@ -3,11 +3,6 @@ use native.Mathlib.Omega.{arith}
 use borrow.Author.Needs.{needs}
 use Rattle.prover_gate.proofs.short_room.Statement.{statement}
 use Rattle.prover_gate.proofs.short_room.Tie as tie
-use Rattle.prover_gate.proofs.short_room.Reads as reads
-use Rattle.prover_gate.proofs.short_room.Lts as lts
-use Rattle.sizes.proofs.log_words.Reads as log-words-reads
-use Rattle.sizes.proofs.proof_bytes.Reads as proof-bytes-reads
-use Rattle.sizes.proofs.work_words.Reads as work-words-reads
 
 proof-bytes-requires : tie.Need-proof-bytes-requires
 proof-bytes-requires c κs = search needs

@@ -6,8 +6,6 @@ use borrow.Author.Needs.{needs}
 use native.Mathlib.Omega.{arith}
 use Rattle.sizes.proofs.least_size.Statement.{statement}
 use Rattle.sizes.proofs.least_size.Tie as tie
-use Rattle.sizes.proofs.least_size.Reads as reads
-use Rattle.sizes.proofs.least_size.Lts as lts
 
 abbrev Inv-loop : tie.InvT-loop
 Inv-loop count n₀ rows₀ n rows = Seeking count n rows

@@ -4,8 +4,6 @@ use native.Mathlib.Omega.{arith}
 use borrow.Author.Needs.{needs}
 use Rattle.sizes.proofs.proof_bytes.Statement.{statement}
 use Rattle.sizes.proofs.proof_bytes.Tie as tie
-use Rattle.sizes.proofs.proof_bytes.Reads as reads
-use Rattle.sizes.proofs.proof_bytes.Lts as lts
 
 returns : tie.Need-returns
 returns c = proof-none _ (c .if1 .taken)

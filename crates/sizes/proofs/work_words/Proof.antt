@@ -4,8 +4,6 @@ use native.Mathlib.Omega.{arith}
 use borrow.Author.Needs.{needs}
 use Rattle.sizes.proofs.work_words.Statement.{statement}
 use Rattle.sizes.proofs.work_words.Tie as tie
-use Rattle.sizes.proofs.work_words.Reads as reads
-use Rattle.sizes.proofs.work_words.Lts as lts
 
 returns : tie.Need-returns
 returns c = work-none _ (c .if1 .taken)

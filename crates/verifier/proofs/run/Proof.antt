@@ -11,12 +11,6 @@ use native.Mathlib.Omega.{arith}
 use borrow.Author.Needs.{needs}
 use Rattle.verifier.proofs.run.Statement.{statement}
 use Rattle.verifier.proofs.run.Tie as tie
-use Rattle.verifier.proofs.run.Reads as reads
-use Rattle.verifier.proofs.run.Lts as lts
-use Rattle.verifier.proofs.answer.Reads as answer-reads
-use Rattle.sizes.proofs.challenge_words.Reads as challenge-words-reads
-use Rattle.verifier.proofs.leave_point.Reads as leave-point-reads
-use Rattle.verifier.proofs.verify_counted.Reads as verify-counted-reads
 
 challenge-words-requires : tie.Need-challenge-words-requires
 challenge-words-requires c κs = passes (c .before .before .before .before .pre) .few
