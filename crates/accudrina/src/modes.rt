@@ -61,9 +61,8 @@ pub fn untaken_by_verifier(modes: u32) -> u32
 pub fn verifying(modes: u32) -> Verifying
     ensures { λ r. ⌜ r ≡ Modes.verifyingOf modes ⌝ }
 {
-    Verifying {
-        live: has(modes, LIVE),
-    }
+    let live = has(modes, LIVE);
+    Verifying { live }
 }
 
 // The number 28, with the bits that are not taken.

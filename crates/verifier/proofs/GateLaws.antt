@@ -1,6 +1,6 @@
 -- Each way through the checks is the first test that is met, and where none is, what the run asks holds.
 -- Assumes nothing.
-use mathlib.Core.Path.{_≡_, refl, sym, _∙_, ap, subst}
+use mathlib.Core.Path.{_≡_, refl, sym, _∙_, ap, ap₂, subst}
 use mathlib.Core.Bool.{Bool, true, false, cond, not, _&&_, _||_}
 use mathlib.Core.List.{List, _∷_}
 use Prim.Native.Nat.{ℕ, _*_, _<_, _≤_}
@@ -15,7 +15,7 @@ use Rattle.refusal.specs.Limits.{maxRounds}
 use Rattle.refusal.specs.declared.Refusal.{Refusal}
 use Rattle.refusal.specs.declared.Refusal.the-variants.{ShortChallenges, ShortRoom, BadWord, ZeroRounds, TooManyRounds, BadVersion, BadLength}
 use Rattle.refusal.specs.Tests.{Test, Tested, passed, refused, test, firstOf}
-use Rattle.refusal.specs.TestLaws.{passed-all}
+use Rattle.refusal.specs.TestLaws.{all-passed, passed-all}
 use Rattle.sizes.specs.Sizes.{logRoom}
 use Rattle.wire.specs.Words.{allCanonical}
 use Rattle.stored.specs.declared.Outline.{Outline}
@@ -147,17 +147,29 @@ passes {a} {points} {logs} g =
 
 pub opens-all : (a : Asked) (points logs : ℕ) → Reads (a .proof) → Passes a points logs → (a .modes .live && (counted (a .proof) (a .rounds) && overZero (a .proof))) ≡ false
     → firstOf (tests a points logs) ≡ passed
-unfolding firstOf
 opens-all a points logs r h root =
-    rw (
+    all-passed (tests a points logs) (
       ne-eqb (a .rounds) 0 (λ e. omega (arith, h .some)),
-      le-ltb maxRounds (a .rounds) (h .few),
-      le-ltb (length (a .challenges)) (4 * challenges (a .rounds)) (h .chals),
-      le-ltb points (4 * a .rounds) (h .room),
-      le-ltb logs (logRoom true (a .rounds)) (h .log-room),
-      eq-eqb (getD (a .proof) 0 0) 1 (r .version),
-      reads-fits (a .proof) r,
-      h .canon,
-      h .clean,
-      root,
+      (
+        le-ltb maxRounds (a .rounds) (h .few),
+        (
+          le-ltb (length (a .challenges)) (4 * challenges (a .rounds)) (h .chals),
+          (
+            ap₂ _||_ (le-ltb points (4 * a .rounds) (h .room)) (le-ltb logs (logRoom true (a .rounds)) (h .log-room)),
+            (
+              ap not (eq-eqb (getD (a .proof) 0 0) 1 (r .version)),
+              (
+                ap not (reads-fits (a .proof) r),
+                (
+                  ap not (h .canon),
+                  (
+                    ap not (h .clean),
+                    (root, tt),
+                  ),
+                ),
+              ),
+            ),
+          ),
+        ),
+      ),
     )
