@@ -19,7 +19,7 @@ int main(void) {
         challenges[4 * i] = drawn[i];
     }
     if (accudrina_prove(rows, 32, modes, challenges, 16, proof, 200, point, 8, log, 64, work, 128, answer) ||
-        accudrina_verify(proof, 200, 2, 0, challenges, 16, point, 8, log, 64, answer)) {
+        accudrina_verify(proof, 200, 2, ACCUDRINA_LIVE, challenges, 16, point, 8, log, 64, answer)) {
         printf("refused %u\n", (unsigned)answer[0]);
         return 1;
     }
