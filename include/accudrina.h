@@ -31,7 +31,7 @@ extern "C" {
 
 /* Modes, bits of one word. A bit that a call does not take is refused as 28, first of all: [1] has the bits that are not taken, and
  * nothing but `answer` is written. */
-#define ACCUDRINA_LIVE UINT32_C(1)        /* prover: a row with q = 0 is refused as 7 */
+#define ACCUDRINA_LIVE UINT32_C(1)        /* prover: a row with q = 0 is refused as 7; verifier: a proof whose q0 is 0, as 27 */
 #define ACCUDRINA_ASSERT_ZERO UINT32_C(2) /* prover: a sum whose p is not 0 is refused as 8 */
 
 /* The results, with the fields of each: plain ones in [1] to [3], elements in [4] to [7] and [8] to [11]. */
@@ -56,6 +56,7 @@ enum accudrina_result {
     ACCUDRINA_ROOT_CONSISTENCY_CHECK_FAILED = 17,    /* elements: expected, actual */
     ACCUDRINA_INCORRECT_SUBROUND_COUNT = 18,         /* plain: round, expected, actual */
     ACCUDRINA_LAYER_CONSISTENCY_CHECK_FAILED = 19,   /* plain: round; elements: expected, actual */
+    ACCUDRINA_ZERO_ROOT = 27,                        /* live verifier: q0 is 0 */
     ACCUDRINA_UNKNOWN_MODE = 28                      /* plain: the bits of the modes that the call does not take */
 };
 
@@ -97,15 +98,16 @@ uint32_t accudrina_prove(const uint32_t *rows, size_t rows_len,
                          uint32_t *work, size_t work_len,
                          uint32_t answer[ACCUDRINA_ANSWER_WORDS]);
 
-/* Verifies a proof that the sum of 2^rounds rows is zero. proof_len is the proof's exact length. No mode is taken yet: modes is 0.
+/* Verifies a proof that the sum of 2^rounds rows is zero. proof_len is the proof's exact length.
+ * Modes. LIVE: a proof whose q0, the sum's denominator, is 0 is refused as 27. Otherwise it is accepted too, and says nothing about
+ * the rows: q0 is the first element, in the proof's bytes 5 to 20.
  * Done, accepted: two claims in [4] to [7] and [8] to [11]; the point and the log stand at the front of their buffers. Of every accepted
  * proof that is all: the sheet was not seen, and the caller compares the claims with the values of its columns p and q at the
  * point, which accudrina_evaluate answers.
  * Of a proof that accudrina_prove wrote with ASSERT_ZERO, given the same challenges, it is proved that it is accepted, that the claims are
- * these values, and that point and log equal the prover's.
- * A proof whose q0 is 0 is accepted too, and says nothing about the rows: q0 is the first element, in the proof's bytes 5 to 20.
- * Refused as the first that fits of 28, 10, 11, 4, 5, 12, 13, 6, 14, 15, then 16 to 19 as the run meets them: the point is as it was; so
- * is the log, but for 16 to 19, which leave what the run observed and sampled until then. */
+ * these values, and that point and log equal the prover's; LIVE that is so where no row has q = 0, and so where the prover was LIVE too.
+ * Refused as the first that fits of 28, 10, 11, 4, 5, 12, 13, 6, 14, 15, 27, then 16 to 19 as the run meets them: the point is as it was;
+ * so is the log, but for 16 to 19, which leave what the run observed and sampled until then. */
 uint32_t accudrina_verify(const uint8_t *proof, size_t proof_len,
                           size_t rounds, uint32_t modes,
                           const uint32_t *challenges, size_t challenges_len,

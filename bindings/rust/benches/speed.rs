@@ -41,7 +41,7 @@ fn main() {
             black_box(prove_into(black_box(&rows), Mode::Live, Sum::AssertZero, &challenges, lent)).expect("proved");
         });
         let verifying = best(2000, || {
-            black_box(verify_into(black_box(&proof), n, &challenges, &mut point, &mut log)).expect("accepted");
+            black_box(verify_into(black_box(&proof), n, Mode::Live, &challenges, &mut point, &mut log)).expect("accepted");
         });
         println!("{n:6}  {proving:8.1}  {verifying:9.1}");
     }

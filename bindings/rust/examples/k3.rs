@@ -5,7 +5,7 @@ fn main() -> Result<(), Refusal> {
     let rows = [1, 2, PRIME - 1, PRIME - 2].map(|p| Fraction::new(Element::new(p), Element::ONE));
     let challenges = [2, 1, 3, 4].map(Element::new);
     let proved = prove(&rows, Mode::Live, Sum::AssertZero, &challenges)?;
-    let accepted = verify(&proved.proof, proved.rounds, &challenges)?;
+    let accepted = verify(&proved.proof, proved.rounds, Mode::Live, &challenges)?;
     println!("numer {:?}", accepted.claims.numer.0);
     println!("denom {:?}", accepted.claims.denom.0);
     println!("point {:?}", accepted.point.iter().map(|e| e.0).collect::<Vec<_>>());

@@ -79,7 +79,14 @@ pub fn prove_into(rows: &[u32], mode: Mode, sum: Sum, challenges: &[u32], rooms:
 }
 
 /// Verifies a proof of so many rounds, by its exact bytes.
-pub fn verify_into(proof: &[u8], rounds: usize, challenges: &[u32], point: &mut [u32], log: &mut [u32]) -> Result<Claims, Refusal> {
+pub fn verify_into(
+    proof: &[u8],
+    rounds: usize,
+    mode: Mode,
+    challenges: &[u32],
+    point: &mut [u32],
+    log: &mut [u32],
+) -> Result<Claims, Refusal> {
     let mut answer = [0; 16];
     // Safe: as in `read_sheet_into`.
     let number = unsafe {
@@ -87,7 +94,7 @@ pub fn verify_into(proof: &[u8], rounds: usize, challenges: &[u32], point: &mut 
             proof.as_ptr(),
             proof.len(),
             rounds,
-            modes::NONE,
+            modes::live(mode),
             challenges.as_ptr(),
             challenges.len(),
             point.as_mut_ptr(),

@@ -5,8 +5,8 @@
 //! number of threads may call at once.
 //!
 //! A verdict is not yet a result. The challenges are supplied, and whoever knows them can make a proof of a false sum that is
-//! accepted; and a proof whose `q0` is zero is accepted and says nothing about the rows. What an accepted proof says, and what it does
-//! not, stands in the repository's `docs/WHAT-A-PROOF-SAYS.md`: read it before you file one.
+//! accepted; and in [`Mode::Sandbox`] a proof whose `q0` is zero is accepted and says nothing about the rows. What an accepted proof says,
+//! and what it does not, stands in the repository's `docs/WHAT-A-PROOF-SAYS.md`: read it before you file one.
 
 mod element;
 mod ffi;

@@ -1,11 +1,11 @@
 //! The modes of a call: types here, bits of one word in C.
 
-/// Which rows are taken.
+/// Which rows are proved, and which sums are accepted.
 #[derive(Clone, Copy, Debug, PartialEq, Eq)]
 pub enum Mode {
     /// All.
     Sandbox,
-    /// None with q zero; an unused row is 0/1.
+    /// No row with q zero, an unused one is 0/1; and no sum with q zero, which says nothing about the rows.
     Live,
 }
 
@@ -21,14 +21,19 @@ pub enum Sum {
 const LIVE: u32 = 1;
 const ASSERT_ZERO: u32 = 2;
 
-/// The verifier takes no modes yet.
-pub(crate) const NONE: u32 = 0;
+/// The word of the verifier's mode.
+pub(crate) fn live(mode: Mode) -> u32 {
+    if mode == Mode::Live {
+        LIVE
+    } else {
+        0
+    }
+}
 
 /// The word of the prover's modes.
 pub(crate) fn word(mode: Mode, sum: Sum) -> u32 {
-    let live = if mode == Mode::Live { LIVE } else { NONE };
-    let assert_zero = if sum == Sum::AssertZero { ASSERT_ZERO } else { NONE };
-    live | assert_zero
+    let assert_zero = if sum == Sum::AssertZero { ASSERT_ZERO } else { 0 };
+    live(mode) | assert_zero
 }
 
 #[cfg(test)]
@@ -85,7 +90,7 @@ mod tests {
                 &mut answer,
             )
         };
-        assert!(number == 0 || words == [[9; 100]; 2]);
+        assert!(number == 0 || number == 17 || words == [[9; 100]; 2]);
         (number, answer)
     }
 
@@ -109,16 +114,19 @@ mod tests {
     }
 
     #[test]
-    fn the_verifier_takes_no_bit() {
+    fn the_verifier_takes_one_bit() {
         let half = |p| crate::Fraction::new(crate::Element::new(p), crate::Element::new(2));
         let rows = [half(1), half(crate::PRIME - 1)];
         let proof = crate::prove(&rows, Mode::Live, Sum::AssertZero, &[crate::Element::new(5)]).unwrap().proof;
-        for modes in [1, 2, 3].into_iter().chain(UNKNOWN) {
+        for modes in [2, 3].into_iter().chain(UNKNOWN) {
             for (bytes, rounds) in [(&proof[..], 1), (&[], 1), (&proof[..], 0), (&proof[..], 11)] {
-                assert_eq!(verify(bytes, rounds, modes), told(modes));
+                assert_eq!(verify(bytes, rounds, modes), told(modes & !1));
             }
         }
-        assert_eq!(verify(&proof, 1, NONE).0, 0);
+        assert_eq!([0, 1].map(|modes| verify(&proof, 1, modes).0), [0; 2]);
+        let mut over_zero = proof;
+        over_zero[5..21].fill(0);
+        assert_eq!([0, 1].map(|modes| verify(&over_zero, 1, modes).0), [17, 27]);
     }
 
     #[test]

@@ -46,14 +46,16 @@ pub fn prove(rows: &[Fraction], mode: Mode, sum: Sum, challenges: &[Element]) ->
     Ok(Proved { rounds: done.rounds, sum: done.sum, proof, point: elements_of(&point), log })
 }
 
-/// The claims of a proof of so many rounds, if it is accepted. The proof's exact bytes are asked for.
+/// The claims of a proof of so many rounds, if it is accepted. The proof's exact bytes are asked for. In [`Mode::Live`] a sum whose q is zero
+/// is refused; in [`Mode::Sandbox`] it is accepted, and says nothing about the rows.
 ///
 /// The sheet is not seen: compare the claims with its own values at the point. Of a proof that [`prove`] made with
-/// [`Sum::AssertZero`] and the same challenges it is proved that they are these values, and that point and log are the prover's.
-pub fn verify(proof: &[u8], rounds: usize, challenges: &[Element]) -> Result<Accepted, Refusal> {
+/// [`Sum::AssertZero`] and the same challenges it is proved that it is accepted, that they are these values, and that point and log are the
+/// prover's; in [`Mode::Live`] where no row has q zero, and so where it was proved in that mode.
+pub fn verify(proof: &[u8], rounds: usize, mode: Mode, challenges: &[Element]) -> Result<Accepted, Refusal> {
     let mut point = vec![0; rooms::point_words(rounds)];
     let mut log = vec![0; rooms::log_words(rounds, Sum::AssertZero)];
-    let claims = verify_into(proof, rounds, &words_of(challenges), &mut point, &mut log)?;
+    let claims = verify_into(proof, rounds, mode, &words_of(challenges), &mut point, &mut log)?;
     Ok(Accepted { claims, point: elements_of(&point), log })
 }
 

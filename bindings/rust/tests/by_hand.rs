@@ -23,7 +23,7 @@ fn claims(numer: i64, denom: i64) -> Claims {
 fn both(list: &[(i64, i64)], challenges: &[i64]) -> (Fraction, Claims, Vec<Element>) {
     let challenges = words(challenges);
     let proved = prove(&rows(list), Mode::Sandbox, Sum::AssertZero, &challenges).unwrap();
-    let accepted = verify(&proved.proof, proved.rounds, &challenges).unwrap();
+    let accepted = verify(&proved.proof, proved.rounds, Mode::Sandbox, &challenges).unwrap();
     assert_eq!((&accepted.log, &accepted.point), (&proved.log, &proved.point));
     (proved.sum, accepted.claims, accepted.point)
 }
@@ -45,7 +45,10 @@ fn k3_four_rows() {
 
 #[test]
 fn k4_zero_over_zero() {
-    assert_eq!(both(&[(0, 0), (0, 0)], &[5]), (rows(&[(0, 0)])[0], claims(0, 0), words(&[5])));
+    let k4 = [(0, 0), (0, 0)];
+    assert_eq!(both(&k4, &[5]), (rows(&[(0, 0)])[0], claims(0, 0), words(&[5])));
+    let proof = prove(&rows(&k4), Mode::Sandbox, Sum::AssertZero, &words(&[5])).unwrap().proof;
+    assert_eq!(verify(&proof, 1, Mode::Live, &words(&[5])), Err(Refusal::ZeroRoot));
 }
 
 #[test]
@@ -62,7 +65,7 @@ fn k6_a_sum_of_two() {
     assert_eq!(prove(&k6, Mode::Sandbox, Sum::AssertZero, &words(&[5])), Err(Refusal::NonZeroRootSum));
     let proved = prove(&k6, Mode::Sandbox, Sum::Observe, &words(&[5])).unwrap();
     assert_eq!(proved.sum, rows(&[(2, 1)])[0]);
-    assert_eq!(verify(&proved.proof, 1, &words(&[5])), Err(Refusal::ZeroCheckFailed { actual: word(2) }));
+    assert_eq!(verify(&proved.proof, 1, Mode::Live, &words(&[5])), Err(Refusal::ZeroCheckFailed { actual: word(2) }));
 }
 
 #[test]
@@ -77,7 +80,7 @@ fn k10_another_denominator() {
     let mut proof = prove(&rows(&[(1, 2), (-1, 2)]), Mode::Sandbox, Sum::AssertZero, &words(&[5])).unwrap().proof;
     proof[8] = 5;
     let refusal = Refusal::RootConsistencyCheckFailed { expected: word(5), actual: word(4) };
-    assert_eq!(verify(&proof, 1, &words(&[5])), Err(refusal));
+    assert_eq!(verify(&proof, 1, Mode::Live, &words(&[5])), Err(refusal));
     assert_eq!(refusal.number(), 17);
 }
 

@@ -45,14 +45,14 @@ fn rebuilt(source: &mut Source, bytes: &[u8]) -> Vec<u8> {
 }
 
 /// Ours and the plain run agree on the answer, the log and the point.
-fn compare(bytes: &[u8], rounds: usize, challenges: &[Element]) -> Result<Accepted, Refusal> {
-    let (verdict, log) = plain::verifier::verify(bytes, rounds, challenges);
+fn compare(bytes: &[u8], rounds: usize, mode: Mode, challenges: &[Element]) -> Result<Accepted, Refusal> {
+    let (verdict, log) = plain::verifier::verify(bytes, rounds, mode, challenges);
     let mut lent = Lent::spare(rounds, true);
-    let told = lent.verify(bytes, rounds, challenges);
+    let told = lent.verify(bytes, rounds, mode, challenges);
     assert_eq!(told, verdict.clone().map(|v| v.0));
     assert_eq!(lent.log, marked(&log, lent.log.len()));
     assert_eq!(lent.point, marked(&verdict.map_or(vec![], |v| words_of(&v.1)), lent.point.len()));
-    let owned = verify(bytes, rounds, challenges);
+    let owned = verify(bytes, rounds, mode, challenges);
     assert_eq!(owned.as_ref().map(|a| a.claims), told.as_ref().copied());
     owned
 }
@@ -64,9 +64,10 @@ fn damaged_proofs() {
     for n in 1..=6 {
         let (rows, challenges) = (source.zero_sum(n), source.challenges(n));
         let proof = prove(&rows, Mode::Live, Sum::AssertZero, &challenges).unwrap().proof;
-        let honest = compare(&proof, n, &challenges).unwrap();
-        for _ in 0..2000 {
-            match compare(&damaged(&mut source, &proof), n, &challenges) {
+        let honest = compare(&proof, n, Mode::Live, &challenges).unwrap();
+        for k in 0..2000 {
+            let mode = if k % 2 == 0 { Mode::Sandbox } else { Mode::Live };
+            match compare(&damaged(&mut source, &proof), n, mode, &challenges) {
                 // A proof of one round is its two rows: damage may give that of other rows.
                 Ok(accepted) => assert!(n == 1 || accepted == honest),
                 Err(refusal) => drop(numbers.insert(refusal.number())),
@@ -87,7 +88,7 @@ fn damaged_challenges() {
             let mut other = challenges.clone();
             let at = source.below(other.len());
             other[at] = source.element();
-            let told = compare(&proof, n, &other);
+            let told = compare(&proof, n, Mode::Live, &other);
             assert!(told.is_err() || at + 1 == other.len(), "only the last mu is checked by nothing that follows");
         }
     }
@@ -105,7 +106,7 @@ fn bytes_that_are_no_proof() {
             bytes[0] = 1;
             bytes[1..5].copy_from_slice(&length.to_be_bytes());
         }
-        let _ = compare(&bytes, n, &challenges);
+        let _ = compare(&bytes, n, Mode::Live, &challenges);
     }
 }
 

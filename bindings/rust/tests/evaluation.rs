@@ -27,7 +27,7 @@ fn what_an_accepted_proof_claims() {
         let mut source = Source(400 + n as u64);
         let (rows, challenges) = (source.zero_sum(n), source.challenges(n));
         let proved = prove(&rows, Mode::Live, Sum::AssertZero, &challenges).unwrap();
-        let accepted = verify(&proved.proof, n, &challenges).unwrap();
+        let accepted = verify(&proved.proof, n, Mode::Live, &challenges).unwrap();
         assert_eq!(evaluate(&rows, &accepted.point), Ok(accepted.claims));
         let mut other = rows.clone();
         other.swap(0, 1);

@@ -21,7 +21,7 @@ fn accepted_with_the_true_values() {
         for mode in [Mode::Sandbox, Mode::Live] {
             let proved = prove(&rows, mode, Sum::AssertZero, &challenges).unwrap();
             assert_eq!((proved.rounds, proved.sum), (n, root(&rows)));
-            let accepted = verify(&proved.proof, n, &challenges).unwrap();
+            let accepted = verify(&proved.proof, n, mode, &challenges).unwrap();
             assert_eq!((&accepted.point, &accepted.log), (&proved.point, &proved.log));
             let (p, q) = columns(&rows);
             assert_eq!(accepted.claims.numer, value(&p, &proved.point), "n = {n}");
@@ -56,7 +56,7 @@ fn an_observed_sum_that_is_not_zero_is_turned_away() {
         let (rows, challenges) = (source.rows(n), source.challenges(n));
         let proved = prove(&rows, Mode::Live, Sum::Observe, &challenges).unwrap();
         assert_eq!(prove(&rows, Mode::Live, Sum::AssertZero, &challenges), Err(Refusal::NonZeroRootSum));
-        assert_eq!(verify(&proved.proof, n, &challenges), Err(Refusal::ZeroCheckFailed { actual: proved.sum.p }));
+        assert_eq!(verify(&proved.proof, n, Mode::Live, &challenges), Err(Refusal::ZeroCheckFailed { actual: proved.sum.p }));
     }
 }
 
@@ -67,7 +67,7 @@ fn no_rows() {
         assert_eq!((proved.rounds, proved.sum), (0, Fraction::new(Element::ZERO, Element::ONE)));
         assert_eq!(proved.proof, [&[1, 0, 0, 0, 18, 0, 0, 0, 1][..], &[0; 14]].concat());
         assert!(proved.point.is_empty() && proved.log.is_empty());
-        assert_eq!(verify(&proved.proof, 0, &[]), Err(Refusal::ZeroRounds));
+        assert_eq!(verify(&proved.proof, 0, Mode::Live, &[]), Err(Refusal::ZeroRounds));
     }
 }
 
@@ -91,7 +91,7 @@ fn threads_do_not_meet() {
         let mut source = Source(seed);
         let (rows, challenges) = (source.zero_sum(6), source.challenges(6));
         let proved = prove(&rows, Mode::Live, Sum::AssertZero, &challenges).unwrap();
-        (verify(&proved.proof, 6, &challenges).unwrap(), proved)
+        (verify(&proved.proof, 6, Mode::Live, &challenges).unwrap(), proved)
     };
     let alone: Vec<_> = (0..8).map(run).collect();
     let together: Vec<_> = std::thread::scope(|s| {

@@ -68,10 +68,11 @@ fn prover(case: &mut Line<'_>) -> Vec<u32> {
 
 fn verifier(case: &mut Line<'_>) -> Vec<u32> {
     let rounds = case.number() as usize;
+    let mode = if case.number() == 1 { Mode::Live } else { Mode::Sandbox };
     let (proof, challenges) = (case.bytes(), case.words());
     let [mut point, mut log] = case.buffers();
     let accepted = |c: Claims| told(0, [0; 3], c.numer, c.denom);
-    let answer = verify_into(&proof, rounds, &challenges, &mut point, &mut log).map_or_else(refused, accepted);
+    let answer = verify_into(&proof, rounds, mode, &challenges, &mut point, &mut log).map_or_else(refused, accepted);
     [answer.to_vec(), listed(&point), listed(&log)].concat()
 }
 

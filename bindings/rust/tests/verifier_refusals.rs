@@ -1,7 +1,7 @@
 //! The verifier's numbers, each at its boundary, and what point and log hold after each.
 mod plain;
 
-use accudrina::{rooms, verify_into, words_of, Claims, Element, Refusal, Sum, PRIME};
+use accudrina::{rooms, verify_into, words_of, Claims, Element, Mode, Refusal, Sum, PRIME};
 use plain::{
     field::{add, mul},
     lent::{marked, Lent, WORD},
@@ -17,11 +17,16 @@ fn case(rounds: usize) -> (Proof, Vec<Element>) {
     (plain::prover::prove(&rows, true, &challenges).0, challenges)
 }
 
-/// The answer over exact room; a refusal leaves the point, and in the log what the plain run logged until then.
+/// The answer in sandbox mode.
 fn answer(proof: &[u8], rounds: usize, challenges: &[Element]) -> Result<Claims, Refusal> {
+    answer_in(Mode::Sandbox, proof, rounds, challenges)
+}
+
+/// The answer over exact room; a refusal leaves the point, and in the log what the plain run logged until then.
+fn answer_in(mode: Mode, proof: &[u8], rounds: usize, challenges: &[Element]) -> Result<Claims, Refusal> {
     let mut lent = Lent::spare(rounds, true);
-    let told = lent.verify(proof, rounds, challenges);
-    let (verdict, log) = plain::verifier::verify(proof, rounds, challenges);
+    let told = lent.verify(proof, rounds, mode, challenges);
+    let (verdict, log) = plain::verifier::verify(proof, rounds, mode, challenges);
     assert_eq!(told, verdict.clone().map(|v| v.0));
     assert_eq!(lent.log, marked(&log, lent.log.len()));
     let point = verdict.map_or(vec![], |v| words_of(&v.1));
@@ -51,7 +56,7 @@ fn n4_and_n5_challenges_and_room() {
         let told = |bytes: &[u8], words: &[u32], less_point: usize, less_log: usize| {
             let mut point = vec![WORD; rooms::point_words(n) - less_point];
             let mut log = vec![WORD; rooms::log_words(n, Sum::AssertZero) - less_log];
-            let told = verify_into(bytes, n, words, &mut point, &mut log);
+            let told = verify_into(bytes, n, Mode::Live, words, &mut point, &mut log);
             assert!(told.is_ok() || (point.iter().chain(&log).all(|&w| w == WORD)));
             told.map(|_| ())
         };
@@ -166,5 +171,28 @@ fn n19_in_every_round() {
             let told = refused(&bad, 5, &challenges);
             assert!(matches!(told, LayerConsistencyCheckFailed { round: r, .. } if r == round), "{told}");
         }
+    }
+}
+
+#[test]
+fn n27_live_after_the_counts() {
+    for n in 1..=5 {
+        let (mut proof, challenges) = case(n);
+        let live = |proof: &Proof| answer_in(Mode::Live, &proof.bytes(), n, &challenges);
+        assert_eq!(live(&proof), answer(&proof.bytes(), n, &challenges));
+        let denom = std::mem::replace(&mut proof.q0, Element::ZERO);
+        assert_eq!(live(&proof), Err(ZeroRoot));
+        assert_eq!(refused(&proof, n, &challenges), RootConsistencyCheckFailed { expected: Element::ZERO, actual: denom });
+        for coordinate in 0..4 {
+            proof.q0 = Element::ZERO;
+            proof.q0.0[coordinate] = 1;
+            assert_eq!(live(&proof), Err(RootConsistencyCheckFailed { expected: proof.q0, actual: denom }));
+        }
+        proof.q0 = Element::ZERO;
+        let mut more = proof.clone();
+        more.polys.push(vec![]);
+        assert_eq!(live(&more).unwrap_err().number(), 15);
+        more.layers.push([Element::ZERO; 4]);
+        assert_eq!(live(&more).unwrap_err().number(), 14);
     }
 }

@@ -43,8 +43,8 @@ impl Lent {
         prove_into(rows, mode, sum, challenges, rooms)
     }
 
-    pub fn verify(&mut self, proof: &[u8], rounds: usize, challenges: &[Element]) -> Result<Claims, Refusal> {
-        verify_into(proof, rounds, &words_of(challenges), &mut self.point, &mut self.log)
+    pub fn verify(&mut self, proof: &[u8], rounds: usize, mode: Mode, challenges: &[Element]) -> Result<Claims, Refusal> {
+        verify_into(proof, rounds, mode, &words_of(challenges), &mut self.point, &mut self.log)
     }
 }
 

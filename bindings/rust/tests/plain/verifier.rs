@@ -3,7 +3,7 @@ use super::{
     field::{add, interpolate, line, mul, sub},
     prover::{Proof, Transcript},
 };
-use accudrina::{rooms, Claims, Element, Refusal, PRIME};
+use accudrina::{rooms, Claims, Element, Mode, Refusal, PRIME};
 
 /// The bytes taken apart, or none where a length or a count disagrees with them.
 pub fn parse(bytes: &[u8]) -> Option<Proof> {
@@ -35,7 +35,7 @@ fn canonical(e: &Element) -> bool {
 }
 
 /// The refusals before the run, with room enough.
-fn gate(bytes: &[u8], rounds: usize, challenges: &[Element]) -> Result<Proof, Refusal> {
+fn gate(bytes: &[u8], rounds: usize, mode: Mode, challenges: &[Element]) -> Result<Proof, Refusal> {
     if rounds == 0 {
         return Err(Refusal::ZeroRounds);
     }
@@ -60,6 +60,9 @@ fn gate(bytes: &[u8], rounds: usize, challenges: &[Element]) -> Result<Proof, Re
     }
     if proof.polys.len() != rounds - 1 {
         return Err(Refusal::IncorrectSumcheckPolyCount { expected: count(rounds - 1), actual: count(proof.polys.len()) });
+    }
+    if mode == Mode::Live && proof.q0 == Element::ZERO {
+        return Err(Refusal::ZeroRoot);
     }
     Ok(proof)
 }
@@ -124,8 +127,8 @@ fn run(t: &mut Transcript<'_>, proof: &Proof) -> Verdict {
 }
 
 /// The verdict with the point, and the log.
-pub fn verify(bytes: &[u8], rounds: usize, challenges: &[Element]) -> (Verdict, Vec<u32>) {
-    let proof = match gate(bytes, rounds, challenges) {
+pub fn verify(bytes: &[u8], rounds: usize, mode: Mode, challenges: &[Element]) -> (Verdict, Vec<u32>) {
+    let proof = match gate(bytes, rounds, mode, challenges) {
         Ok(proof) => proof,
         Err(refusal) => return (Err(refusal), vec![]),
     };
