@@ -5,8 +5,7 @@ use mathlib.Core.List.{List, [], _∷_}
 use Prim.Native.Nat.{ℕ}
 use lib.Bits.{bitXor}
 use lib.ListN.{getD}
-use Rattle.keccak.specs.Keccak.{column, rot, theta, rho, pi}
-use Rattle.keccak.specs.State.{spread}
+use Rattle.keccak.specs.Keccak.{column, rot, spread, theta, rho, pi}
 
 pub theta-with : (a : List ℕ) {r0 r1 r2 r3 r4 : ℕ}
     → r1 ≡ rot (column a 1) 1 → r2 ≡ rot (column a 2) 1 → r3 ≡ rot (column a 3) 1 → r4 ≡ rot (column a 4) 1 → r0 ≡ rot (column a 0) 1

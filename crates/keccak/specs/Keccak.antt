@@ -6,6 +6,7 @@ use Prim.Native.Nat.{ℕ, zero, suc, _+_, _-_, _*_, _/_, _%_, _^_}
 use lib.Bits.{bitAnd, bitXor}
 use lib.Dec.{eqb, ltb}
 use lib.ListN.{getD, set}
+use Rattle.keccak.specs.Values.{values}
 
 -- each bit the other way; rotated by n to the left: what leaves at the top comes in at the bottom
 abbrev pub flip : ℕ → ℕ
@@ -24,12 +25,15 @@ row f y rest = f 0 y ∷ f 1 y ∷ f 2 y ∷ f 3 y ∷ f 4 y ∷ rest
 abbrev pub grid : (ℕ → ℕ → ℕ) → List ℕ
 grid f = row f 0 (row f 1 (row f 2 (row f 3 (row f 4 []))))
 
--- 3.2.1: each bit is xored with the parities of two columns
+-- 3.2.1: the parity of column x, a number for each column, and that number xored into the column's five lanes
 abbrev pub column : List ℕ → ℕ → ℕ
 column a x = bitXor (bitXor (bitXor (bitXor (lane a x 0) (lane a x 1)) (lane a x 2)) (lane a x 3)) (lane a x 4)
 
+abbrev pub spread : List ℕ → List ℕ → List ℕ
+spread a d = grid (λ x y. bitXor (lane a x y) (getD d x 0))
+
 unfoldable pub theta : List ℕ → List ℕ
-theta a = grid (λ x y. bitXor (lane a x y) (bitXor (column a (x + 4)) (rot (column a (x + 1)) 1)))
+theta a = spread a (values (λ x. bitXor (column a (x + 4)) (rot (column a (x + 1)) 1)) 0 5)
 
 -- 3.2.2: step t, at (u, v), has the offset (t + 1)(t + 2)/2, and (v, 2u + 3v) is next; from (1, 0) on, 24 steps meet every lane but (0, 0), which stays
 abbrev pub offsetFrom : ℕ → ℕ → ℕ → ℕ → ℕ → ℕ → ℕ

@@ -2,8 +2,8 @@
 ghost use mathlib.Core.Path.{_≡_};
 ghost use mathlib.Core.List.{[], _∷_};
 ghost use Prim.Native.Nat.{_<_};
-ghost use Rattle.keccak.specs.Keccak.{rot, theta, rho, pi, chi, addFirst, keccak};
-ghost use Rattle.keccak.specs.State.{asList, spread};
+ghost use Rattle.keccak.specs.Keccak.{rot, spread, theta, rho, pi, chi, addFirst, keccak};
+ghost use Rattle.keccak.specs.State.{asList};
 
 // A state: the standard's lane (x, y) is lane 5y + x. A struct, since an array could not stand in an enum.
 pub struct Lanes {
