@@ -1,20 +1,22 @@
 -- The step mappings as the code has them: the lanes one by one, each by the answer of the call that makes it.
 -- Assumes nothing.
-use mathlib.Core.Path.{_≡_}
+use mathlib.Core.Path.{_≡_, _∙_}
 use mathlib.Core.List.{List, [], _∷_}
 use Prim.Native.Nat.{ℕ}
 use lib.Bits.{bitXor}
 use lib.ListN.{getD}
 use Rattle.keccak.specs.Keccak.{column, rot, spread, theta, rho, pi}
 
-pub theta-with : (a : List ℕ) {r0 r1 r2 r3 r4 : ℕ}
+pub theta-with : (a : List ℕ) {t : List ℕ} {r0 r1 r2 r3 r4 : ℕ}
     → r1 ≡ rot (column a 1) 1 → r2 ≡ rot (column a 2) 1 → r3 ≡ rot (column a 3) 1 → r4 ≡ rot (column a 4) 1 → r0 ≡ rot (column a 0) 1
-    → spread a (bitXor (column a 4) r1 ∷ bitXor (column a 0) r2 ∷ bitXor (column a 1) r3 ∷ bitXor (column a 2) r4 ∷ bitXor (column a 3) r0 ∷ []) ≡ theta a
+    → t ≡ spread a (bitXor (column a 4) r1 ∷ bitXor (column a 0) r2 ∷ bitXor (column a 1) r3 ∷ bitXor (column a 2) r4 ∷ bitXor (column a 3) r0 ∷ [])
+    → t ≡ theta a
 unfolding theta
-theta-with a e1 e2 e3 e4 e0 =
-    λ i.
+theta-with a e1 e2 e3 e4 e0 f =
+    f
+    ∙ (λ i.
     spread a
-    (bitXor (column a 4) (e1 i) ∷ bitXor (column a 0) (e2 i) ∷ bitXor (column a 1) (e3 i) ∷ bitXor (column a 2) (e4 i) ∷ bitXor (column a 3) (e0 i) ∷ [])
+    (bitXor (column a 4) (e1 i) ∷ bitXor (column a 0) (e2 i) ∷ bitXor (column a 1) (e3 i) ∷ bitXor (column a 2) (e4 i) ∷ bitXor (column a 3) (e0 i) ∷ []))
 
 -- the lanes after rho and pi
 pub moved-with : (a : List ℕ) {r1 r2 r3 r4 r5 r6 r7 r8 r9 r10 r11 r12 r13 r14 r15 r16 r17 r18 r19 r20 r21 r22 r23 r24 : ℕ}

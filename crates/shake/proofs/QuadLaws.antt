@@ -1,12 +1,13 @@
 -- Four bytes at once, two such make a lane, and where all four lie in the words or in the padding's zeros.
 -- Assumes nothing.
 use mathlib.Core.Path.{_≡_, sym, ap, _∙_}
-use mathlib.Core.List.{List}
-use Prim.Native.Nat.{ℕ, suc, _+_, _-_, _*_, _/_, _^_, _≤_, _<_}
+use mathlib.Core.List.{List, [], _∷_}
+use Prim.Native.Nat.{ℕ, suc, _+_, _-_, _*_, _/_, _%_, _^_, _≤_, _<_}
 use native.Mathlib.Omega.{arith}
 use lib.ListN.{length, getD}
 use Rattle.wire.specs.Bytes.{bytesOf}
-use Rattle.shake.specs.Sponge.{padded, laneAt}
+use Rattle.keccak.specs.Values.{values}
+use Rattle.shake.specs.Sponge.{highFirst, padded, laneAt, laneByte}
 use Rattle.shake.specs.Drawn.{message}
 use Rattle.shake.specs.Quads.{quadAt}
 use Rattle.shake.proofs.PadLaws.{length-message, in-words, pad-inside, byte-zero}
@@ -27,6 +28,26 @@ eight b0 b1 b2 b3 b4 b5 b6 b7 =
     let e : b4 + 256 * (b5 + 256 * (b6 + 256 * (b7 + 256 * 0))) ≡ b4 + b5 * 2 ^ 8 + b6 * 2 ^ 16 + b7 * 2 ^ 24 = omega arith in
     four b0 b1 b2 b3 (b4 + 256 * (b5 + 256 * (b6 + 256 * (b7 + 256 * 0))))
     ∙ ap (λ (x : ℕ). b0 + b1 * 2 ^ 8 + b2 * 2 ^ 16 + b3 * 2 ^ 24 + x * 2 ^ 32) e
+
+-- and turned: the first is the highest
+eight-turned : (b0 b1 b2 b3 b4 b5 b6 b7 : ℕ)
+    → (b0 * 2 ^ 24 + b1 * 2 ^ 16 + b2 * 2 ^ 8 + b3) * 2 ^ 32 + (b4 * 2 ^ 24 + b5 * 2 ^ 16 + b6 * 2 ^ 8 + b7)
+    ≡ highFirst (b0 ∷ b1 ∷ b2 ∷ b3 ∷ b4 ∷ b5 ∷ b6 ∷ b7 ∷ [])
+eight-turned b0 b1 b2 b3 b4 b5 b6 b7 =
+    let e : (b0 * 2 ^ 24 + b1 * 2 ^ 16 + b2 * 2 ^ 8 + b3) * 2 ^ 32 + (b4 * 2 ^ 24 + b5 * 2 ^ 16 + b6 * 2 ^ 8 + b7)
+            ≡ b7 + b6 * 2 ^ 8 + b5 * 2 ^ 16 + b4 * 2 ^ 24 + (b3 + b2 * 2 ^ 8 + b1 * 2 ^ 16 + b0 * 2 ^ 24) * 2 ^ 32
+          = omega arith in
+    e ∙ sym (eight b7 b6 b5 b4 b3 b2 b1 b0)
+
+pub turned-lane : (a : ℕ)
+    → (a % 256 * 2 ^ 24 + a / 2 ^ 8 % 256 * 2 ^ 16 + a / 2 ^ 16 % 256 * 2 ^ 8 + a / 2 ^ 24 % 256) * 2 ^ 32
+    + (a / 2 ^ 32 % 256 * 2 ^ 24 + a / 2 ^ 40 % 256 * 2 ^ 16 + a / 2 ^ 48 % 256 * 2 ^ 8 + a / 2 ^ 56 % 256)
+    ≡ highFirst (values (laneByte a) 0 8)
+turned-lane a =
+    let e : a / 1 % 256 ≡ a % 256 = omega arith in
+    ap (λ (x : ℕ). (x * 2 ^ 24 + a / 2 ^ 8 % 256 * 2 ^ 16 + a / 2 ^ 16 % 256 * 2 ^ 8 + a / 2 ^ 24 % 256) * 2 ^ 32
+    + (a / 2 ^ 32 % 256 * 2 ^ 24 + a / 2 ^ 40 % 256 * 2 ^ 16 + a / 2 ^ 48 % 256 * 2 ^ 8 + a / 2 ^ 56 % 256)) (sym e)
+    ∙ eight-turned (a / 1 % 256) (a / 2 ^ 8 % 256) (a / 2 ^ 16 % 256) (a / 2 ^ 24 % 256) (a / 2 ^ 32 % 256) (a / 2 ^ 40 % 256) (a / 2 ^ 48 % 256) (a / 2 ^ 56 % 256)
 
 pub lane-eq : {b0 b1 a0 a1 : ℕ} → b0 ≡ a0 → b1 ≡ a1 → b0 + b1 * 2 ^ 32 ≡ a0 + a1 * 2 ^ 32
 lane-eq e0 e1 = λ i. e0 i + e1 i * 2 ^ 32

@@ -1,4 +1,3 @@
-use mathlib.Core.Path.{_∙_}
 use Rattle.keccak.proofs.Steps.{theta-with}
 use native.Mathlib.Omega.{arith}
 use borrow.Author.Needs.{needs}
@@ -26,9 +25,8 @@ spread-columns-requires c κs = search needs
 returns : tie.Need-returns
 returns c =
     let r = c .before in
-    c .spread-columns .ensures
-    ∙ theta-with _ (r .before .before .before .before .rotated .ensures) (r .before .before .before .rotated2 .ensures)
-    (r .before .before .rotated3 .ensures) (r .before .rotated4 .ensures) (r .rotated5 .ensures)
+    theta-with _ (r .before .before .before .before .rotated .ensures) (r .before .before .before .rotated2 .ensures) (r .before .before .rotated3 .ensures)
+    (r .before .rotated4 .ensures) (r .rotated5 .ensures) (c .spread-columns .ensures)
 
 pub mix-columns-spec : {M : Type 1} → statement M
 mix-columns-spec =

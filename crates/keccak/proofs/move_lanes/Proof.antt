@@ -1,3 +1,4 @@
+use Rattle.keccak.specs.State.{asList}
 use Rattle.keccak.proofs.Steps.{moved-with}
 use native.Mathlib.Omega.{arith}
 use borrow.Author.Needs.{needs}
@@ -79,7 +80,7 @@ rotated-requires-24 c κs = search needs
 returns : tie.Need-returns
 returns c =
     let m = c .before .before .before .before .before .before .before .before .before .before .before .before in
-    moved-with _
+    moved-with (asList (m .before .before .before .before .before .before .before .before .before .before .before .before .args .a))
     (m .before .before .before .before .before .before .before .before .before .before .before .rotated .ensures)
     (m .before .before .before .before .before .before .before .before .before .before .rotated2 .ensures)
     (m .before .before .before .before .before .before .before .before .before .rotated3 .ensures)
