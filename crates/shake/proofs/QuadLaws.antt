@@ -1,6 +1,6 @@
 -- Four bytes at once, two such make a lane, and where all four lie in the words or in the padding's zeros.
 -- Assumes nothing.
-use mathlib.Core.Path.{_≡_, sym, ap, _∙_}
+use mathlib.Core.Path.{_≡_, refl, sym, ap, _∙_}
 use mathlib.Core.List.{List, [], _∷_}
 use Prim.Native.Nat.{ℕ, suc, _+_, _-_, _*_, _/_, _%_, _^_, _≤_, _<_}
 use native.Mathlib.Omega.{arith}
@@ -35,8 +35,8 @@ eight-turned : (b0 b1 b2 b3 b4 b5 b6 b7 : ℕ)
     ≡ highFirst (b0 ∷ b1 ∷ b2 ∷ b3 ∷ b4 ∷ b5 ∷ b6 ∷ b7 ∷ [])
 eight-turned b0 b1 b2 b3 b4 b5 b6 b7 =
     let e : (b0 * 2 ^ 24 + b1 * 2 ^ 16 + b2 * 2 ^ 8 + b3) * 2 ^ 32 + (b4 * 2 ^ 24 + b5 * 2 ^ 16 + b6 * 2 ^ 8 + b7)
-            ≡ b7 + b6 * 2 ^ 8 + b5 * 2 ^ 16 + b4 * 2 ^ 24 + (b3 + b2 * 2 ^ 8 + b1 * 2 ^ 16 + b0 * 2 ^ 24) * 2 ^ 32
-          = omega arith in
+    ≡ b7 + b6 * 2 ^ 8 + b5 * 2 ^ 16 + b4 * 2 ^ 24 + (b3 + b2 * 2 ^ 8 + b1 * 2 ^ 16 + b0 * 2 ^ 24) * 2 ^ 32
+    = omega arith in
     e ∙ sym (eight b7 b6 b5 b4 b3 b2 b1 b0)
 
 pub turned-lane : (a : ℕ)
@@ -94,3 +94,18 @@ unfolding quadAt
 quad-zero l ws i h k =
     quad-eq (byte-zero l ws i h (λ e. omega arith)) (byte-zero l ws (i + 1) (omega arith) (λ e. omega arith))
     (byte-zero l ws (i + 2) (omega arith) (λ e. omega arith)) (byte-zero l ws (i + 3) (omega arith) (λ e. omega arith))
+
+-- ---- both halves at once
+
+pub lane-inside : (l ws : List ℕ) (i : ℕ) {r : ℕ} → length l ≤ 8 * i → 8 * i - length l + 8 < 4 * length ws
+    → r ≡ quadAt (bytesOf ws) (8 * i - length l) + quadAt (bytesOf ws) (8 * i - length l + 4) * 2 ^ 32 → r ≡ laneAt (padded (message l ws)) i
+lane-inside l ws i h k e =
+    let d : 8 * i - length l + 4 ≡ 8 * i + 4 - length l = omega arith in
+    e
+    ∙ lane-of-quads (padded (message l ws)) i (quad-inside l ws (8 * i) h (omega arith) refl)
+    (quad-inside l ws (8 * i + 4) (omega arith) (omega arith) (ap (quadAt (bytesOf ws)) d))
+
+pub lane-zero : (l ws : List ℕ) (i : ℕ) → length l + 4 * length ws < 8 * i → 8 * i + 7 < (length l + 4 * length ws) / 168 * 168 + 167
+    → _≡_ {A = ℕ} 0 (laneAt (padded (message l ws)) i)
+lane-zero l ws i h k =
+    lane-of-quads (padded (message l ws)) i (quad-zero l ws (8 * i) h (omega arith)) (quad-zero l ws (8 * i + 4) (omega arith) (omega arith))
