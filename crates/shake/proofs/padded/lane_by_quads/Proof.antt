@@ -5,25 +5,25 @@ use Rattle.shake.proofs.padded.lane_by_quads.Statement.{statement}
 use Rattle.shake.proofs.padded.lane_by_quads.Tie as tie
 
 mul-padded-quad : tie.Need-mul-padded-quad
-mul-padded-quad c = search needs
+mul-padded-quad c = omega arith
 
 padded-quad-requires : tie.Need-padded-quad-requires
 padded-quad-requires c κs = search needs
 
 mul-padded-quad-2 : tie.Need-mul-padded-quad-2
-mul-padded-quad-2 c = search needs
+mul-padded-quad-2 c = omega arith
 
 add-padded-quad : tie.Need-add-padded-quad
-add-padded-quad c = search needs
+add-padded-quad c = omega arith
 
 padded-quad-requires-2 : tie.Need-padded-quad-requires-2
 padded-quad-requires-2 c κs = search needs
 
 mul-result : tie.Need-mul-result
-mul-result c = search needs
+mul-result c = omega arith
 
 add-result : tie.Need-add-result
-add-result c = search needs
+add-result c = omega arith
 
 returns : tie.Need-returns
 returns c = lane-of-quads _ _ (c .before .padded-quad .ensures .0) (c .padded-quad2 .ensures .0)

@@ -7,16 +7,16 @@ use Rattle.shake.proofs.padded.padded_lane.Statement.{statement}
 use Rattle.shake.proofs.padded.padded_lane.Tie as tie
 
 mul-at : tie.Need-mul-at
-mul-at c = search needs
+mul-at c = omega arith
 
 sub-j : tie.Need-sub-j
-sub-j c = search needs
+sub-j c = omega arith
 
 add-if2 : tie.Need-add-if2
-add-if2 c = search needs
+add-if2 c = omega arith
 
 mul-if2 : tie.Need-mul-if2
-mul-if2 c = search needs
+mul-if2 c = omega arith
 
 lane-of-words-requires : tie.Need-lane-of-words-requires
 lane-of-words-requires c κs = search needs
@@ -27,19 +27,19 @@ returns c =
     lane-inside (now (a .label)) (now (a .words)) (a .i) (omega arith) (omega arith) (c .lane-of-words .ensures)
 
 mul-size : tie.Need-mul-size
-mul-size c = search needs
+mul-size c = omega arith
 
 add-size : tie.Need-add-size
-add-size c = search needs
+add-size c = omega arith
 
 add-if4 : tie.Need-add-if4
-add-if4 c = search needs
+add-if4 c = omega arith
 
 mul-if4 : tie.Need-mul-if4
-mul-if4 c = search needs
+mul-if4 c = omega arith
 
 add-if4-2 : tie.Need-add-if4-2
-add-if4-2 c = search needs
+add-if4-2 c = omega arith
 
 returns-2 : tie.Need-returns-2
 returns-2 c =
