@@ -13,6 +13,7 @@ const PLACES: [usize; 24] = [10, 7, 11, 17, 18, 3, 5, 16, 8, 21, 24, 4, 15, 23, 
 
 extern "C" {
     fn keccak_bench_permute(a: u64, n: usize) -> u64;
+    fn keccak_bench_draws(label: *const u8, label_len: usize, words: *const u32, words_len: usize) -> u32;
     fn keccak_bench_hash(label: *const u8, label_len: usize, words: *const u32, words_len: usize, out: *mut u8, out_len: usize);
 }
 
@@ -68,9 +69,7 @@ fn plain_hash(label: &[u8], words: &[u32], out: &mut [u8]) {
     *m.last_mut().unwrap() += 128;
     let mut s = [0u64; 25];
     for block in m.chunks_exact(168) {
-        for (lane, bytes) in s.iter_mut().zip(block.chunks_exact(8)) {
-            *lane ^= u64::from_le_bytes(bytes.try_into().unwrap());
-        }
+        xor_block(&mut s, block);
         plain(&mut s);
     }
     for (i, b) in out.iter_mut().enumerate() {
@@ -79,6 +78,42 @@ fn plain_hash(label: &[u8], words: &[u32], out: &mut [u8]) {
         }
         *b = (s[i % 168 / 8] >> (8 * (i % 8))) as u8;
     }
+}
+
+fn xor_block(s: &mut [u64; 25], block: &[u8]) {
+    for (lane, bytes) in s.iter_mut().zip(block.chunks_exact(8)) {
+        *lane ^= u64::from_le_bytes(bytes.try_into().unwrap());
+    }
+}
+
+/// The sum of the words drawn from a label and the first 0, 1, .. of the words: the state is carried, with a block that is filled.
+#[inline(never)]
+fn plain_draws(label: &[u8], words: &[u32]) -> u32 {
+    let (mut s, mut block, mut filled, mut sum) = ([0u64; 25], [0u8; 168], label.len(), 0);
+    block[..filled].copy_from_slice(label);
+    for w in words {
+        let (mut t, mut last) = (s, block);
+        last[filled..].fill(0);
+        last[filled] = 31;
+        last[167] |= 128;
+        xor_block(&mut t, &last);
+        plain(&mut t);
+        sum = (sum + t[0].swap_bytes() % 2013265921) % 2013265921;
+        for b in w.to_be_bytes() {
+            block[filled] = b;
+            filled += 1;
+            if filled == 168 {
+                xor_block(&mut s, &block);
+                plain(&mut s);
+                filled = 0;
+            }
+        }
+    }
+    sum as u32
+}
+
+fn draws(label: &[u8], words: &[u32]) -> u32 {
+    unsafe { keccak_bench_draws(label.as_ptr(), label.len(), words.as_ptr(), words.len()) }
 }
 
 fn hash(label: &[u8], words: &[u32], out: &mut [u8]) {
@@ -106,6 +141,11 @@ fn main() {
     println!("{:44} {:>8} {:>8} {:>6}", "ns, the best of many", "ours", "Rust", "ratio");
     let n = 20;
     compare("permutation", runs, n, || unsafe { keccak_bench_permute(black_box(7), n) }, || plain_times(black_box(7), n));
+    for count in [40, 1000] {
+        let words: Vec<u32> = (0..count).map(|i: u32| i.wrapping_mul(0x9e37_79b9) ^ i << 7).collect();
+        let name = format!("a draw, of {count} over a log that grows");
+        compare(&name, runs / 10, count as usize, || draws(b"frac-gkr/1", &words), || plain_draws(b"frac-gkr/1", &words));
+    }
     for (words, length) in [(0, 32), (0, 8), (64, 8), (2048, 8), (0, 1680)] {
         let label = b"frac-gkr/1";
         let words: Vec<u32> = (0..words).map(|i: u32| i.wrapping_mul(0x9e37_79b9) ^ i << 7).collect();

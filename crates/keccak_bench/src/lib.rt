@@ -1,4 +1,4 @@
-// The permutation in a loop, and the hash, exported so that they can be timed.
+// The permutation in a loop, words drawn with a sponge that is carried, and the hash, exported so that they can be timed.
 ghost use mathlib.Core.Path.{_≡_};
 ghost use mathlib.Core.List.{_∷_};
 ghost use Prim.Native.Nat.{_^_, _<_};
@@ -6,7 +6,8 @@ ghost use lib.ListN.{getD, length, replicate};
 ghost use Rattle.keccak.specs.State.{asList};
 ghost use Rattle.shake.specs.Sponge.{shake128};
 ghost use Rattle.shake.specs.Drawn.{message};
-ghost use Rattle.keccak_bench.specs.Times.{times};
+ghost use Rattle.keccak_bench.specs.Times.{times, draws};
+use field::Base;
 use keccak::Lanes;
 use keccak::permute;
 
@@ -53,6 +54,21 @@ pub extern "C" fn keccak_bench_permute(a: u64, n: usize) -> u64
         s = permute(s);
     }
     s.a0
+}
+
+// The sum of the words drawn from each front of the words, with one sponge.
+#[no_mangle]
+pub extern "C" fn keccak_bench_draws(label: &[u8], words: &[u32]) -> u32
+    requires { ⌜ length (now label) < 2 ^ 62 ⌝ }
+    ensures { λ r. ⌜ r ≡ draws (now (label .entry)) (now (words .entry)) (length (now (words .entry))) ⌝ }
+{
+    let mut s = shake::start();
+    let mut x: u32 = 0;
+    for n in 0..words.len() {
+        s = shake::absorb(s, label, &words[..n]);
+        x = (x + shake::draw(s, label, &words[..n])) % Base::ORDER_U32;
+    }
+    x
 }
 
 // SHAKE128 of bytes and words, as many bytes as out has.

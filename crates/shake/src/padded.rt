@@ -117,7 +117,7 @@ fn lane_of_words(words: &[u32], j: usize) -> u64
     low + high * 0x1_0000_0000
 }
 
-// Lane i of the padded message: at once where it lies in the words or in the padding's zeros, as nearly all do.
+// Lane i of the padded message: at once where it lies in the words or after the byte 1f, as nearly all do.
 fn padded_lane(label: &[u8], words: &[u32], i: usize) -> u64
     requires { ⌜ (length (now label) < 2 ^ 62) × (i < (length (now label) + 4 * length (now words)) / 168 * 21 + 21) ⌝ }
     ensures { λ r. ⌜ r ≡ laneAt (padded (message (now (label .entry)) (now (words .entry)))) i ⌝ }
@@ -131,9 +131,10 @@ fn padded_lane(label: &[u8], words: &[u32], i: usize) -> u64
     }
     let size = label.len() + 4 * words.len();
     if at > size {
-        if at + 7 < size / 168 * 168 + 167 {
-            return 0;
+        if at + 7 == size / 168 * 168 + 167 {
+            return 0x8000_0000_0000_0000;
         }
+        return 0;
     }
     lane_by_quads(label, words, i)
 }

@@ -3,7 +3,7 @@ use Prim.Native.Nat.{_≤_, _-_}
 use lib.ListN.{length, take, length-take}
 use native.Mathlib.Omega.{arith}
 use Rattle.shake.specs.Drawn.{message, Holds}
-use Rattle.hash_test.proofs.Growing.{holds-next}
+use Rattle.shake.proofs.SpongeLaws.{holds-next}
 use borrow.Author.Needs.{needs}
 use Rattle.hash_test.proofs.all_draws.Statement.{statement}
 use Rattle.hash_test.proofs.all_draws.Tie as tie
@@ -27,10 +27,10 @@ print-drawn-requires : tie.Need-print-drawn-requires Inv-loop μ-loop
 print-drawn-requires c κs = search needs
 
 add-n : tie.Need-add-n Inv-loop μ-loop
-add-n c = search needs
+add-n c = omega arith
 
 loop-less : tie.Need-loop-less Inv-loop μ-loop
-loop-less c = search needs
+loop-less c = omega arith
 
 loop-again : tie.Need-loop-again Inv-loop μ-loop
 loop-again c =

@@ -1,6 +1,7 @@
 use mathlib.Core.Path.{_≡_}
 use Prim.Native.Nat.{_≤_, _-_}
 use lib.ListN.{length}
+use native.Mathlib.Omega.{arith}
 use borrow.Author.Needs.{needs}
 use Rattle.hash_test.proofs.all_ends.Statement.{statement}
 use Rattle.hash_test.proofs.all_ends.Tie as tie
@@ -15,10 +16,10 @@ loop-holds : tie.Need-loop-holds Inv-loop μ-loop
 loop-holds c = search needs
 
 mul-long-hash : tie.Need-mul-long-hash Inv-loop μ-loop
-mul-long-hash c = search needs
+mul-long-hash c = omega arith
 
 array-read-long-hash : tie.Need-array-read-long-hash Inv-loop μ-loop
-array-read-long-hash c = search needs
+array-read-long-hash c = omega arith
 
 slice-aggregate-long-hash : tie.Need-slice-aggregate-long-hash Inv-loop μ-loop
 slice-aggregate-long-hash c = search needs
@@ -27,10 +28,10 @@ long-hash-requires : tie.Need-long-hash-requires Inv-loop μ-loop
 long-hash-requires c κs = search needs
 
 add-k : tie.Need-add-k Inv-loop μ-loop
-add-k c = search needs
+add-k c = omega arith
 
 loop-less : tie.Need-loop-less Inv-loop μ-loop
-loop-less c = search needs
+loop-less c = omega arith
 
 loop-again : tie.Need-loop-again Inv-loop μ-loop
 loop-again c = search needs

@@ -1,4 +1,5 @@
 use Prim.Native.Nat.{_≤_, _-_}
+use native.Mathlib.Omega.{arith}
 use borrow.Author.Needs.{needs}
 use Rattle.hash_test.proofs.all_labels.Statement.{statement}
 use Rattle.hash_test.proofs.all_labels.Tie as tie
@@ -16,10 +17,10 @@ all-words-requires : tie.Need-all-words-requires Inv-loop μ-loop
 all-words-requires c κs = search needs
 
 add-n : tie.Need-add-n Inv-loop μ-loop
-add-n c = search needs
+add-n c = omega arith
 
 loop-less : tie.Need-loop-less Inv-loop μ-loop
-loop-less c = search needs
+loop-less c = omega arith
 
 loop-again : tie.Need-loop-again Inv-loop μ-loop
 loop-again c = search needs

@@ -1,6 +1,7 @@
 use mathlib.Core.Path.{_≡_}
 use Prim.Native.Nat.{_≤_, _-_}
 use lib.ListN.{length, length-set}
+use native.Mathlib.Omega.{arith}
 use borrow.Author.Needs.{needs}
 use Rattle.hash_test.proofs.fill_bytes.Statement.{statement}
 use Rattle.hash_test.proofs.fill_bytes.Tie as tie
@@ -18,13 +19,13 @@ message-byte-requires : tie.Need-message-byte-requires Inv-loop μ-loop
 message-byte-requires c κs = search needs
 
 slice-write-m : tie.Need-slice-write-m Inv-loop μ-loop
-slice-write-m c = search needs
+slice-write-m c = omega arith
 
 add-i : tie.Need-add-i Inv-loop μ-loop
-add-i c = search needs
+add-i c = omega arith
 
 loop-less : tie.Need-loop-less Inv-loop μ-loop
-loop-less c = search needs
+loop-less c = omega arith
 
 loop-again : tie.Need-loop-again Inv-loop μ-loop
 loop-again c = search needs

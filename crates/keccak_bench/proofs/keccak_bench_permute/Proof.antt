@@ -27,10 +27,10 @@ permute-requires : tie.Need-permute-requires Inv-loop μ-loop
 permute-requires c κs = search needs
 
 add-i : tie.Need-add-i Inv-loop μ-loop
-add-i c = search needs
+add-i c = omega arith
 
 loop-less : tie.Need-loop-less Inv-loop μ-loop
-loop-less c = search needs
+loop-less c = omega arith
 
 loop-again : tie.Need-loop-again Inv-loop μ-loop
 loop-again c = (omega arith, once-more _ _ (c .before .before .loop .inv .1) (c .permute .ensures))

@@ -1,6 +1,6 @@
 use denote.Ref.{now}
 use native.Mathlib.Omega.{arith}
-use Rattle.shake.proofs.QuadLaws.{lane-inside, lane-zero}
+use Rattle.shake.proofs.QuadLaws.{lane-inside, lane-zero, lane-last}
 use borrow.Author.Needs.{needs}
 use borrow.Author.Needs.{needs}
 use Rattle.shake.proofs.padded.padded_lane.Statement.{statement}
@@ -44,13 +44,18 @@ add-if4-2 c = omega arith
 returns-2 : tie.Need-returns-2
 returns-2 c =
     let a = c .before .before .before .before .before .args in
+    lane-last (now (a .label)) (now (a .words)) (a .i) (omega arith) (omega arith)
+
+returns-3 : tie.Need-returns-3
+returns-3 c =
+    let a = c .before .before .before .before .before .args in
     lane-zero (now (a .label)) (now (a .words)) (a .i) (omega arith) (omega arith)
 
 lane-by-quads-requires : tie.Need-lane-by-quads-requires
 lane-by-quads-requires c κs = search needs
 
-returns-3 : tie.Need-returns-3
-returns-3 c = search needs
+returns-4 : tie.Need-returns-4
+returns-4 c = search needs
 
 pub padded-lane-spec : {M : Type 1} → statement M
 padded-lane-spec =
@@ -68,5 +73,6 @@ padded-lane-spec =
     mul-if4
     add-if4-2
     returns-2
+    returns-3
     lane-by-quads-requires
-    returns-3)
+    returns-4)
