@@ -2,8 +2,7 @@
 -- The first two are NIST's example values for FIPS 202 (csrc.nist.gov, SHAKE128_Msg0 and SHAKE128_Msg1600), 32 of their 512 bytes. The last is by Python's hashlib.
 -- Assumes nothing.
 use mathlib.Core.Path.{_≡_, refl}
-use mathlib.Core.List.{List, [], _∷_}
-use Prim.Native.Nat.{ℕ}
+use mathlib.Core.List.{[], _∷_}
 use lib.ListN.{replicate}
 use Rattle.wire.specs.Bytes.{bytesOf}
 use Rattle.keccak.specs.Keccak.{keccak, rounds, round, theta, rho, pi, chi, iota, rot, constant}

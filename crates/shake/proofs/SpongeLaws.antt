@@ -15,10 +15,10 @@ use Rattle.keccak.specs.State.{asList}
 use Rattle.keccak.specs.Keccak.{chi, iota, round, rounds, keccak}
 use Rattle.keccak.specs.declared.Lanes.{Lanes}
 use Rattle.shake.specs.declared.Sponge.{Sponge}
-use Rattle.shake.specs.Sponge.{highFirst, padded, blockAt, xored, absorbBlock, absorbed, final, laneByte, bytes, squeezed, shake128}
+use Rattle.shake.specs.Sponge.{highFirst, padded, absorbBlock, absorbed, final, laneByte, bytes, squeezed, shake128}
 use Rattle.shake.specs.Drawn.{message, drawn, Holds}
 use Rattle.shake.proofs.PadLaws.{length-message, pad-inside}
-use Rattle.shake.proofs.BlockLaws.{Same, same-less, same-absorbBlock}
+use Rattle.shake.proofs.BlockLaws.{Same, same-absorbBlock}
 
 -- ---- only the bytes of the first k blocks matter
 

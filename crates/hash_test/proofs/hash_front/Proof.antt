@@ -1,7 +1,6 @@
 use lib.ListN.{length-take}
 use native.Mathlib.Omega.{arith}
 use borrow.Author.Needs.{needs}
-use borrow.Author.Needs.{needs}
 use Rattle.hash_test.proofs.hash_front.Statement.{statement}
 use Rattle.hash_test.proofs.hash_front.Tie as tie
 

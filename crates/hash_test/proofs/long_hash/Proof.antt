@@ -1,7 +1,6 @@
 use lib.ListN.{length-take}
 use native.Mathlib.Omega.{arith}
 use borrow.Author.Needs.{needs}
-use borrow.Author.Needs.{needs}
 use Rattle.hash_test.proofs.long_hash.Statement.{statement}
 use Rattle.hash_test.proofs.long_hash.Tie as tie
 

@@ -2,7 +2,6 @@ use denote.Ref.{now}
 use native.Mathlib.Omega.{arith}
 use Rattle.shake.proofs.QuadLaws.{lane-inside, lane-zero, lane-last}
 use borrow.Author.Needs.{needs}
-use borrow.Author.Needs.{needs}
 use Rattle.shake.proofs.padded.padded_lane.Statement.{statement}
 use Rattle.shake.proofs.padded.padded_lane.Tie as tie
 
