@@ -1,4 +1,4 @@
--- Two published vectors of SHAKE128, and a word that is drawn, each computed from the definition. A crate of their own: they take longer than the crate that has it.
+-- Two published vectors of SHAKE128, and a word that is drawn, each computed from the definition.
 -- The first two are NIST's example values for FIPS 202 (csrc.nist.gov, SHAKE128_Msg0 and SHAKE128_Msg1600), 32 of their 512 bytes. The last is by Python's hashlib.
 -- Assumes nothing.
 use mathlib.Core.Path.{_≡_, refl}
