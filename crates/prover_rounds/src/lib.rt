@@ -41,7 +41,9 @@ fn sub_round(
     requires layer { ⌜ (2 * pq + 8 * half ≤ eq) × (4 * (eq + 2 * half) ≤ length (now work)) ⌝ }
     requires room { ⌜ (4 * i + 3 < length (now xi)) × (pos .put + 16 ≤ length (now log)) × Enough (now challenges) pos 1 ⌝ }
     requires clean { ⌜ Clean (now work) × Clean (now xi) ⌝ }
-    ensures { λ r. ⌜ ((k : ℕ) → half ≡ 2 ^ k → SubRound (now (work .entry)) (now (work .exit)) (now (xi .entry)) (now (xi .exit)) (now (log .entry)) (now (log .exit)) (supplied (now (challenges .entry))) eq pq k half i E.nil pos r) ⌝ }
+    ensures { λ r. ⌜ ((k : ℕ) → half ≡ 2 ^ k →
+        SubRound (now (work .entry)) (now (work .exit)) (now (xi .entry)) (now (xi .exit)) (now (log .entry)) (now (log .exit))
+        (supplied (now (challenges .entry))) eq pq k half i E.nil pos r) ⌝ }
 {
     let s = prover_layer::sumcheck_round_poly_evals(work, eq, pq, half);
     let p = observe_round_poly(log, pos, s);
@@ -68,7 +70,8 @@ fn weighed_sub_rounds(
     requires layer { ⌜ (2 * pq + 4 * size ≤ eq) × (4 * (eq + size) ≤ length (now work)) ⌝ }
     requires room { ⌜ (4 * round + 4 ≤ length (now xi)) × (pos .put + 16 * round ≤ length (now log)) × Enough (now challenges) pos round ⌝ }
     requires clean { ⌜ Clean (now work) × Clean (now xi) ⌝ }
-    ensures { λ r. ⌜ SubRounds (now (work .entry)) (now (work .exit)) (now (xi .entry)) (now (xi .exit)) (now (log .entry)) (now (log .exit)) (supplied (now (challenges .entry))) eq pq round size E.nil pos r ⌝ }
+    ensures { λ r. ⌜ SubRounds (now (work .entry)) (now (work .exit)) (now (xi .entry)) (now (xi .exit)) (now (log .entry)) (now (log .exit))
+        (supplied (now (challenges .entry))) eq pq round size E.nil pos r ⌝ }
 {
     let mut p = pos;
     let mut half = size;
@@ -96,7 +99,8 @@ fn sub_rounds(
     requires layer { ⌜ (2 * pq + 4 * size ≤ eq) × (4 * (eq + size) ≤ length (now work)) ⌝ }
     requires room { ⌜ (4 * round + 4 ≤ length (now xi)) × (pos .put + 16 * round ≤ length (now log)) × Enough (now challenges) pos round ⌝ }
     requires clean { ⌜ Clean (now work) × Clean (now xi) × Canon lambda ⌝ }
-    ensures { λ r. ⌜ SubRounds (now (work .entry)) (now (work .exit)) (now (xi .entry)) (now (xi .exit)) (now (log .entry)) (now (log .exit)) (supplied (now (challenges .entry))) eq pq round size (dec lambda) pos r ⌝ }
+    ensures { λ r. ⌜ SubRounds (now (work .entry)) (now (work .exit)) (now (xi .entry)) (now (xi .exit)) (now (log .entry)) (now (log .exit))
+        (supplied (now (challenges .entry))) eq pq round size (dec lambda) pos r ⌝ }
 {
     prover_layer::weigh(work, pq, size, lambda);
     let p = weighed_sub_rounds(work, eq, pq, round, size, xi, log, challenges, pos);
@@ -149,7 +153,8 @@ fn gkr_round(
     requires layer { ⌜ (8 * size ≤ eq) × (4 * (eq + size) ≤ length (now work)) ⌝ }
     requires room { ⌜ (4 * round + 4 ≤ length (now xi)) × (pos .put + 16 * round + 24 ≤ length (now log)) × Enough (now challenges) pos (round + 2) ⌝ }
     requires clean { ⌜ Clean (now work) × Clean (now xi) ⌝ }
-    ensures { λ r. ⌜ OneLayer (now (work .entry)) (now (work .exit)) (now (xi .entry)) (now (xi .exit)) (now (log .entry)) (now (log .exit)) (supplied (now (challenges .entry))) eq round size pos r ⌝ }
+    ensures { λ r. ⌜ OneLayer (now (work .entry)) (now (work .exit)) (now (xi .entry)) (now (xi .exit)) (now (log .entry)) (now (log .exit))
+        (supplied (now (challenges .entry))) eq round size pos r ⌝ }
 {
     let pq = 2 * size;
     let lambda = transcript::sample_ext(log, challenges, pos);
@@ -182,8 +187,10 @@ pub fn gkr_rounds(
     requires layer { ⌜ (1 ≤ n) × (4 * 2 ^ n ≤ eq) × (4 * eq + 2 * 2 ^ n ≤ length (now work)) ⌝ }
     requires room { ⌜ (4 * n ≤ length (now xi)) × (pos .put + logUpTo n ≤ length (now log) + logUpTo 1) × Enough (now challenges) pos (usedUpTo n - usedUpTo 1) ⌝ }
     requires clean { ⌜ Clean (now work) × Clean (now xi) ⌝ }
-    ensures run { λ r. ⌜ ((f : ℕ → Fraction E.Ext) (g : ℕ) → n ≡ suc g → Levels f (now (work .entry)) n 1 → AllLayers f (now (xi .entry)) (now (xi .exit)) (now (log .entry)) (now (log .exit)) (supplied (now (challenges .entry))) n g pos r) ⌝ }
-    ensures rest { λ r. ⌜ (drop (r .put) (now (log .exit)) ≡ drop (r .put) (now (log .entry))) × (r .put + logUpTo 1 ≡ pos .put + logUpTo n) × (r .used + usedUpTo 1 ≡ pos .used + usedUpTo n) × Clean (now (xi .exit)) × Clean (now (work .exit)) ⌝ }
+    ensures run { λ r. ⌜ ((f : ℕ → Fraction E.Ext) (g : ℕ) → n ≡ suc g → Levels f (now (work .entry)) n 1 →
+        AllLayers f (now (xi .entry)) (now (xi .exit)) (now (log .entry)) (now (log .exit)) (supplied (now (challenges .entry))) n g pos r) ⌝ }
+    ensures rest { λ r. ⌜ (drop (r .put) (now (log .exit)) ≡ drop (r .put) (now (log .entry))) × (r .put + logUpTo 1 ≡ pos .put + logUpTo n)
+        × (r .used + usedUpTo 1 ≡ pos .used + usedUpTo n) × Clean (now (xi .exit)) × Clean (now (work .exit)) ⌝ }
 {
     let mut p = pos;
     let mut size = 2;

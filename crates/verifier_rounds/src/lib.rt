@@ -14,10 +14,10 @@ ghost use Rattle.verifier_round.specs.Values.{decCubic, CanonCubic, CanonClaims
 ghost use Rattle.verifier_round.specs.Rounds.{SubRound};
 ghost use Rattle.verifier_rounds.specs.Runs.{Summed, RoundDone, Readable, Space, LayersEnd, RootEnd};
 use refusal::Refusal;
+use transcript::Pos;
 use verifier_round::Advance;
 use verifier_round::Layer;
 use verifier_round::Sums;
-use transcript::Pos;
 
 // One sub-round, whose message stands at a place of the proof.
 fn sub_round_at(
@@ -31,7 +31,8 @@ fn sub_round_at(
 ) -> Sums
     requires room { ⌜ (at + 48 ≤ length (now proof)) × (4 * j + 7 < length (now point)) × (s .pos .put + 16 ≤ length (now log)) × Enough (now challenges) (s .pos) 1 ⌝ }
     requires clean { ⌜ Clean (now point) × CanonCubic (cubicOf (drop at (now proof))) × CanonSums s ⌝ }
-    ensures { λ r. ⌜ SubRound (now (point .entry)) (now (point .exit)) (now (log .entry)) (now (log .exit)) (supplied (now (challenges .entry))) j (decCubic (cubicOf (drop at (now (proof .entry))))) s r ⌝ }
+    ensures { λ r. ⌜ SubRound (now (point .entry)) (now (point .exit)) (now (log .entry)) (now (log .exit))
+        (supplied (now (challenges .entry))) j (decCubic (cubicOf (drop at (now (proof .entry))))) s r ⌝ }
 {
     let m = stored::read_subround(proof, at);
     verifier_round::sub_round(m, point, j, log, challenges, s)
@@ -47,7 +48,8 @@ pub fn verify_gkr_sumcheck(
     challenges: &[u32],
     first: Sums,
 ) -> Sums
-    requires room { ⌜ (from + 48 * round ≤ length (now proof)) × (4 * round + 4 ≤ length (now point)) × (first .pos .put + 16 * round ≤ length (now log)) × Enough (now challenges) (first .pos) round ⌝ }
+    requires room { ⌜ (from + 48 * round ≤ length (now proof)) × (4 * round + 4 ≤ length (now point))
+        × (first .pos .put + 16 * round ≤ length (now log)) × Enough (now challenges) (first .pos) round ⌝ }
     requires clean { ⌜ Clean (now point) × CanonSums first × (allCanonical (cubicsWords (cubicsFrom round (drop from (now proof)))) ≡ true) ⌝ }
     ensures { λ r. ⌜ Summed (now (proof .entry)) (now (point .entry)) (now (point .exit)) (now (log .entry)) (now (log .exit)) (supplied (now (challenges .entry))) from round first r ⌝ }
 {
