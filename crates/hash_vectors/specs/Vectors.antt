@@ -1,5 +1,5 @@
--- Two published vectors of SHAKE128, and a word that is drawn, each computed from the definition.
--- The first two are NIST's example values for FIPS 202 (csrc.nist.gov, SHAKE128_Msg0 and SHAKE128_Msg1600), 32 of their 512 bytes. The last is by Python's hashlib.
+-- Two vectors of SHAKE128, and a word that is drawn, each computed from the definition. The messages of the two are those of NIST's example values for FIPS 202
+-- (csrc.nist.gov, SHAKE128_Msg0 and SHAKE128_Msg1600); all bytes here were written by Python's hashlib, and not held to NIST's own files, which were not at hand.
 -- Assumes nothing.
 use mathlib.Core.Path.{_≡_, refl}
 use mathlib.Core.List.{[], _∷_}
