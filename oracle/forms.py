@@ -1,8 +1,13 @@
 """The text form of cases and answers: decimal numbers, single spaces, a list after its length, one case or answer a line.
 
 A case is (code, arguments). The letters of FORMS: w a word or number, e an element (four words, no length before them),
-l a list. README.md has the same as a table.
+l a list, m a word of modes that is left out without --drawn (it is 0 then). README.md has the same as a table.
 """
+import sys
+
+# On the command line of record, differ, slips and replay: cases of the verifier carry their modes, and drawn cases are made.
+# Off until the replay programs take them.
+DRAWN = "--drawn" in sys.argv
 FORMS = {
     1: ("field", "add", "ee"), 2: ("field", "sub", "ee"), 3: ("field", "neg", "e"), 4: ("field", "double", "e"),
     5: ("field", "mul", "ee"), 6: ("field", "square", "e"), 7: ("field", "halve", "e"), 8: ("field", "mul_base", "ew"),
@@ -15,7 +20,7 @@ FORMS = {
     28: ("poly", "horner_eval", "le"), 29: ("poly", "horner_eval_base", "le"),
     30: ("poly", "fold_mle_evals", "leww"), 31: ("poly", "round_poly", "elllll"),
     40: ("prover", "prove", "wwllwwwww"),
-    50: ("verifier", "verify", "wllwww"),
+    50: ("verifier", "verify", "mwllwww"),
     60: ("sheet", "read_sheet", "lww"),
     70: ("evaluation", "evaluate", "ll"),
 }
@@ -25,7 +30,9 @@ KINDS = ("field", "poly", "prover", "verifier", "sheet", "evaluation")
 def write_case(code, a):
     out = [str(code)]
     for letter, x in zip(FORMS[code][2], a, strict=True):
-        if letter == "w":
+        if letter == "m" and not DRAWN:
+            assert x == 0
+        elif letter in "wm":
             out.append(str(int(x)))
         elif letter == "e":
             assert len(x) == 4
@@ -40,7 +47,9 @@ def read_case(line):
     v = [int(w) for w in line.split()]
     code, at, a = v[0], 1, []
     for letter in FORMS[code][2]:
-        if letter == "w":
+        if letter == "m" and not DRAWN:
+            a.append(0)
+        elif letter in "wm":
             a.append(v[at])
             at += 1
         elif letter == "e":
@@ -93,7 +102,7 @@ def write_answer(code, a, o):
              + buffer(work, a[7], a[8]))
     elif code == 50:
         point, log = fronts or [[]] * 2
-        v = fields(o) + buffer(point, a[3], a[5]) + buffer(log, a[4], a[5])
+        v = fields(o) + buffer(point, a[4], a[6]) + buffer(log, a[5], a[6])
     elif code == 70:
         v = fields(o)
     else:
