@@ -64,7 +64,7 @@ def command(code, a):
     if code == 40:
         return f"prove {int(a[1])} {words(a[2])} {source(a[0], a[3])}"
     if code == 50:
-        return f"verify {a[1]} {bytes(a[2]).hex() or '-'} {source(a[0], a[3])}"
+        return f"verify {a[0]} {bytes(a[2]).hex() or '-'} {source(a[1], a[3])}"
     if code in (60, 70):
         return None
     if code in (20, 21, 22):
@@ -156,7 +156,7 @@ def check_refusal(code, a, refused, asked, rust):
         good = rust is None
     elif code == 40:
         good = rust is not None and rust.no == 8
-    elif refused.no == 6 and m.bad(a[3][:m.needed(a[0], a[1])]):
+    elif refused.no == 6 and m.bad(a[3][:m.needed(a[1], a[0])]):
         good = rust is None or rust.no not in (12, 13)
     else:
         good = rust is not None and rust.no == refused.no

@@ -144,7 +144,7 @@ def compare(files, sheet, rounds, point, claims):
 def verify(files, proof, rounds, challenges, sheet):
     if len(files[proof]) > PROOF:
         raise Refused("refused: %s has more than %d bytes, and a proof of 10 rounds has 2832" % (proof, PROOF))
-    o = m.outcome(50, [0, rounds, files[proof], challenges_of(files, challenges), 40, 960, 0])
+    o = m.outcome(50, [rounds, 0, files[proof], challenges_of(files, challenges), 40, 960, 0])
     if o.no:
         raise Refused(refusal(o))
     point = " ".join(long(e) for e in m.elements(o.fronts[0]))

@@ -20,7 +20,7 @@ FORMS = {
     28: ("poly", "horner_eval", "le"), 29: ("poly", "horner_eval_base", "le"),
     30: ("poly", "fold_mle_evals", "leww"), 31: ("poly", "round_poly", "elllll"),
     40: ("prover", "prove", "wwllwwwww"),
-    50: ("verifier", "verify", "mwllwww"),
+    50: ("verifier", "verify", "wmllwww"),
     60: ("sheet", "read_sheet", "lww"),
     70: ("evaluation", "evaluate", "ll"),
 }

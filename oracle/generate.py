@@ -10,7 +10,7 @@ TOP = (1 << 32) - 1
 EDGE = [0, 1, 2, P - 1]
 BAD = [P, P + 1, 1 << 31, TOP]
 # The longest lists and buffers of a case, by its arguments, for programs that read them into arrays (lists of poly: 8,200).
-LARGEST = {40: (5, 1, 16400, 320, 2900, 48, 1000, 32800), 50: (5, (1 << 64) - 1, 16400, 320, 48, 1000), 60: (65600, 16400), 70: (16400, 48)}
+LARGEST = {40: (5, 1, 16400, 320, 2900, 48, 1000, 32800), 50: ((1 << 64) - 1, 5, 16400, 320, 48, 1000), 60: (65600, 16400), 70: (16400, 48)}
 
 
 def within(code, a):
@@ -40,7 +40,7 @@ def prove_case(rows, challenges, modes=0, asserted=1, by=(0, 0, 0, 0), filler=7)
 
 def verify_case(n, proof, challenges, by=(0, 0), filler=7, modes=0):
     size = n if n <= m.ROUNDS else 1
-    return 50, [modes, n, proof, challenges, max(0, 4 * size + by[0]), max(0, m.log_words(size) + by[1]), filler]
+    return 50, [n, modes, proof, challenges, max(0, 4 * size + by[0]), max(0, m.log_words(size) + by[1]), filler]
 
 
 class Make:
@@ -169,7 +169,7 @@ class Make:
             challenges = challenges[:self.near(len(challenges), 0.5)]
         challenges += [self.r.choice(BAD + EDGE) for _ in range(self.r.choice([0, 0, 1, 4]))]
         size = rounds if rounds <= m.ROUNDS else 1
-        return 50, [modes, rounds, proof, challenges, self.near(4 * size, 0.02), self.near(m.log_words(size), 0.02), self.filler()]
+        return 50, [rounds, modes, proof, challenges, self.near(4 * size, 0.02), self.near(m.log_words(size), 0.02), self.filler()]
 
     def damage(self, proof):
         """A proof that keeps the layout, with one to three things wrong."""

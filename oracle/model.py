@@ -390,7 +390,7 @@ def prove_refusal(modes, asserted, rows, challenges, proof, point, log, work):
     return None
 
 
-def verify_refusal(modes, n, proof, challenges, point, log):
+def verify_refusal(n, modes, proof, challenges, point, log):
     no = first((10, lambda: n == 0), (11, lambda: n > ROUNDS), (4, lambda: len(challenges) < needed(modes, n)),
                (5, lambda: point < 4 * n or log < log_words(n)))
     if no:
@@ -508,7 +508,7 @@ def run(code, a):
         rows = elements(a[2])
         return fractional_sumcheck(list(zip(rows[::2], rows[1::2])), a[1], source(a[0], a[3]))
     if code == 50:
-        return verify_gkr(read_proof(a[2]), a[1], source(a[0], a[3]))
+        return verify_gkr(read_proof(a[2]), a[0], source(a[1], a[3]))
     if code == 70:
         return evaluate(elements(a[0]), elements(a[1]))
     raise ValueError(code)
