@@ -146,7 +146,7 @@ def comparable(code, a, refused):
         return True
     if code == 40:
         return refused.no in (3, 8, 9)
-    return code == 50 and refused.no in (6, 12, 13)
+    return code == 50 and refused.no in (6, 12, 13, 27)
 
 
 def check_refusal(code, a, refused, asked, rust):
@@ -158,6 +158,9 @@ def check_refusal(code, a, refused, asked, rust):
         good = rust is not None and rust.no == 8
     elif refused.no == 6 and m.bad(a[3][:m.needed(a[1], a[0])]):
         good = rust is None or rust.no not in (12, 13)
+    elif refused.no == 27:
+        # the Rust has no live mode: it runs, so both counts are right
+        good = rust is not None and rust.no not in (14, 15)
     else:
         good = rust is not None and rust.no == refused.no
     if not good:

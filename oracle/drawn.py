@@ -51,6 +51,9 @@ def verifier(make):
     for n, (proof, _) in drawn.items():
         for live in (0, 1) if n < 3 else (n % 2,):
             yield case(f"honest, n = {n}, {'live' if live else 'sandbox'}", n, proof, [], live, filler=TOP - n)
+    zeros = m.write_proof(m.ZERO, [[m.ZERO] * 4], [])
+    yield case("K4, 0/0, sandbox", 1, zeros)
+    yield case("K4, 0/0, live: 27", 1, zeros, [], m.LIVE)
     # a pair of which only one draws: with one round nothing is checked after a challenge, with more the claims do not meet
     for n, (proof, c) in supplied.items():
         yield case(f"a proof over supplied challenges, which are lent and not read, n = {n}: {'accepted' if n == 1 else 19}", n, proof, c)

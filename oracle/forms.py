@@ -1,12 +1,11 @@
 """The text form of cases and answers: decimal numbers, single spaces, a list after its length, one case or answer a line.
 
 A case is (code, arguments). The letters of FORMS: w a word or number, e an element (four words, no length before them),
-l a list, m a word of modes that is left out without --drawn (it is 0 then). README.md has the same as a table.
+l a list. README.md has the same as a table.
 """
 import sys
 
-# On the command line of record, differ, slips and replay: cases of the verifier carry their modes, and drawn cases are made.
-# Off until the replay programs take them.
+# On the command line of record, differ and slips: drawn cases are made. Off until the replay programs take them.
 DRAWN = "--drawn" in sys.argv
 FORMS = {
     1: ("field", "add", "ee"), 2: ("field", "sub", "ee"), 3: ("field", "neg", "e"), 4: ("field", "double", "e"),
@@ -20,7 +19,7 @@ FORMS = {
     28: ("poly", "horner_eval", "le"), 29: ("poly", "horner_eval_base", "le"),
     30: ("poly", "fold_mle_evals", "leww"), 31: ("poly", "round_poly", "elllll"),
     40: ("prover", "prove", "wwllwwwww"),
-    50: ("verifier", "verify", "wmllwww"),
+    50: ("verifier", "verify", "wwllwww"),
     60: ("sheet", "read_sheet", "lww"),
     70: ("evaluation", "evaluate", "ll"),
 }
@@ -30,9 +29,7 @@ KINDS = ("field", "poly", "prover", "verifier", "sheet", "evaluation")
 def write_case(code, a):
     out = [str(code)]
     for letter, x in zip(FORMS[code][2], a, strict=True):
-        if letter == "m" and not DRAWN:
-            assert x == 0
-        elif letter in "wm":
+        if letter == "w":
             out.append(str(int(x)))
         elif letter == "e":
             assert len(x) == 4
@@ -47,9 +44,7 @@ def read_case(line):
     v = [int(w) for w in line.split()]
     code, at, a = v[0], 1, []
     for letter in FORMS[code][2]:
-        if letter == "m" and not DRAWN:
-            a.append(0)
-        elif letter in "wm":
+        if letter == "w":
             a.append(v[at])
             at += 1
         elif letter == "e":

@@ -169,7 +169,11 @@ class Make:
             challenges = challenges[:self.near(len(challenges), 0.5)]
         challenges += [self.r.choice(BAD + EDGE) for _ in range(self.r.choice([0, 0, 1, 4]))]
         size = rounds if rounds <= m.ROUNDS else 1
-        return 50, [rounds, modes, proof, challenges, self.near(4 * size, 0.02), self.near(m.log_words(size), 0.02), self.filler()]
+        rooms = [self.near(4 * size, 0.02), self.near(m.log_words(size), 0.02), self.filler()]
+        live = self.r.randrange(2)
+        if live and self.r.random() < 0.1:
+            proof[5:21] = [0] * len(proof[5:21])
+        return 50, [rounds, live | modes, proof, challenges, *rooms]
 
     def damage(self, proof):
         """A proof that keeps the layout, with one to three things wrong."""

@@ -400,7 +400,10 @@ def verify_refusal(n, modes, proof, challenges, point, log):
         return Outcome(read)
     q0, layers, polys = read
     words = [w for es in [[q0], *layers, *(s for entry in polys for s in entry)] for e in es for w in e]
-    return Outcome(6) if bad(words, challenges[:needed(modes, n)]) else None
+    if bad(words, challenges[:needed(modes, n)]):
+        return Outcome(6)
+    counted = len(layers) == n and len(polys) == n - 1
+    return Outcome(27) if modes & LIVE and counted and q0 == ZERO else None
 
 
 def read_sheet(data, room):
