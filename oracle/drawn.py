@@ -2,7 +2,8 @@
 import itertools
 
 import model as m
-from generate import K2_PROOF, P, TOP, prove_case, repaired, small, verify_case, words_of
+from cases import prove_case, small, verify_case, words_of
+from generate import K2_PROOF, P, TOP, repaired
 
 MODES = {(live, asserted): f"{'live' if live else 'sandbox'}, {'asserted' if asserted else 'not asserted'}"
          for live, asserted in itertools.product((0, 1), (1, 0))}
