@@ -19,9 +19,11 @@ def program(build="release"):
 
 
 def recorded(kind):
-    """The files of a kind's recorded cases, of their answers, and of what each is for."""
-    crate = os.path.normpath(f"{HERE}/../crates/replay_{kind}")
-    return [f"{crate}/stdin", f"{crate}/stdout", f"{HERE}/recorded/{kind}.about"]
+    """The files of a kind's recorded cases, of their answers, and of what each is for; RECORDED in the environment puts another
+    folder in the place of this repository's."""
+    top = os.path.normpath(os.environ.get("RECORDED", f"{HERE}/.."))
+    crate = f"{top}/crates/replay_{kind}"
+    return [f"{crate}/stdin", f"{crate}/stdout", f"{top}/oracle/recorded/{kind}.about"]
 
 
 def replies(commands, build="release"):
@@ -51,13 +53,18 @@ def parts(reply):
     return dict(w.split("=", 1) for w in reply.split()[1:] if "=" in w)
 
 
+def source(modes, challenges):
+    """What stands in the place of the challenges."""
+    return "drawn" if modes & m.DRAWN else words(challenges)
+
+
 def command(code, a):
     """What the Rust is asked for a case, with the lists as they are, or None where it has no such call."""
     name = FORMS[code][1]
     if code == 40:
-        return f"prove {int(a[1])} {words(a[2])} {words(a[3])}"
+        return f"prove {int(a[1])} {words(a[2])} {source(a[0], a[3])}"
     if code == 50:
-        return f"verify {a[0]} {bytes(a[2]).hex() or '-'} {words(a[3])}"
+        return f"verify {a[0]} {bytes(a[2]).hex() or '-'} {source(a[1], a[3])}"
     if code in (60, 70):
         return None
     if code in (20, 21, 22):
@@ -149,7 +156,7 @@ def check_refusal(code, a, refused, asked, rust):
         good = rust is None
     elif code == 40:
         good = rust is not None and rust.no == 8
-    elif refused.no == 6 and m.bad(a[3][:m.challenge_words(a[0])]):
+    elif refused.no == 6 and m.bad(a[3][:m.needed(a[1], a[0])]):
         good = rust is None or rust.no not in (12, 13)
     elif refused.no == 27:
         # the Rust has no live mode: it runs, so both counts are right

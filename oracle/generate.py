@@ -1,6 +1,7 @@
 """Makes random and damaged cases from a seed. Sizes stay within LARGEST."""
 
 import ask
+import forms
 import model as m
 from forms import FORMS
 
@@ -9,7 +10,7 @@ TOP = (1 << 32) - 1
 EDGE = [0, 1, 2, P - 1]
 BAD = [P, P + 1, 1 << 31, TOP]
 # The longest lists and buffers of a case, by its arguments, for programs that read them into arrays (lists of poly: 8,200).
-LARGEST = {40: (1, 1, 16400, 320, 2900, 48, 1000, 32800), 50: ((1 << 64) - 1, 1, 16400, 320, 48, 1000), 60: (65600, 16400), 70: (16400, 48)}
+LARGEST = {40: (5, 1, 16400, 320, 2900, 48, 1000, 32800), 50: ((1 << 64) - 1, 5, 16400, 320, 48, 1000), 60: (65600, 16400), 70: (16400, 48)}
 
 
 def within(code, a):
@@ -111,22 +112,24 @@ class Make:
             rows = self.words(self.r.choice([8 * self.r.randrange(0, 40), self.r.randrange(0, 100)]))
         if self.r.random() < 0.003:
             rows = [1] * 8 * self.r.choice([m.ROWS + 1, 2 * m.ROWS, self.r.randrange(m.ROWS, 2 * m.ROWS)])
-        live, asserted = self.r.randrange(2), self.r.randrange(2)
+        modes, asserted = self.r.randrange(2), self.r.randrange(2)
+        if forms.DRAWN:
+            modes |= self.r.choice([0, m.DRAWN])
         count = len(rows) // 8
         n = count.bit_length() - 1 if m.power_of_two(count) and count <= m.ROWS else 0
         needed = self.spoil(self.challenges(n), 0.04)
         challenges = (needed + [self.r.choice(BAD + EDGE) for _ in range(self.r.randrange(0, 6))])[:self.near(len(needed) + 4, 0.05)]
-        return 40, [live, asserted, self.spoil(rows, 0.04), challenges, self.near(m.proof_bytes(n), 0.03),
+        return 40, [modes, asserted, self.spoil(rows, 0.04), challenges, self.near(m.proof_bytes(n), 0.03),
                     self.near(4 * n, 0.03), self.near(m.log_words(n, asserted), 0.03), self.near(m.work_words(n), 0.03),
                     self.filler()]
 
-    def honest(self, sizes):
-        """(n, proof, challenges) of an honest run for each n, by the Rust."""
+    def honest(self, sizes, modes=0):
+        """(n, proof, challenges) of an honest run for each n, by the Rust; the challenges are those that stand in its log."""
         made = [([w for p, q in self.rows(n, self.r.choice(["pairs", "last"])) for w in (*p, *q)], self.challenges(n)) for n in sizes]
-        said = ask.replies([f"prove 1 {ask.words(rows)} {ask.words(c)}" for rows, c in made]) if made else []
-        return [(n, ask.unhex(ask.parts(s)["proof"]), c) for n, (_, c), s in zip(sizes, made, said)]
+        said = [ask.parts(s) for s in ask.replies([f"prove 1 {ask.words(rows)} {ask.source(modes, c)}" for rows, c in made])]
+        return [(n, ask.unhex(s["proof"]), sampled(ask.unwords(s["log"]))) for n, s in zip(sizes, said)]
 
-    def verify(self, honest):
+    def verify(self, honest, modes=0):
         n, proof, challenges = honest
         proof, challenges, rounds = list(proof), list(challenges), n
         kind = self.r.randrange(20)
@@ -148,7 +151,7 @@ class Make:
         live = self.r.randrange(2)
         if live and self.r.random() < 0.1:
             proof[5:21] = [0] * len(proof[5:21])
-        return 50, [rounds, live, proof, challenges, *rooms]
+        return 50, [rounds, live | modes, proof, challenges, *rooms]
 
     def damage(self, proof):
         """A proof that keeps the layout, with one to three things wrong."""
@@ -267,6 +270,11 @@ class Make:
         return words[:by] if by < 0 else words + self.words(by)
 
 
+def sampled(log):
+    """The sampled words of a log."""
+    return [w - m.SAMPLED for w in log if w >= m.SAMPLED]
+
+
 def repaired(proof):
     """With the stored length that the bytes have."""
     if len(proof) < 5:
@@ -278,8 +286,13 @@ def random_cases(kind, count, random):
     make = Make(random)
     if kind == "verifier":
         sizes = [max(1, make.size()) for _ in range(max(1, count // 4))]
-        honest = make.honest(sizes)
-        return [make.verify(random.choice(honest)) for _ in range(count)]
+        honest = [(0, run) for run in make.honest(sizes)]
+        if not forms.DRAWN:
+            return [make.verify(random.choice(honest)[1]) for _ in range(count)]
+        honest += [(m.DRAWN, run) for run in make.honest(sizes, m.DRAWN)]
+        chosen = [random.choice(honest) for _ in range(count)]
+        # One in ten is verified in the mode that it was not proved in.
+        return [make.verify(run, modes ^ random.choice([m.DRAWN] + [0] * 9)) for modes, run in chosen]
     one = {"field": make.field, "poly": make.poly, "prover": make.prove, "sheet": make.sheet, "evaluation": make.evaluate}[kind]
     return [one() for _ in range(count)]
 

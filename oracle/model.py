@@ -5,10 +5,13 @@ holds after every answer. It can also do the runs itself, by plain sums, so that
 An outcome is (number, plain fields, element fields, what is written to the front of each buffer).
 """
 from collections import namedtuple
+from hashlib import shake_128
 
 P = 2013265921
 ROWS, ROUNDS = 1024, 10
 SAMPLED = 1 << 31
+LIVE, DRAWN = 1, 4
+LABEL = b"frac-gkr/1"
 HALF, SIXTH = 1006632961, 1677721601
 ZERO, ONE = (0, 0, 0, 0), (1, 0, 0, 0)
 
@@ -139,18 +142,32 @@ def fraction_tree(rows):
     return nodes
 
 
+def drawn(used, log):
+    """The first 8 output bytes, big-endian, modulo the prime, of SHAKE128 over the label and all log words so far."""
+    hashed = shake_128(LABEL + b"".join(w.to_bytes(4, "big") for w in log))
+    return int.from_bytes(hashed.digest(8), "big") % P
+
+
+def source(modes, challenges):
+    """The next sampled word, by the number of those before it and by the log."""
+    return drawn if modes & DRAWN else lambda used, log: challenges[used]
+
+
 class Transcript:
-    def __init__(self, challenges):
-        self.challenges, self.used, self.log = challenges, 0, []
+    def __init__(self, source):
+        self.source, self.used, self.log = source, 0, []
 
     def observe(self, *es):
         self.log += flat(es)
 
+    def sample_word(self):
+        w = self.source(self.used, self.log)
+        self.used += 1
+        self.log.append(w | SAMPLED)
+        return w
+
     def sample(self):
-        e = tuple(self.challenges[self.used:self.used + 4])
-        self.used += 4
-        self.log += [w | SAMPLED for w in e]
-        return e
+        return tuple(self.sample_word() for _ in range(4))
 
 
 def observe_root(ts, p, q, asserted):
@@ -161,7 +178,7 @@ def new_point(mu, rhos):
     return [mu] + rhos
 
 
-def fractional_sumcheck(rows, asserted, challenges):
+def fractional_sumcheck(rows, asserted, source):
     """Outcome 0 or 8 for 2^n rows, n >= 1, or none; fronts: proof, point, log, workspace."""
     if not rows:
         return Outcome(0, [0], [ZERO, ONE], [write_proof(ONE, [], []), [], [], []])
@@ -171,7 +188,7 @@ def fractional_sumcheck(rows, asserted, challenges):
     p, q = tree[1]
     if asserted and p != ZERO:
         return Outcome(8, fronts=[[], [], [], wiped])
-    ts = Transcript(challenges)
+    ts = Transcript(source)
     observe_root(ts, p, q, asserted)
     layers, polys, point = [], [], []
     for r in range(n):
@@ -209,14 +226,14 @@ def root_checks(q0, p, q):
     return None
 
 
-def verify_gkr(proof, n, challenges):
+def verify_gkr(proof, n, source):
     """Outcome 0 or 14 to 19; fronts: point, log."""
     q0, layers, polys = proof
     if len(layers) != n:
         return Outcome(14, [n, len(layers)])
     if len(polys) != n - 1:
         return Outcome(15, [n - 1, len(polys)])
-    ts = Transcript(challenges)
+    ts = Transcript(source)
     ts.observe(q0, *layers[0])
     failed = root_checks(q0, *cross(layers[0]))
     point, claims = [], layers[0]
@@ -313,6 +330,11 @@ def challenge_words(n):
     return 4 * (2 * n - 1 + n * (n - 1) // 2) if n else 0
 
 
+def needed(modes, n):
+    """The challenge words that a call looks at: none where it draws them."""
+    return 0 if modes & DRAWN else challenge_words(n)
+
+
 def log_words(n, asserted=True):
     return 8 * n * n + 16 * n + (0 if asserted or not n else 4)
 
@@ -350,26 +372,26 @@ def rounds(count):
     return count.bit_length() - 1 if count else 0
 
 
-def prove_refusal(live, asserted, rows, challenges, proof, point, log, work):
+def prove_refusal(modes, asserted, rows, challenges, proof, point, log, work):
     count = len(rows) // 8
     n = rounds(count)
     fractions = elements(rows)
     no = first(*row_tests(rows),
-               (4, lambda: len(challenges) < challenge_words(n)),
+               (4, lambda: len(challenges) < needed(modes, n)),
                (5, lambda: proof < proof_bytes(n) or point < 4 * n or log < log_words(n, asserted) or work < work_words(n)),
-               (6, lambda: bad(rows, challenges[:challenge_words(n)])))
+               (6, lambda: bad(rows, challenges[:needed(modes, n)])))
     if no:
         return Outcome(no)
     over_zero = [i for i in range(count) if fractions[2 * i + 1] == ZERO]
-    if live and over_zero:
+    if modes & LIVE and over_zero:
         return Outcome(7, [over_zero[0]])
     if count == 1:
         return Outcome(8 if asserted and fractions[0] != ZERO else 9)
     return None
 
 
-def verify_refusal(n, live, proof, challenges, point, log):
-    no = first((10, lambda: n == 0), (11, lambda: n > ROUNDS), (4, lambda: len(challenges) < challenge_words(n)),
+def verify_refusal(n, modes, proof, challenges, point, log):
+    no = first((10, lambda: n == 0), (11, lambda: n > ROUNDS), (4, lambda: len(challenges) < needed(modes, n)),
                (5, lambda: point < 4 * n or log < log_words(n)))
     if no:
         return Outcome(no)
@@ -378,10 +400,10 @@ def verify_refusal(n, live, proof, challenges, point, log):
         return Outcome(read)
     q0, layers, polys = read
     words = [w for es in [[q0], *layers, *(s for entry in polys for s in entry)] for e in es for w in e]
-    if bad(words, challenges[:challenge_words(n)]):
+    if bad(words, challenges[:needed(modes, n)]):
         return Outcome(6)
     counted = len(layers) == n and len(polys) == n - 1
-    return Outcome(27) if live and counted and q0 == ZERO else None
+    return Outcome(27) if modes & LIVE and counted and q0 == ZERO else None
 
 
 def read_sheet(data, room):
@@ -487,9 +509,9 @@ def run(code, a):
         return Outcome(0, [], round_sums(a[0], [elements(c) for c in a[1:]]))
     if code == 40:
         rows = elements(a[2])
-        return fractional_sumcheck(list(zip(rows[::2], rows[1::2])), a[1], a[3])
+        return fractional_sumcheck(list(zip(rows[::2], rows[1::2])), a[1], source(a[0], a[3]))
     if code == 50:
-        return verify_gkr(read_proof(a[2]), a[0], a[3])
+        return verify_gkr(read_proof(a[2]), a[0], source(a[1], a[3]))
     if code == 70:
         return evaluate(elements(a[0]), elements(a[1]))
     raise ValueError(code)

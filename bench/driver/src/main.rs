@@ -1,5 +1,8 @@
 //! Ours beside the unchanged Rust on the same inputs: the best of many short runs of each, in turn, and the ratio of the two.
-//! Built twice, without and with the Rust's feature `parallel`; ours is the same in both.
+//! Built twice, without and with the Rust's feature `parallel`; ours is the same in both. `bench drawn`: with drawn challenges.
+#[allow(dead_code)]
+#[path = "../../../oracle/rust/oracle/src/drawn.rs"]
+mod drawn;
 mod ours;
 #[path = "../../../oracle/rust/oracle/src/stored.rs"]
 mod stored;
@@ -44,29 +47,34 @@ fn compare<T: PartialEq>(name: &str, runs: usize, mut ours: impl FnMut() -> (f64
     println!("{name:32} {a:10.2} {b:10.2} {:8.3}", a / b);
 }
 
-fn prover(n: usize) {
-    let (rows, challenges) = (zero_sum(n), words(99, 4 * (2 * n - 1 + n * (n - 1) / 2)));
+/// The challenges of a run of n rounds.
+fn challenges(n: usize) -> Vec<u32> {
+    words(99, 4 * (2 * n - 1 + n * (n - 1) / 2))
+}
+
+/// With the challenges given, or drawn by each of the two.
+fn prover(n: usize, challenges: Option<&[u32]>) {
+    let rows = zero_sum(n);
     let fractions = theirs::fractions(&rows);
     let proved = || {
         let mut rooms = Rooms::cleared(n);
-        let (t, number) = timed(|| ours::prove(&rows, &challenges, &mut rooms));
+        let (t, number) = timed(|| ours::prove(&rows, challenges, &mut rooms));
         assert!(number == 0 && rooms.work.iter().all(|&w| w == 0));
         (t, (rooms.proof, rooms.point, rooms.log))
     };
-    compare(&format!("prover, n = {n}"), 1000, proved, || theirs::prove(&fractions, &challenges));
+    compare(&format!("prover, n = {n}"), 1000, proved, || theirs::prove(&fractions, challenges));
 }
 
-fn verifier(n: usize) {
-    let (rows, challenges) = (zero_sum(n), words(99, 4 * (2 * n - 1 + n * (n - 1) / 2)));
-    let (_, (proof, ..)) = theirs::prove(&theirs::fractions(&rows), &challenges);
+fn verifier(n: usize, challenges: Option<&[u32]>) {
+    let (_, (proof, ..)) = theirs::prove(&theirs::fractions(&zero_sum(n)), challenges);
     let parsed = stored::load(&proof).ok().expect("a stored proof");
     let verified = || {
         let mut rooms = Rooms::cleared(n);
-        let (t, number) = timed(|| ours::verify(&proof, n, &challenges, &mut rooms));
+        let (t, number) = timed(|| ours::verify(&proof, n, challenges, &mut rooms));
         assert!(number == 0);
         (t, (rooms.point, rooms.log))
     };
-    compare(&format!("verifier, n = {n}"), 2000, verified, || theirs::verify(&parsed, n, &challenges));
+    compare(&format!("verifier, n = {n}"), 2000, verified, || theirs::verify(&parsed, n, challenges));
 }
 
 fn layer() {
@@ -93,12 +101,19 @@ fn products() {
 
 fn main() {
     let kind = if cfg!(feature = "parallel") { "two cores" } else { "serial" };
+    let drawn = std::env::args().nth(1).as_deref() == Some("drawn");
+    let kind = if drawn { "serial, drawn" } else { kind };
     println!("{:32} {:>10} {:>10} {:>8}", format!("µs, the Rust {kind}"), "ours", "the Rust", "ratio");
+    if drawn {
+        (1..=10).for_each(|n| prover(n, None));
+        (1..=10).for_each(|n| verifier(n, None));
+        return;
+    }
     for n in 1..=10 {
-        prover(n);
+        prover(n, Some(&challenges(n)));
     }
     for n in [4, 10] {
-        verifier(n);
+        verifier(n, Some(&challenges(n)));
     }
     layer();
     products();

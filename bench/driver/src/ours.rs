@@ -23,6 +23,7 @@ extern "C" {
 
 const LIVE: u32 = 1;
 const ASSERT_ZERO: u32 = 2;
+const DRAWN: u32 = 4;
 
 /// What a run over 2^n rows is lent.
 pub struct Rooms {
@@ -43,22 +44,29 @@ impl Rooms {
     }
 }
 
-/// Live, the zero sum asserted; the answer's number.
-pub fn prove(rows: &[u32], challenges: &[u32], to: &mut Rooms) -> u32 {
+/// The mode of the challenges, and what is lent of them.
+fn source(challenges: Option<&[u32]>) -> (u32, &[u32]) {
+    challenges.map_or((DRAWN, &[]), |lent| (0, lent))
+}
+
+/// Live, the zero sum asserted, the challenges given or drawn; the answer's number.
+pub fn prove(rows: &[u32], challenges: Option<&[u32]>, to: &mut Rooms) -> u32 {
+    let (drawn, challenges) = source(challenges);
     let mut answer = [0; 16];
     unsafe {
         accudrina_prove(
-            rows.as_ptr(), rows.len(), LIVE | ASSERT_ZERO, challenges.as_ptr(), challenges.len(), to.proof.as_mut_ptr(), to.proof.len(),
+            rows.as_ptr(), rows.len(), LIVE | ASSERT_ZERO | drawn, challenges.as_ptr(), challenges.len(), to.proof.as_mut_ptr(), to.proof.len(),
             to.point.as_mut_ptr(), to.point.len(), to.log.as_mut_ptr(), to.log.len(), to.work.as_mut_ptr(), to.work.len(), answer.as_mut_ptr(),
         )
     }
 }
 
-pub fn verify(proof: &[u8], n: usize, challenges: &[u32], to: &mut Rooms) -> u32 {
+pub fn verify(proof: &[u8], n: usize, challenges: Option<&[u32]>, to: &mut Rooms) -> u32 {
+    let (drawn, challenges) = source(challenges);
     let mut answer = [0; 16];
     unsafe {
         accudrina_verify(
-            proof.as_ptr(), proof.len(), n, 0, challenges.as_ptr(), challenges.len(), to.point.as_mut_ptr(), to.point.len(),
+            proof.as_ptr(), proof.len(), n, drawn, challenges.as_ptr(), challenges.len(), to.point.as_mut_ptr(), to.point.len(),
             to.log.as_mut_ptr(), to.log.len(), answer.as_mut_ptr(),
         )
     }

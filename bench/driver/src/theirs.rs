@@ -1,5 +1,5 @@
 //! The unchanged Rust's calls. Inputs are made, and buffers allocated where the call takes them, before the clock starts.
-use crate::{ours::Layer, stored, timed, transcript::{Scripted, SC}};
+use crate::{drawn::Carried, ours::Layer, stored, timed, transcript::{Scripted, SC}};
 use p3_field::{BabyBear, Ext};
 use stark_backend::{
     proof::GkrProof,
@@ -9,6 +9,7 @@ use stark_backend::{
         ColMajorMatrix,
     },
     verifier::fractional_sumcheck_gkr::verify_gkr,
+    FiatShamirTranscript,
 };
 
 pub fn ext(w: &[u32]) -> Ext {
@@ -29,20 +30,52 @@ fn scripted(challenges: &[u32]) -> Scripted {
     ts
 }
 
-/// Proof as stored, point and log.
-pub fn prove(rows: &[Frac<Ext>], challenges: &[u32]) -> (f64, (Vec<u8>, Vec<u32>, Vec<u32>)) {
-    let mut ts = scripted(challenges);
-    let (t, answer) = timed(|| fractional_sumcheck::<SC, _>(&mut ts, rows, true));
+fn carried() -> Carried {
+    let mut ts = Carried::new();
+    ts.log.reserve(1000);
+    ts
+}
+
+fn run_prover(rows: &[Frac<Ext>], ts: &mut impl FiatShamirTranscript<SC>) -> (f64, Vec<u8>, Vec<u32>) {
+    let (t, answer) = timed(|| fractional_sumcheck::<SC, _>(ts, rows, true));
     let (proof, point) = answer.ok().expect("proved");
-    (t, (stored::store(proof.fractional_sum.1, &proof.claims_per_layer, &proof.sumcheck_polys), flat(&point), ts.log))
+    (t, stored::store(proof.fractional_sum.1, &proof.claims_per_layer, &proof.sumcheck_polys), flat(&point))
+}
+
+fn run_verifier(proof: &GkrProof<SC>, n: usize, ts: &mut impl FiatShamirTranscript<SC>) -> (f64, Vec<u32>) {
+    let (t, answer) = timed(|| verify_gkr::<SC, _>(proof, ts, n));
+    let (_, _, point) = answer.ok().expect("accepted");
+    (t, flat(&point))
+}
+
+/// Proof as stored, point and log; the challenges given or drawn.
+pub fn prove(rows: &[Frac<Ext>], challenges: Option<&[u32]>) -> (f64, (Vec<u8>, Vec<u32>, Vec<u32>)) {
+    let ((t, proof, point), log) = match challenges {
+        Some(given) => {
+            let mut ts = scripted(given);
+            (run_prover(rows, &mut ts), ts.log)
+        }
+        None => {
+            let mut ts = carried();
+            (run_prover(rows, &mut ts), ts.log)
+        }
+    };
+    (t, (proof, point, log))
 }
 
 /// Point and log. The proof is parsed already.
-pub fn verify(proof: &GkrProof<SC>, n: usize, challenges: &[u32]) -> (f64, (Vec<u32>, Vec<u32>)) {
-    let mut ts = scripted(challenges);
-    let (t, answer) = timed(|| verify_gkr::<SC, _>(proof, &mut ts, n));
-    let (_, _, point) = answer.ok().expect("accepted");
-    (t, (flat(&point), ts.log))
+pub fn verify(proof: &GkrProof<SC>, n: usize, challenges: Option<&[u32]>) -> (f64, (Vec<u32>, Vec<u32>)) {
+    let ((t, point), log) = match challenges {
+        Some(given) => {
+            let mut ts = scripted(given);
+            (run_verifier(proof, n, &mut ts), ts.log)
+        }
+        None => {
+            let mut ts = carried();
+            (run_verifier(proof, n, &mut ts), ts.log)
+        }
+    };
+    (t, (point, log))
 }
 
 /// The first `n` entries of eq, p0, q0, p1, q1, one column after another.

@@ -1,9 +1,11 @@
 //! The Rust as a process: one command a line on standard input, one answer a line on standard output.
 //! Words are decimal and comma-separated, bytes are hexadecimal, `-` is an empty list; oracle/README.md has the commands.
 //! An answer begins with `ok`, `err` (a refusal of the Rust or of the stored form), or `panic` with the panic's text.
+mod drawn;
 mod stored;
 mod transcript;
 
+use drawn::{Carried, Drawn};
 use p3_field::{BabyBear, Ext, Field, PrimeCharacteristicRing};
 use stark_backend::{
     poly_common::*,
@@ -15,6 +17,7 @@ use stark_backend::{
         ColMajorMatrix,
     },
     verifier::fractional_sumcheck_gkr::{verify_gkr, GkrVerificationError},
+    FiatShamirTranscript,
 };
 use std::{
     any::Any,
@@ -42,6 +45,10 @@ fn ext(s: &str) -> Vec<Ext> {
     let w = base(s);
     assert!(w.len() % 4 == 0, "split element");
     w.chunks(4).map(|c| Ext([c[0], c[1], c[2], c[3]])).collect()
+}
+
+fn number(s: &str) -> usize {
+    s.parse().expect("a number")
 }
 
 fn bytes(s: &str) -> Vec<u8> {
@@ -75,14 +82,41 @@ fn panic_text(e: Box<dyn Any + Send>) -> String {
     s.split_whitespace().collect::<Vec<_>>().join("_")
 }
 
+/// A transcript that keeps what was observed and sampled, and tells it after the run.
+trait Kept: FiatShamirTranscript<SC> {
+    fn log(&self) -> &[u32];
+
+    fn left(&self) -> String {
+        let used = self.log().iter().filter(|&&w| w >> 31 == 1).count();
+        format!("used={used} log={}", list(self.log()))
+    }
+}
+
+impl Kept for Scripted {
+    fn log(&self) -> &[u32] {
+        &self.log
+    }
+}
+
+impl Kept for Drawn {
+    fn log(&self) -> &[u32] {
+        &self.log
+    }
+}
+
+impl Kept for Carried {
+    fn log(&self) -> &[u32] {
+        &self.log
+    }
+}
+
 /// prove ASSERT ROWS CHALLENGES: rows are p, q.
-fn prove(assert_zero: bool, rows: Vec<Ext>, challenges: Vec<BabyBear>) -> String {
+fn prove(assert_zero: bool, rows: Vec<Ext>, mut ts: impl Kept) -> String {
     let rows: Vec<Frac<Ext>> = rows.chunks(2).map(|c| Frac::new(c[0], c[1])).collect();
-    let mut ts = Scripted::new(challenges);
     let run = catch_unwind(AssertUnwindSafe(|| {
         fractional_sumcheck::<SC, _>(&mut ts, &rows, assert_zero)
     }));
-    let left = format!("used={} log={}", ts.used, list(&ts.log));
+    let left = ts.left();
     match run {
         Err(e) => format!("panic text={} {left}", panic_text(e)),
         Ok(Err(LogupZerocheckError::NonZeroRootSum)) => format!("err no=8 {left}"),
@@ -99,16 +133,15 @@ fn prove(assert_zero: bool, rows: Vec<Ext>, challenges: Vec<BabyBear>) -> String
 }
 
 /// verify ROUNDS PROOF CHALLENGES
-fn verify(rounds: usize, proof: &[u8], challenges: Vec<BabyBear>) -> String {
+fn verify(rounds: usize, proof: &[u8], mut ts: impl Kept) -> String {
     let proof = match stored::load(proof) {
         Ok(proof) => proof,
         Err(no) => return format!("err no={no} used=0 log=-"),
     };
-    let mut ts = Scripted::new(challenges);
     let run = catch_unwind(AssertUnwindSafe(|| {
         verify_gkr::<SC, _>(&proof, &mut ts, rounds)
     }));
-    let left = format!("used={} log={}", ts.used, list(&ts.log));
+    let left = ts.left();
     match run {
         Err(e) => format!("panic text={} {left}", panic_text(e)),
         Ok(Err(e)) => format!("err {} {left}", error(&e)),
@@ -211,16 +244,27 @@ fn helper(t: &[&str]) -> String {
         "horner_eval" => horner_eval::<Ext, Ext, Ext>(&all(1), one(2)).to_string(),
         "horner_eval_base" => horner_eval::<BabyBear, Ext, Ext>(&base(t[1]), one(2)).to_string(),
         "fold_mle_evals" => list(&fold_mle_evals(ColMajorMatrix::new(all(1), 1), one(2)).values),
-        "round_poly" => round_poly(t[1].parse().expect("a number"), one(2), all(3), all(4)),
+        "round_poly" => round_poly(number(t[1]), one(2), all(3), all(4)),
         other => panic!("unknown command {other}"),
     }
 }
 
+/// `drawn` and `carried` stand in the place of the challenges.
 fn answer(t: &[&str]) -> String {
+    if !["prove", "verify"].contains(&t[0]) {
+        return format!("ok {}", helper(t));
+    }
+    match t[3] {
+        "drawn" => run(t, Drawn::default()),
+        "carried" => run(t, Carried::new()),
+        challenges => run(t, Scripted::new(base(challenges))),
+    }
+}
+
+fn run(t: &[&str], ts: impl Kept) -> String {
     match t[0] {
-        "prove" => prove(t[1] == "1", ext(t[2]), base(t[3])),
-        "verify" => verify(t[1].parse().expect("a number"), &bytes(t[2]), base(t[3])),
-        _ => format!("ok {}", helper(t)),
+        "prove" => prove(t[1] == "1", ext(t[2]), ts),
+        _ => verify(number(t[1]), &bytes(t[2]), ts),
     }
 }
 
