@@ -50,17 +50,13 @@ pub fn observe_ext(log: &mut [u32], pos: Pos, e: Ext) -> Pos
     ensures { λ r. ⌜ Steps (now (log .entry)) (now (log .exit)) pos r 4 0 (Observing .observe (dec e) (logOf (now (log .entry)) pos)) ⌝ }
 {
     let put = pos.put;
-    let sponge = pos.sponge;
     log[put] = e.c0;
     log[put + 1] = e.c1;
     log[put + 2] = e.c2;
     log[put + 3] = e.c3;
-    Pos {
-        put: put + 4,
-        used: pos.used,
-        drawn: pos.drawn,
-        sponge,
-    }
+    let mut next = pos;
+    next.put = put + 4;
+    next
 }
 
 // The next challenge that was supplied goes into the log, with the top bits of its words set.
@@ -71,21 +67,15 @@ fn take_ext(log: &mut [u32], challenges: &[u32], pos: Pos) -> Drawn
 {
     let put = pos.put;
     let used = pos.used;
-    let sponge = pos.sponge;
     let x = field::load(challenges, used);
     log[put] = 2147483648 + x.c0;
     log[put + 1] = 2147483648 + x.c1;
     log[put + 2] = 2147483648 + x.c2;
     log[put + 3] = 2147483648 + x.c3;
-    Drawn {
-        pos: Pos {
-            put: put + 4,
-            used: used + 1,
-            drawn: pos.drawn,
-            sponge,
-        },
-        x,
-    }
+    let mut next = pos;
+    next.put = put + 4;
+    next.used = used + 1;
+    Drawn { pos: next, x }
 }
 
 // A word is drawn over the label and the log, of which s has taken in some blocks, and goes into it with its top bit set.
@@ -106,14 +96,10 @@ fn draw_ext(log: &mut [u32], pos: Pos) -> Drawn
     ensures value { λ r. ⌜ Is (r .x) (drawnSource (logOf (now (log .entry)) pos)) ⌝ }
 {
     let put = pos.put;
-    let first = pos.sponge;
-    let a = draw_word(log, put, first);
-    let second = a.sponge;
-    let b = draw_word(log, put + 1, second);
-    let third = b.sponge;
-    let c = draw_word(log, put + 2, third);
-    let fourth = c.sponge;
-    let d = draw_word(log, put + 3, fourth);
+    let a = draw_word(log, put, pos.sponge);
+    let b = draw_word(log, put + 1, a.sponge);
+    let c = draw_word(log, put + 2, b.sponge);
+    let d = draw_word(log, put + 3, c.sponge);
     let sponge = d.sponge;
     Drawn {
         pos: Pos {

@@ -58,21 +58,21 @@ mul-log-4 c = search needs
 slice-write-log-4 : tie.Need-slice-write-log-4
 slice-write-log-4 c = simp length-set (omega arith)
 
-add-t9 : tie.Need-add-t9
-add-t9 c = search needs
+add-next : tie.Need-add-next
+add-next c = search needs
 
-add-t11 : tie.Need-add-t11
-add-t11 c = search needs
+add-next-2 : tie.Need-add-next-2
+add-next-2 c = search needs
 
 same-length : tie.Need-same-length
 same-length c = search needs
 
 returns : tie.Need-returns
 returns c =
-    let a = c .before .before .before .before .before .before .before .before .args in
+    let a = c .before .before .before .before .before .before .before .args in
     let x = c .before .before .before .before .load in (
-      sampled _ (supplied (a .challenges .now)) (a .pos) (x .result) _ (c .before .before .before .before .before .before .before .before .pre .0) (x .ensures)
-          (four-grown (a .log .now) (a .pos .put) (mark (x .result .c0)) (mark (x .result .c1)) (mark (x .result .c2)) (mark (x .result .c3)) (c .before .before .before .before .before .before .before .before .pre .0) (a .pos .sponge)),
+      sampled _ (supplied (a .challenges .now)) (a .pos) (x .result) _ (c .before .before .before .before .before .before .before .pre .0) (x .ensures)
+          (four-grown (a .log .now) (a .pos .put) (mark (x .result .c0)) (mark (x .result .c1)) (mark (x .result .c2)) (mark (x .result .c3)) (c .before .before .before .before .before .before .before .pre .0) (a .pos .sponge)),
       x .ensures,
     )
 
@@ -96,7 +96,7 @@ take-ext-spec =
     add-log-7
     mul-log-4
     slice-write-log-4
-    add-t9
-    add-t11
+    add-next
+    add-next-2
     same-length
     returns)
