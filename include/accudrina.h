@@ -19,7 +19,6 @@
 #ifndef ACCUDRINA_H
 #define ACCUDRINA_H
 
-#include <stdbool.h>
 #include <stddef.h>
 #include <stdint.h>
 
@@ -29,6 +28,11 @@ extern "C" {
 
 #define ACCUDRINA_PRIME UINT32_C(2013265921)
 #define ACCUDRINA_ANSWER_WORDS 16
+
+/* Modes, bits of one word. A bit that a call does not take is refused as 28, first of all: [1] has the bits that are not taken, and
+ * nothing but `answer` is written. */
+#define ACCUDRINA_LIVE UINT32_C(1)        /* prover: a row with q = 0 is refused as 7 */
+#define ACCUDRINA_ASSERT_ZERO UINT32_C(2) /* prover: a sum whose p is not 0 is refused as 8 */
 
 /* The results, with the fields of each: plain ones in [1] to [3], elements in [4] to [7] and [8] to [11]. */
 enum accudrina_result {
@@ -51,7 +55,8 @@ enum accudrina_result {
     ACCUDRINA_ZERO_CHECK_FAILED = 16,                /* elements: the numerator that should be 0 */
     ACCUDRINA_ROOT_CONSISTENCY_CHECK_FAILED = 17,    /* elements: expected, actual */
     ACCUDRINA_INCORRECT_SUBROUND_COUNT = 18,         /* plain: round, expected, actual */
-    ACCUDRINA_LAYER_CONSISTENCY_CHECK_FAILED = 19    /* plain: round; elements: expected, actual */
+    ACCUDRINA_LAYER_CONSISTENCY_CHECK_FAILED = 19,   /* plain: round; elements: expected, actual */
+    ACCUDRINA_UNKNOWN_MODE = 28                      /* plain: the bits of the modes that the call does not take */
 };
 
 /* How long the buffers must be, for 0 to 10 rounds; for more rounds the answer is 0, and the calls refuse them. */
@@ -62,8 +67,8 @@ size_t accudrina_rounds(size_t rows);
 size_t accudrina_proof_bytes(size_t rounds);
 /* The words of the point, four for each round. */
 size_t accudrina_point_words(size_t rounds);
-/* The words of the log; the verifier's is that with assert_zero. */
-size_t accudrina_log_words(size_t rounds, bool assert_zero);
+/* The words of the log: four more without ACCUDRINA_ASSERT_ZERO; other bits are not looked at. The verifier's is that with it. */
+size_t accudrina_log_words(size_t rounds, uint32_t modes);
 /* The words of the prover's workspace. */
 size_t accudrina_workspace_words(size_t rounds);
 /* The words of the challenges. */
@@ -77,14 +82,14 @@ uint32_t accudrina_read_sheet(const uint8_t *sheet, size_t sheet_len,
                               uint32_t answer[ACCUDRINA_ANSWER_WORDS]);
 
 /* Proves the sum of the rows, with the challenges given; those past the needed ones are not read.
- * live: a row with q = 0 is refused as 7, 0/0 too; an unused row is 0/1. Otherwise all rows are taken, and one row 0/0 makes the
- * whole sum 0/0. assert_zero: a sum whose p is not 0 is refused as 8; otherwise p is put into the log.
+ * Modes. LIVE: a row with q = 0 is refused as 7, 0/0 too; an unused row is 0/1. Otherwise all rows are taken, and one row 0/0 makes
+ * the whole sum 0/0. ASSERT_ZERO: a sum whose p is not 0 is refused as 8; otherwise p is put into the log.
  * Done: the rounds in [1], the sum's p in [4] to [7] and q in [8] to [11]. The proof, the point and the log (the top bit is set in a
  * word that was sampled) stand at the front of their buffers; the needed words of work are 0.
- * Refused as the first that fits of 1 to 9: proof, point and log are as they were; work too, but for 8, which leaves its needed
+ * Refused as the first that fits of 28, 1 to 9: proof, point and log are as they were; work too, but for 8, which leaves its needed
  * words 0. For no rows or one row only a proof's 23 bytes are needed. */
 uint32_t accudrina_prove(const uint32_t *rows, size_t rows_len,
-                         bool live, bool assert_zero,
+                         uint32_t modes,
                          const uint32_t *challenges, size_t challenges_len,
                          uint8_t *proof, size_t proof_len,
                          uint32_t *point, size_t point_len,
@@ -92,17 +97,17 @@ uint32_t accudrina_prove(const uint32_t *rows, size_t rows_len,
                          uint32_t *work, size_t work_len,
                          uint32_t answer[ACCUDRINA_ANSWER_WORDS]);
 
-/* Verifies a proof that the sum of 2^rounds rows is zero. proof_len is the proof's exact length.
+/* Verifies a proof that the sum of 2^rounds rows is zero. proof_len is the proof's exact length. No mode is taken yet: modes is 0.
  * Done, accepted: two claims in [4] to [7] and [8] to [11]; the point and the log stand at the front of their buffers. Of every accepted
  * proof that is all: the sheet was not seen, and the caller compares the claims with the values of its columns p and q at the
  * point, which accudrina_evaluate answers.
- * Of a proof that accudrina_prove wrote with assert_zero, given the same challenges, it is proved that it is accepted, that the claims are
+ * Of a proof that accudrina_prove wrote with ASSERT_ZERO, given the same challenges, it is proved that it is accepted, that the claims are
  * these values, and that point and log equal the prover's.
  * A proof whose q0 is 0 is accepted too, and says nothing about the rows: q0 is the first element, in the proof's bytes 5 to 20.
- * Refused as the first that fits of 10, 11, 4, 5, 12, 13, 6, 14, 15, then 16 to 19 as the run meets them: the point is as it was; so
+ * Refused as the first that fits of 28, 10, 11, 4, 5, 12, 13, 6, 14, 15, then 16 to 19 as the run meets them: the point is as it was; so
  * is the log, but for 16 to 19, which leave what the run observed and sampled until then. */
 uint32_t accudrina_verify(const uint8_t *proof, size_t proof_len,
-                          size_t rounds,
+                          size_t rounds, uint32_t modes,
                           const uint32_t *challenges, size_t challenges_len,
                           uint32_t *point, size_t point_len,
                           uint32_t *log, size_t log_len,

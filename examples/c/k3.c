@@ -10,6 +10,7 @@ static void print(const char *name, const uint32_t *e) {
 int main(void) {
     uint32_t rows[4 * 8] = {0}, challenges[16] = {0}, answer[ACCUDRINA_ANSWER_WORDS], own[ACCUDRINA_ANSWER_WORDS];
     const uint32_t p[4] = {1, 2, ACCUDRINA_PRIME - 1, ACCUDRINA_PRIME - 2}, drawn[4] = {2, 1, 3, 4};
+    const uint32_t modes = ACCUDRINA_LIVE | ACCUDRINA_ASSERT_ZERO;
     uint8_t proof[200];
     uint32_t point[8], log[64], work[128]; /* accudrina_proof_bytes(2), .. */
     for (int i = 0; i < 4; i++) {
@@ -17,8 +18,8 @@ int main(void) {
         rows[8 * i + 4] = 1;
         challenges[4 * i] = drawn[i];
     }
-    if (accudrina_prove(rows, 32, true, true, challenges, 16, proof, 200, point, 8, log, 64, work, 128, answer) ||
-        accudrina_verify(proof, 200, 2, challenges, 16, point, 8, log, 64, answer)) {
+    if (accudrina_prove(rows, 32, modes, challenges, 16, proof, 200, point, 8, log, 64, work, 128, answer) ||
+        accudrina_verify(proof, 200, 2, 0, challenges, 16, point, 8, log, 64, answer)) {
         printf("refused %u\n", (unsigned)answer[0]);
         return 1;
     }

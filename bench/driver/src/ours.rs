@@ -2,12 +2,12 @@
 #[link(name = "accudrina")]
 extern "C" {
     fn accudrina_prove(
-        rows: *const u32, rows_len: usize, live: bool, assert_zero: bool, challenges: *const u32, challenges_len: usize,
+        rows: *const u32, rows_len: usize, modes: u32, challenges: *const u32, challenges_len: usize,
         proof: *mut u8, proof_len: usize, point: *mut u32, point_len: usize, log: *mut u32, log_len: usize,
         work: *mut u32, work_len: usize, answer: *mut u32,
     ) -> u32;
     fn accudrina_verify(
-        proof: *const u8, proof_len: usize, rounds: usize, challenges: *const u32, challenges_len: usize,
+        proof: *const u8, proof_len: usize, rounds: usize, modes: u32, challenges: *const u32, challenges_len: usize,
         point: *mut u32, point_len: usize, log: *mut u32, log_len: usize, answer: *mut u32,
     ) -> u32;
 }
@@ -20,6 +20,9 @@ extern "C" {
     );
     fn layer_bench_fold(work: *mut u32, work_len: usize, eq: usize, pq: usize, half: usize, rho: *const u32, rho_len: usize);
 }
+
+const LIVE: u32 = 1;
+const ASSERT_ZERO: u32 = 2;
 
 /// What a run over 2^n rows is lent.
 pub struct Rooms {
@@ -45,7 +48,7 @@ pub fn prove(rows: &[u32], challenges: &[u32], to: &mut Rooms) -> u32 {
     let mut answer = [0; 16];
     unsafe {
         accudrina_prove(
-            rows.as_ptr(), rows.len(), true, true, challenges.as_ptr(), challenges.len(), to.proof.as_mut_ptr(), to.proof.len(),
+            rows.as_ptr(), rows.len(), LIVE | ASSERT_ZERO, challenges.as_ptr(), challenges.len(), to.proof.as_mut_ptr(), to.proof.len(),
             to.point.as_mut_ptr(), to.point.len(), to.log.as_mut_ptr(), to.log.len(), to.work.as_mut_ptr(), to.work.len(), answer.as_mut_ptr(),
         )
     }
@@ -55,7 +58,7 @@ pub fn verify(proof: &[u8], n: usize, challenges: &[u32], to: &mut Rooms) -> u32
     let mut answer = [0; 16];
     unsafe {
         accudrina_verify(
-            proof.as_ptr(), proof.len(), n, challenges.as_ptr(), challenges.len(), to.point.as_mut_ptr(), to.point.len(),
+            proof.as_ptr(), proof.len(), n, 0, challenges.as_ptr(), challenges.len(), to.point.as_mut_ptr(), to.point.len(),
             to.log.as_mut_ptr(), to.log.len(), answer.as_mut_ptr(),
         )
     }

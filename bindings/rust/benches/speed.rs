@@ -34,7 +34,7 @@ fn main() {
     for n in [1, 2, 4, 6, 8, 10] {
         let (rows, challenges) = (zero_sum(n), words(99, rooms::challenge_words(n)));
         let mut proof = vec![0; rooms::proof_bytes(n)];
-        let (mut point, mut log) = (vec![0; rooms::point_words(n)], vec![0; rooms::log_words(n, true)]);
+        let (mut point, mut log) = (vec![0; rooms::point_words(n)], vec![0; rooms::log_words(n, Sum::AssertZero)]);
         let mut work = vec![0; rooms::workspace_words(n)];
         let proving = best(2000, || {
             let lent = Rooms { proof: &mut proof, point: &mut point, log: &mut log, work: &mut work };

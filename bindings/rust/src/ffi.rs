@@ -6,7 +6,7 @@ extern "C" {
     pub fn accudrina_rounds(rows: usize) -> usize;
     pub fn accudrina_proof_bytes(rounds: usize) -> usize;
     pub fn accudrina_point_words(rounds: usize) -> usize;
-    pub fn accudrina_log_words(rounds: usize, assert_zero: bool) -> usize;
+    pub fn accudrina_log_words(rounds: usize, modes: u32) -> usize;
     pub fn accudrina_workspace_words(rounds: usize) -> usize;
     pub fn accudrina_challenge_words(rounds: usize) -> usize;
 
@@ -15,8 +15,7 @@ extern "C" {
     pub fn accudrina_prove(
         rows: *const u32,
         rows_len: usize,
-        live: bool,
-        assert_zero: bool,
+        modes: u32,
         challenges: *const u32,
         challenges_len: usize,
         proof: *mut u8,
@@ -34,6 +33,7 @@ extern "C" {
         proof: *const u8,
         proof_len: usize,
         rounds: usize,
+        modes: u32,
         challenges: *const u32,
         challenges_len: usize,
         point: *mut u32,

@@ -1,23 +1,9 @@
 //! The calls over lent buffers, as C has them. They ask nothing of a slice: any content and any length gets an answer.
-use crate::{ffi, Element, Fraction, Refusal};
-
-/// Which rows are taken.
-#[derive(Clone, Copy, Debug, PartialEq, Eq)]
-pub enum Mode {
-    /// All.
-    Sandbox,
-    /// None with q zero; an unused row is 0/1.
-    Live,
-}
-
-/// What is said of the sum.
-#[derive(Clone, Copy, Debug, PartialEq, Eq)]
-pub enum Sum {
-    /// Its p is zero, or the run is refused.
-    AssertZero,
-    /// Its p is put into the log.
-    Observe,
-}
+use crate::{
+    ffi,
+    modes::{self, Mode, Sum},
+    Element, Fraction, Refusal,
+};
 
 /// The buffers of a proving run.
 pub struct Rooms<'a> {
@@ -72,8 +58,7 @@ pub fn prove_into(rows: &[u32], mode: Mode, sum: Sum, challenges: &[u32], rooms:
         ffi::accudrina_prove(
             rows.as_ptr(),
             rows.len(),
-            mode == Mode::Live,
-            sum == Sum::AssertZero,
+            modes::word(mode, sum),
             challenges.as_ptr(),
             challenges.len(),
             rooms.proof.as_mut_ptr(),
@@ -102,6 +87,7 @@ pub fn verify_into(proof: &[u8], rounds: usize, challenges: &[u32], point: &mut 
             proof.as_ptr(),
             proof.len(),
             rounds,
+            modes::NONE,
             challenges.as_ptr(),
             challenges.len(),
             point.as_mut_ptr(),

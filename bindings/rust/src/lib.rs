@@ -11,11 +11,13 @@
 mod element;
 mod ffi;
 mod lent;
+mod modes;
 mod owned;
 mod refusal;
 pub mod rooms;
 
 pub use element::{elements_of, row_words, words_of, Element, Fraction, PRIME};
-pub use lent::{evaluate_words, prove_into, read_sheet_into, verify_into, Claims, Done, Evaluated, Mode, Rooms, Sum};
+pub use lent::{evaluate_words, prove_into, read_sheet_into, verify_into, Claims, Done, Evaluated, Rooms};
+pub use modes::{Mode, Sum};
 pub use owned::{evaluate, prove, read_sheet, verify, Accepted, Proved};
 pub use refusal::Refusal;

@@ -1,7 +1,8 @@
 //! The calls with buffers made to measure.
 use crate::{
     element::{elements_of, row_words, words_of},
-    lent::{evaluate_words, prove_into, read_sheet_into, verify_into, Claims, Mode, Rooms, Sum},
+    lent::{evaluate_words, prove_into, read_sheet_into, verify_into, Claims, Rooms},
+    modes::{Mode, Sum},
     rooms, Element, Fraction, Refusal,
 };
 
@@ -38,7 +39,7 @@ pub fn prove(rows: &[Fraction], mode: Mode, sum: Sum, challenges: &[Element]) ->
     let n = rooms::rounds(rows.len());
     let mut proof = vec![0; rooms::proof_bytes(n)];
     let mut point = vec![0; rooms::point_words(n)];
-    let mut log = vec![0; rooms::log_words(n, sum == Sum::AssertZero)];
+    let mut log = vec![0; rooms::log_words(n, sum)];
     let mut work = vec![0; rooms::workspace_words(n)];
     let lent = Rooms { proof: &mut proof, point: &mut point, log: &mut log, work: &mut work };
     let done = prove_into(&row_words(rows), mode, sum, &words_of(challenges), lent)?;
@@ -51,7 +52,7 @@ pub fn prove(rows: &[Fraction], mode: Mode, sum: Sum, challenges: &[Element]) ->
 /// [`Sum::AssertZero`] and the same challenges it is proved that they are these values, and that point and log are the prover's.
 pub fn verify(proof: &[u8], rounds: usize, challenges: &[Element]) -> Result<Accepted, Refusal> {
     let mut point = vec![0; rooms::point_words(rounds)];
-    let mut log = vec![0; rooms::log_words(rounds, true)];
+    let mut log = vec![0; rooms::log_words(rounds, Sum::AssertZero)];
     let claims = verify_into(proof, rounds, &words_of(challenges), &mut point, &mut log)?;
     Ok(Accepted { claims, point: elements_of(&point), log })
 }

@@ -43,6 +43,8 @@ pub enum Refusal {
     IncorrectSubroundCount { round: u32, expected: u32, actual: u32 },
     /// 19: a layer's claims do not meet its polynomials.
     LayerConsistencyCheckFailed { round: u32, expected: Element, actual: Element },
+    /// 28: a mode that the call does not take. The calls of this crate pass none such: the archive is older.
+    UnknownMode { bits: u32 },
     /// A number that this crate does not know: the archive is newer.
     Unknown { number: u32 },
 }
@@ -76,6 +78,7 @@ impl Refusal {
             17 => Self::RootConsistencyCheckFailed { expected: left, actual: right },
             18 => Self::IncorrectSubroundCount { round: a, expected: b, actual: c },
             19 => Self::LayerConsistencyCheckFailed { round: a, expected: left, actual: right },
+            28 => Self::UnknownMode { bits: a },
             _ => Self::Unknown { number },
         }
     }
@@ -102,6 +105,7 @@ impl Refusal {
             Self::RootConsistencyCheckFailed { .. } => 17,
             Self::IncorrectSubroundCount { .. } => 18,
             Self::LayerConsistencyCheckFailed { .. } => 19,
+            Self::UnknownMode { .. } => 28,
             Self::Unknown { number } => number,
         }
     }

@@ -1,5 +1,8 @@
 //! How much room a run asks for. More than 10 rounds have room 0; the calls refuse them by number.
-use crate::ffi;
+use crate::{
+    ffi,
+    modes::{self, Mode, Sum},
+};
 
 /// The rounds of so many rows: 0 for none and for one, 11 for a number of rows that is refused.
 pub fn rounds(rows: usize) -> usize {
@@ -17,8 +20,8 @@ pub fn point_words(rounds: usize) -> usize {
 }
 
 /// The words of the log; the verifier's is that of an asserted zero sum.
-pub fn log_words(rounds: usize, assert_zero: bool) -> usize {
-    unsafe { ffi::accudrina_log_words(rounds, assert_zero) }
+pub fn log_words(rounds: usize, sum: Sum) -> usize {
+    unsafe { ffi::accudrina_log_words(rounds, modes::word(Mode::Sandbox, sum)) }
 }
 
 /// The words of the prover's workspace.

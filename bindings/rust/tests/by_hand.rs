@@ -85,8 +85,8 @@ fn k10_another_denominator() {
 fn rooms_in_range() {
     assert_eq!([0, 1, 2, 10].map(rooms::proof_bytes), [23, 87, 200, 2832]);
     assert_eq!([0, 1, 2, 10].map(rooms::point_words), [0, 4, 8, 40]);
-    assert_eq!([0, 1, 2, 10].map(|n| rooms::log_words(n, true)), [0, 24, 64, 960]);
-    assert_eq!([0, 1, 2, 10].map(|n| rooms::log_words(n, false)), [0, 28, 68, 964]);
+    assert_eq!([0, 1, 2, 10].map(|n| rooms::log_words(n, Sum::AssertZero)), [0, 24, 64, 960]);
+    assert_eq!([0, 1, 2, 10].map(|n| rooms::log_words(n, Sum::Observe)), [0, 28, 68, 964]);
     assert_eq!([0, 1, 2, 10].map(rooms::workspace_words), [0, 64, 128, 32768]);
     assert_eq!([0, 1, 2, 10].map(rooms::challenge_words), [0, 4, 16, 256]);
 }
@@ -95,7 +95,7 @@ fn rooms_in_range() {
 fn rooms_out_of_range() {
     for n in [11, 12, 64, 1 << 32, usize::MAX] {
         let asked = [rooms::proof_bytes(n), rooms::point_words(n), rooms::workspace_words(n), rooms::challenge_words(n)];
-        assert_eq!((asked, rooms::log_words(n, true), rooms::log_words(n, false)), ([0; 4], 0, 0));
+        assert_eq!((asked, rooms::log_words(n, Sum::AssertZero), rooms::log_words(n, Sum::Observe)), ([0; 4], 0, 0));
     }
 }
 

@@ -1,7 +1,7 @@
 //! The verifier's numbers, each at its boundary, and what point and log hold after each.
 mod plain;
 
-use accudrina::{rooms, verify_into, words_of, Claims, Element, Refusal, PRIME};
+use accudrina::{rooms, verify_into, words_of, Claims, Element, Refusal, Sum, PRIME};
 use plain::{
     field::{add, mul},
     lent::{marked, Lent, WORD},
@@ -50,7 +50,7 @@ fn n4_and_n5_challenges_and_room() {
         let (bytes, words) = (proof.bytes(), words_of(&challenges));
         let told = |bytes: &[u8], words: &[u32], less_point: usize, less_log: usize| {
             let mut point = vec![WORD; rooms::point_words(n) - less_point];
-            let mut log = vec![WORD; rooms::log_words(n, true) - less_log];
+            let mut log = vec![WORD; rooms::log_words(n, Sum::AssertZero) - less_log];
             let told = verify_into(bytes, n, words, &mut point, &mut log);
             assert!(told.is_ok() || (point.iter().chain(&log).all(|&w| w == WORD)));
             told.map(|_| ())

@@ -1,13 +1,11 @@
--- Rooms in range and out of range; a power of two by a shift.
+-- Rooms in range and out of range.
 -- Assumes nothing.
 use mathlib.Core.Path.{_≡_, sym, _∙_}
 use mathlib.Core.Bool.{Bool, true, false}
-use Prim.Native.Nat.{ℕ, _+_, _*_, _%_, _^_, _≤_, _<_}
-use native.Mathlib.Nat.{pow-le-pow-right, mod-eq-of-lt, one-mul}
-use native.Mathlib.Omega.{arith}
+use Prim.Native.Nat.{ℕ, _+_, _≤_, _<_}
 use borrow.Author.Tests.{le-leb, lt-leb}
 use Rattle.refusal.specs.Limits.{maxRounds}
-use Rattle.prover_gate.specs.Refusals.{roundsOf, isSize}
+use Rattle.sizes.specs.Sizes.{roundsOf, isSize}
 use Rattle.accudrina.specs.Rooms.{taken, rounds}
 
 pub over : (n room : ℕ) → maxRounds < n → taken n room ≡ 0
@@ -15,9 +13,6 @@ over n room h = rw (lt-leb n maxRounds h)
 
 pub within : (n room : ℕ) → n ≤ maxRounds → taken n room ≡ room
 within n room h = rw (le-leb n maxRounds h)
-
-pub shifted : (n : ℕ) → n ≤ maxRounds → 1 * 2 ^ n % 18446744073709551616 ≡ 2 ^ n
-shifted n h = let s : 2 ^ n ≤ 1024 = pow-le-pow-right (omega arith) h in mod-eq-of-lt (omega arith) ∙ one-mul (2 ^ n)
 
 -- rows that are taken, and rows that are not, by the answer of the test
 pub sized : (rows n : ℕ) {t : Bool} → t ≡ isSize rows → t ≡ true → n ≡ roundsOf rows → n ≡ rounds rows

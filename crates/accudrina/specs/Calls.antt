@@ -1,17 +1,20 @@
 -- What each exported call returns, writes as its answer and leaves in the buffers: the inner call's outcome, told in words.
 -- Assumes nothing.
-use mathlib.Core.List.{List}
+use mathlib.Core.Bool.{cond}
+use mathlib.Core.List.{List, [], _∷_}
 use Prim.Native.Nat.{ℕ}
+use lib.Dec.{eqb}
 use Rattle.stored_sheet.specs.SheetReads.{sheetRead}
 use Rattle.stored_sheet.specs.Report.{sheetReport}
-use Rattle.prover_gate.specs.Refusals.{Call}
+use Rattle.prover_gate.specs.Refusals.{Call, call}
 use Rattle.evaluation.specs.Evaluated.{evaluated}
 use Rattle.evaluation.specs.Report.{evaluationReport}
 use Rattle.prover.specs.Proved.{Buffers, proved}
 use Rattle.prover.specs.Report.{answerReport}
 use Rattle.verifier_round.specs.Report.{verdictReport}
-use Rattle.verifier.specs.Verified.{Asked, Lent, verified}
+use Rattle.verifier.specs.Verified.{Asked, Lent, asked, verified}
 use Rattle.accudrina.specs.Answer.{Told, tells}
+use Rattle.accudrina.specs.Modes.{LIVE, ASSERT-ZERO, untaken, provingOf, unknownMode}
 
 pub record Returned (B : Type 0) : Type 0 where
   pub told : Told
@@ -21,13 +24,26 @@ pub record Returned (B : Type 0) : Type 0 where
 abbrev pub reading : List ℕ → List ℕ → Returned (List ℕ)
 reading sheet rows = record { told = tells (sheetReport (sheetRead sheet rows .answer)); buffers = sheetRead sheet rows .buffer }
 
--- of rows, modes and challenges, and the buffers for proof, point, log and work
-abbrev pub proving : Call → Buffers → Returned Buffers
-proving call lent = record { told = tells (answerReport (proved call lent .answer)); buffers = proved call lent .buffers }
+-- bits that are not taken are refused first of all, and no buffer is written
+abbrev pub taking : {B : Type 0} (bits : ℕ) (lent : B) (run : Returned B) → Returned B
+taking bits lent run = cond (eqb bits 0) run (record { told = tells (unknownMode bits); buffers = lent })
 
--- of a proof's bytes, rounds and challenges, and the buffers for point and log
-abbrev pub verifying : Asked → Lent → Returned Lent
-verifying call lent = record { told = tells (verdictReport (verified call lent .answer)); buffers = verified call lent .buffers }
+-- of a call of the prover, and the buffers for proof, point, log and work
+abbrev pub provingTaken : Call → Buffers → Returned Buffers
+provingTaken c b = record { told = tells (answerReport (proved c b .answer)); buffers = proved c b .buffers }
+
+-- of rows, a word of modes and challenges
+abbrev pub proving : (rows : List ℕ) (modes : ℕ) (challenges : List ℕ) → Buffers → Returned Buffers
+proving rows modes challenges b =
+    taking (untaken (LIVE ∷ ASSERT-ZERO ∷ []) modes) b (provingTaken (call rows (provingOf modes) challenges) b)
+
+-- of a call of the verifier, and the buffers for point and log
+abbrev pub verifyingTaken : Asked → Lent → Returned Lent
+verifyingTaken a v = record { told = tells (verdictReport (verified a v .answer)); buffers = verified a v .buffers }
+
+-- of a proof's bytes, rounds, a word of modes, of which none is taken yet, and challenges
+abbrev pub verifying : (proof : List ℕ) (rounds modes : ℕ) (challenges : List ℕ) → Lent → Returned Lent
+verifying proof rounds modes challenges v = taking (untaken [] modes) v (verifyingTaken (asked proof rounds challenges) v)
 
 -- of rows and a point; no buffer is lent
 abbrev pub evaluating : (rows point : List ℕ) → Told

@@ -1,11 +1,12 @@
 -- How much room a run asks for, for numbers of rounds and rows that are taken, and one answer for all others.
 -- Assumes nothing.
-use mathlib.Core.Bool.{Bool, cond}
+use mathlib.Core.Bool.{cond}
 use Prim.Native.Nat.{ℕ, _+_, _*_}
 use lib.Dec.{leb}
 use Rattle.gkr.specs.Sizes.{challenges, proof-bytes, point-words}
 use Rattle.refusal.specs.Limits.{maxRounds}
-use Rattle.prover_gate.specs.Refusals.{roundsOf, isSize, logRoom, workRoom}
+use Rattle.sizes.specs.Sizes.{roundsOf, isSize, logRoom, workRoom}
+use Rattle.accudrina.specs.Modes.{ASSERT-ZERO, has}
 
 -- the room for so many rounds; for more than are taken it is 0
 abbrev pub taken : ℕ → ℕ → ℕ
@@ -17,8 +18,8 @@ proofBytes n = taken n (proof-bytes n)
 abbrev pub pointWords : ℕ → ℕ
 pointWords n = taken n (point-words n)
 
-abbrev pub logWords : ℕ → Bool → ℕ
-logWords n asserted = taken n (logRoom asserted n)
+abbrev pub logWords : (n modes : ℕ) → ℕ
+logWords n modes = taken n (logRoom (has ASSERT-ZERO modes) n)
 
 abbrev pub workspaceWords : ℕ → ℕ
 workspaceWords n = taken n (workRoom n)

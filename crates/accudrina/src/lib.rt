@@ -3,9 +3,11 @@ ghost use mathlib.Core.Path.{_≡_};
 ghost use Rattle.prover_gate.specs.Refusals.{call};
 ghost use Rattle.prover.specs.Proved.{lent};
 ghost use Rattle.verifier.specs.Verified.{asked, lent as again};
-ghost use Rattle.accudrina.specs.Calls.{reading, proving, verifying, evaluating};
+ghost use Rattle.accudrina.specs.Calls.{reading, proving, provingTaken, verifying, verifyingTaken, evaluating};
+use refusal::Proving;
 
 mod answer; // the sixteen words
+mod modes; // the bits of a word
 mod rooms; // how much room a run asks for
 
 // Stored bytes to row words: the number 0 and the row count, or the refusal; refused, the rows are as before.
@@ -15,18 +17,17 @@ pub extern "C" fn accudrina_read_sheet(
     rows: &mut [u32],
     answer: &mut [u32; 16],
 ) -> u32
-    ensures { λ r. ⌜ record { told = record { number = r; words = now (answer .exit) }; buffers = now (rows .exit) } ≡ reading (now (sheet .entry)) (now (rows .entry)) ⌝ }
+    ensures { λ r. ⌜ record { told = record { number = r; words = now (answer .exit) }; buffers = now (rows .exit) }
+        ≡ reading (now (sheet .entry)) (now (rows .entry)) ⌝ }
 {
     let read = stored_sheet::read_sheet(sheet, rows);
     answer::tell(stored_sheet::number_and_values(read), answer)
 }
 
-// A sheet's proof, point and log: the number 0, the rounds and the sum, or the refusal with its fields.
-#[no_mangle]
-pub extern "C" fn accudrina_prove(
+// A sheet's proof, point and log, in modes that are taken.
+fn prove_taken(
     rows: &[u32],
-    live: bool,
-    assert_zero: bool,
+    modes: Proving,
     challenges: &[u32],
     proof: &mut [u8],
     point: &mut [u32],
@@ -35,25 +36,39 @@ pub extern "C" fn accudrina_prove(
     answer: &mut [u32; 16],
 ) -> u32
     ensures { λ r. ⌜ record { told = record { number = r; words = now (answer .exit) }; buffers = lent (now (proof .exit)) (now (point .exit)) (now (log .exit)) (now (work .exit)) }
-        ≡ proving (call (now (rows .entry)) live «assert_zero» (now (challenges .entry)))
+        ≡ provingTaken (call (now (rows .entry)) modes (now (challenges .entry)))
         (lent (now (proof .entry)) (now (point .entry)) (now (log .entry)) (now (work .entry))) ⌝ }
 {
-    let proved = prover::fractional_sumcheck(
-        rows,
-        live,
-        assert_zero,
-        challenges,
-        proof,
-        point,
-        log,
-        work,
-    );
+    let proved = prover::fractional_sumcheck(rows, modes, challenges, proof, point, log, work);
     answer::tell(prover::number_and_values(proved), answer)
 }
 
-// What the verifier says of a proof: the number 0 and both claims at the point written, or the refusal with its fields.
+// A sheet's proof, point and log: the number 0, the rounds and the sum, or the refusal with its fields; first of all 28, the bits of the modes that are not taken.
 #[no_mangle]
-pub extern "C" fn accudrina_verify(
+pub extern "C" fn accudrina_prove(
+    rows: &[u32],
+    modes: u32,
+    challenges: &[u32],
+    proof: &mut [u8],
+    point: &mut [u32],
+    log: &mut [u32],
+    work: &mut [u32],
+    answer: &mut [u32; 16],
+) -> u32
+    ensures { λ r. ⌜ record { told = record { number = r; words = now (answer .exit) }; buffers = lent (now (proof .exit)) (now (point .exit)) (now (log .exit)) (now (work .exit)) }
+        ≡ proving (now (rows .entry)) modes (now (challenges .entry))
+        (lent (now (proof .entry)) (now (point .entry)) (now (log .entry)) (now (work .entry))) ⌝ }
+{
+    let untaken = modes::untaken_by_prover(modes);
+    if untaken != 0 {
+        return answer::tell(modes::unknown_mode(untaken), answer);
+    }
+    let proving = modes::proving(modes);
+    prove_taken(rows, proving, challenges, proof, point, log, work, answer)
+}
+
+// What the verifier says of a proof, in modes that are taken.
+fn verify_taken(
     proof: &[u8],
     rounds: usize,
     challenges: &[u32],
@@ -61,10 +76,31 @@ pub extern "C" fn accudrina_verify(
     log: &mut [u32],
     answer: &mut [u32; 16],
 ) -> u32
-    ensures { λ r. ⌜ record { told = record { number = r; words = now (answer .exit) }; buffers = again (now (point .exit)) (now (log .exit)) } ≡ verifying (asked (now (proof .entry)) rounds (now (challenges .entry))) (again (now (point .entry)) (now (log .entry))) ⌝ }
+    ensures { λ r. ⌜ record { told = record { number = r; words = now (answer .exit) }; buffers = again (now (point .exit)) (now (log .exit)) }
+        ≡ verifyingTaken (asked (now (proof .entry)) rounds (now (challenges .entry))) (again (now (point .entry)) (now (log .entry))) ⌝ }
 {
     let verdict = verifier::verify_gkr(proof, rounds, challenges, point, log);
     answer::tell(verifier_round::number_and_values(verdict), answer)
+}
+
+// What the verifier says of a proof: the number 0 and both claims at the point written, or the refusal with its fields; first of all 28, since it takes no modes.
+#[no_mangle]
+pub extern "C" fn accudrina_verify(
+    proof: &[u8],
+    rounds: usize,
+    modes: u32,
+    challenges: &[u32],
+    point: &mut [u32],
+    log: &mut [u32],
+    answer: &mut [u32; 16],
+) -> u32
+    ensures { λ r. ⌜ record { told = record { number = r; words = now (answer .exit) }; buffers = again (now (point .exit)) (now (log .exit)) }
+        ≡ verifying (now (proof .entry)) rounds modes (now (challenges .entry)) (again (now (point .entry)) (now (log .entry))) ⌝ }
+{
+    if modes != 0 {
+        return answer::tell(modes::unknown_mode(modes), answer);
+    }
+    verify_taken(proof, rounds, challenges, point, log, answer)
 }
 
 // The values of both columns of a sheet at a point: the number 0, the rounds and both values, or the refusal; it only reads.

@@ -1,6 +1,8 @@
 // How much room a run asks for, so that a caller can size buffers: 0 for more rounds than are taken.
 ghost use mathlib.Core.Path.{_≡_};
 ghost use Rattle.accudrina.specs.Rooms as Rooms;
+use crate::modes::ASSERT_ZERO;
+use crate::modes::has;
 use refusal::MAX_ROUNDS;
 
 // The bytes of a stored proof of so many rounds.
@@ -11,7 +13,7 @@ pub extern "C" fn accudrina_proof_bytes(rounds: usize) -> usize
     if rounds > MAX_ROUNDS {
         return 0;
     }
-    prover_gate::proof_bytes(rounds)
+    sizes::proof_bytes(rounds)
 }
 
 // The words of the point: four a round.
@@ -25,15 +27,15 @@ pub extern "C" fn accudrina_point_words(rounds: usize) -> usize
     4 * rounds
 }
 
-// The words of the log: four more where the sum is observed, since zero is not asserted.
+// The words of the log in these modes: four more where the sum is observed, since zero is not asserted; other bits are not looked at.
 #[no_mangle]
-pub extern "C" fn accudrina_log_words(rounds: usize, assert_zero: bool) -> usize
-    ensures { λ r. ⌜ r ≡ Rooms.logWords rounds «assert_zero» ⌝ }
+pub extern "C" fn accudrina_log_words(rounds: usize, modes: u32) -> usize
+    ensures { λ r. ⌜ r ≡ Rooms.logWords rounds modes ⌝ }
 {
     if rounds > MAX_ROUNDS {
         return 0;
     }
-    prover_gate::log_words(assert_zero, rounds)
+    sizes::log_words(has(modes, ASSERT_ZERO), rounds)
 }
 
 // The words of the prover's workspace.
@@ -44,7 +46,7 @@ pub extern "C" fn accudrina_workspace_words(rounds: usize) -> usize
     if rounds > MAX_ROUNDS {
         return 0;
     }
-    prover_gate::work_words(rounds, 1 << rounds)
+    sizes::work_words(rounds, 1 << rounds)
 }
 
 // The words of the challenges that a run takes.
@@ -55,7 +57,7 @@ pub extern "C" fn accudrina_challenge_words(rounds: usize) -> usize
     if rounds > MAX_ROUNDS {
         return 0;
     }
-    prover_gate::challenge_words(rounds)
+    sizes::challenge_words(rounds)
 }
 
 // The rounds of so many rows: 0 for no rows and for one, one more than are taken for a number of rows that is refused.
@@ -63,8 +65,8 @@ pub extern "C" fn accudrina_challenge_words(rounds: usize) -> usize
 pub extern "C" fn accudrina_rounds(rows: usize) -> usize
     ensures { λ r. ⌜ r ≡ Rooms.rounds rows ⌝ }
 {
-    if prover_gate::is_size(rows) {
-        return prover_gate::least_size(rows).n;
+    if sizes::is_size(rows) {
+        return sizes::least_size(rows).n;
     }
     MAX_ROUNDS + 1
 }

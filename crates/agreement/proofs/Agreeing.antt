@@ -28,7 +28,8 @@ use Rattle.stored.specs.ParseLaws.{parse-reads}
 use Rattle.stored.specs.RoundTrip.{write-read}
 use Rattle.stored.specs.Elements.{encoded, decoded}
 use Rattle.prover_tree.specs.Nodes.{node}
-use Rattle.prover_gate.specs.Refusals.{Call, rowCount, roundsOf}
+use Rattle.sizes.specs.Sizes.{rowCount, roundsOf}
+use Rattle.prover_gate.specs.Refusals.{Call}
 use Rattle.prover.specs.Proved as Prover
 use Rattle.prover.specs.declared.Answer.the-variants.{Done}
 use Rattle.verifier.specs.Verified as Verifier
@@ -41,7 +42,7 @@ use Rattle.agreement.proofs.HonestSize.{honest-size}
 use Rattle.agreement.proofs.Opening.{opens, rounds-taken-are}
 
 -- The run over a sheet that is taken, zero asserted or not: t is the log before root q.
-module _ (c : Call) (m : ℕ) (b : Prover.Buffers) (v : Lent) (h : Taken c (suc m)) (r : Room (c .asserted) (suc m) b v) where
+module _ (c : Call) (m : ℕ) (b : Prover.Buffers) (v : Lent) (h : Taken c (suc m)) (r : Room (c .modes .«assert_zero») (suc m) b v) where
   abbrev needed : List ℕ
   needed = take (4 * challenges (suc m)) (c .challenges)
 
@@ -57,7 +58,7 @@ module _ (c : Call) (m : ℕ) (b : Prover.Buffers) (v : Lent) (h : Taken c (suc 
   abbrev ended : Lent → Gkr.Verdict Extension S → Verifier.Outcome
   ended v w = Verifier.laid (Verifier.ended source w) v
 
-  module _ (t : Words) (e : Gkr.fractional-sumcheck Extension S (c .asserted) m rows empty ≡ done (Gkr.run Extension S m rows t)) where
+  module _ (t : Words) (e : Gkr.fractional-sumcheck Extension S (c .modes .«assert_zero») m rows empty ≡ done (Gkr.run Extension S m rows t)) where
     abbrev run : Gkr.Proved Extension S
     run = Gkr.run Extension S m rows t
 
@@ -66,7 +67,7 @@ module _ (c : Call) (m : ℕ) (b : Prover.Buffers) (v : Lent) (h : Taken c (suc 
     unfolding Prover.proved Prover.fronts
     proved-run =
         ap (λ t. Prover.laid (Prover.entered c t) b) (opens c m b v h r)
-        ∙ ap (λ (n : ℕ). Prover.laid (Prover.ran (c .rows) (c .asserted) (c .challenges) n) b) (rounds-taken-are c m b v h r)
+        ∙ ap (λ (n : ℕ). Prover.laid (Prover.ran (c .rows) (c .modes .«assert_zero») (c .challenges) n) b) (rounds-taken-are c m b v h r)
         ∙ ap (λ a. Prover.laid (Prover.after source (suc m) a) b) e
 
     abbrev bytes : List ℕ
@@ -100,7 +101,7 @@ module _ (c : Call) (m : ℕ) (b : Prover.Buffers) (v : Lent) (h : Taken c (suc 
 
 -- ZERO ASSERTED, AND THE ROOT NUMERATOR ZERO
 
-module _ (c : Call) (m : ℕ) (b : Prover.Buffers) (v : Lent) (h : Taken c (suc m)) (a : c .asserted ≡ true) (z : root c (suc m) .p ≡ E.nil) (r : Room true (suc m) b v) where
+module _ (c : Call) (m : ℕ) (b : Prover.Buffers) (v : Lent) (h : Taken c (suc m)) (a : c .modes .«assert_zero» ≡ true) (z : root c (suc m) .p ≡ E.nil) (r : Room true (suc m) b v) where
   abbrev ch : Source E.Ext
   ch = supplied (take (4 * challenges (suc m)) (c .challenges))
 
@@ -111,10 +112,10 @@ module _ (c : Call) (m : ℕ) (b : Prover.Buffers) (v : Lent) (h : Taken c (suc 
       × (Gkr.verify-gkr Extension (Drawing ch) (suc m) (P .proof) empty ≡ accepted (Tree.value ExtRing (node (c .rows)) (P .point)) (P .point) (P .log))
   theorem = Honest.honest Extension (Drawing ch) m (node (c .rows)) empty z
 
-  is-done : Gkr.fractional-sumcheck Extension (Drawing ch) (c .asserted) m (node (c .rows)) empty ≡ done P
+  is-done : Gkr.fractional-sumcheck Extension (Drawing ch) (c .modes .«assert_zero») m (node (c .rows)) empty ≡ done P
   is-done = ap (λ s. Gkr.fractional-sumcheck Extension (Drawing ch) s m (node (c .rows)) empty) a ∙ theorem .0
 
-  r′ : Room (c .asserted) (suc m) b v
+  r′ : Room (c .modes .«assert_zero») (suc m) b v
   r′ = subst (λ s. Room s (suc m) b v) (sym a) r
 
   run-is : Prover.proved c b ≡ Prover.laid (Prover.finished ch (suc m) P) b
@@ -162,8 +163,8 @@ other-sum c (suc m) b v h a z r =
     let ch = supplied (take (4 * challenges (suc m)) (c .challenges)) in
     let f = node (c .rows) in
     let t = Drawing ch .observe (root c (suc m) .p) empty in
-    let e : Gkr.fractional-sumcheck Extension (Drawing ch) (c .asserted) m f empty ≡ done (Gkr.run Extension (Drawing ch) m f t) =
+    let e : Gkr.fractional-sumcheck Extension (Drawing ch) (c .modes .«assert_zero») m f empty ≡ done (Gkr.run Extension (Drawing ch) m f t) =
     ap (λ s. Gkr.fractional-sumcheck Extension (Drawing ch) s m f empty) a in
-    let r′ : Room (c .asserted) (suc m) b v = subst (λ s. Room s (suc m) b v) (sym a) r in
+    let r′ : Room (c .modes .«assert_zero») (suc m) b v = subst (λ s. Room s (suc m) b v) (sym a) r in
     let n = Honest.not-zero Extension (Drawing ch) m f t empty (differs (root c (suc m) .p) z) in
     (sum-run c m b v h r′ t e, ap (λ o. o .answer) (verdict-run c m b v h r′ t e ∙ ap (λ w. Verifier.laid (Verifier.ended ch w) v) n))

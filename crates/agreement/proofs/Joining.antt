@@ -12,7 +12,8 @@ use Rattle.refusal.specs.Limits.{maxRounds}
 use Rattle.refusal.specs.Tests.{Tested, passed, refused}
 use Rattle.refusal.specs.declared.Refusal.{Refusal}
 use Rattle.step.specs.declared.Frac.{Frac}
-use Rattle.prover_gate.specs.Refusals.{Call, rowCount, roundsOf, firstRefusal}
+use Rattle.sizes.specs.Sizes.{rowCount, roundsOf}
+use Rattle.prover_gate.specs.Refusals.{Call, firstRefusal}
 use Rattle.prover.specs.Proved as Prover
 use Rattle.prover.specs.Proved.{Buffers, roomsOf, entered, fronts, proved}
 use Rattle.prover.proofs.Theorems.{Ends, each-end, done-refused}
@@ -26,7 +27,7 @@ use Rattle.verifier_round.specs.declared.Verdict.{Verdict}
 use Rattle.agreement.specs.declared.Joint.the-variants.{Proved, Refused}
 use Rattle.agreement.specs.Demand3.{Taken, root, Room, verdict, Agreed}
 use Rattle.agreement.specs.Together.{Joined, follow, ended, together, joined, Agrees}
-use Rattle.agreement.proofs.Sizing.{few-rounds}
+use Rattle.sizes.specs.SizeLaws.{few-rounds}
 use Rattle.agreement.proofs.Agreeing.{demand-3}
 
 -- WHAT DONE TELLS: the gate was open, and n is the rounds of the rows
@@ -46,7 +47,7 @@ module _ (c : Call) (b : Buffers) (n : ℕ) (s : Frac) where
       go : (t : Tested) → firstRefusal c (roomsOf b) ≡ t → entered c t .answer ≡ Done n s → Admitted
       go passed e k =
           let N = roundsOf (rowCount (c .rows)) in
-          record { opened = e; rounds = each-end (λ f. f .answer ≡ Done n s → n ≡ N) (c .rows) (c .asserted) (c .challenges) N (rounds-told N) k }
+          record { opened = e; rounds = each-end (λ f. f .answer ≡ Done n s → n ≡ N) (c .rows) (c .modes .«assert_zero») (c .challenges) N (rounds-told N) k }
       go (refused r) e k = absurd (done-refused n s r (sym k))
 
 -- so n is within the limit, and the proof's bytes are there
@@ -83,7 +84,7 @@ module _ (c : Call) (b : Buffers) (v : Lent) where
       ∙ ap (λ o. follow c v o (o .answer)) h
 
   -- DEMAND 3
-  pub agrees : (j : Joined) → j ≡ together c b v → (n : ℕ) → Taken c n → c .asserted ≡ true → root c n .p ≡ E.nil → Room true n b v → Agrees c n b v j
+  pub agrees : (j : Joined) → j ≡ together c b v → (n : ℕ) → Taken c n → c .modes .«assert_zero» ≡ true → root c n .p ≡ E.nil → Room true n b v → Agrees c n b v j
   unfolding together
   agrees j e n h a z r =
       let A = demand-3 c n b v h a z r in

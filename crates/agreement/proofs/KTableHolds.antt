@@ -10,7 +10,8 @@ use Rattle.wire.specs.Words.{allCanonical}
 use Rattle.wire.specs.Bytes.{bytesOf, word}
 use Rattle.stored.specs.Layout.{claimsWords, cubicsWords, polysWords, entriesBytes, layout}
 use Rattle.stored.specs.Parse.{claimsFrom, cubicsFrom, entriesFrom, entriesFit, fits}
-use Rattle.prover_gate.specs.Refusals.{roundsFrom, isSize, shortRoom, degenerate, lowest, firstRefusal}
+use Rattle.sizes.specs.Sizes.{roundsFrom, isSize}
+use Rattle.prover_gate.specs.Refusals.{shortRoom, degenerate, lowest, firstRefusal}
 use Rattle.prover.specs.Proved as Prover
 use Rattle.verifier.specs.Verified as Verifier
 use Rattle.agreement.specs.KTable.{Holds, K1-K10}

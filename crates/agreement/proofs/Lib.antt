@@ -1,6 +1,5 @@
 -- The laws of the agreement.
 pub mod HonestSize
-pub mod Sizing
 pub mod Opening
 pub mod Agreeing
 pub mod Joining

@@ -12,15 +12,17 @@ use Rattle.refusal.specs.Limits.{maxRows}
 use Rattle.refusal.specs.Tests.{passed}
 use Rattle.refusal.specs.TestLaws.{all-passed}
 use Rattle.wire.specs.Words.{allCanonical}
-use Rattle.prover_gate.specs.Refusals.{Call, rowCount, roundsOf, isSize, shortRoom, lowest, tests, firstRefusal}
-use Rattle.prover_gate.proofs.Admitting.{both}
+use Rattle.sizes.specs.Sizes.{rowCount, roundsOf, isSize}
+use Rattle.prover_gate.specs.Refusals.{Call, shortRoom, lowest, tests, firstRefusal}
+use Rattle.refusal.specs.TestWays.{both}
 use Rattle.prover.specs.Proved.{Buffers, roomsOf}
 use Rattle.prover.proofs.Modes.{lowest-none}
 use Rattle.verifier.specs.Verified.{Lent}
 use Rattle.agreement.specs.Demand3.{Taken, Room}
-use Rattle.agreement.proofs.Sizing.{rounds-taken, size-taken, rows-taken, whole, counted}
+use Rattle.sizes.specs.SizeLaws.{rounds-taken, size-taken, whole, counted}
+use Rattle.sizes.specs.LimitLaws.{rows-taken}
 
-module _ (c : Call) (m : ℕ) (b : Buffers) (v : Lent) (h : Taken c (suc m)) (r : Room (c .asserted) (suc m) b v) where
+module _ (c : Call) (m : ℕ) (b : Buffers) (v : Lent) (h : Taken c (suc m)) (r : Room (c .modes .«assert_zero») (suc m) b v) where
   rounds-are : roundsOf (rowCount (c .rows)) ≡ suc m
   rounds-are = ap roundsOf (counted (c .rows) (suc m) (h .rows)) ∙ rounds-taken (suc m) (h .few)
 
@@ -30,7 +32,7 @@ module _ (c : Call) (m : ℕ) (b : Buffers) (v : Lent) (h : Taken c (suc m)) (r 
   within : rowCount (c .rows) ≤ maxRows
   within = omega (arith, counted (c .rows) (suc m) (h .rows), rows-taken (suc m) (h .few))
 
-  checked : (live : Bool) → c .live ≡ live → (live && ltb (lowest (c .rows) (rowCount (c .rows)) 0) (rowCount (c .rows))) ≡ false
+  checked : (live : Bool) → c .modes .live ≡ live → (live && ltb (lowest (c .rows) (rowCount (c .rows)) 0) (rowCount (c .rows))) ≡ false
   checked true e =
       let k = counted (c .rows) (suc m) (h .rows) in
       let l = lowest-none (c .rows) (rowCount (c .rows)) 0 (λ j q. h .checked e j (omega arith)) in
@@ -47,10 +49,10 @@ module _ (c : Call) (m : ℕ) (b : Buffers) (v : Lent) (h : Taken c (suc m)) (r 
       (both (le-ltb _ _ within)
       (both (ap not sized)
       (both (ap (λ k. ltb (length (c .challenges)) (4 * challenges k)) n ∙ le-ltb _ _ (h .enough))
-      (both (ap (λ k. shortRoom (c .asserted) k (roomsOf b)) n ∙ r .prover)
+      (both (ap (λ k. shortRoom (c .modes .«assert_zero») k (roomsOf b)) n ∙ r .prover)
       (both (ap not (h .valid-rows))
       (both (ap (λ k. not (allCanonical (take (4 * challenges k) (c .challenges)))) n ∙ ap not (h .valid-challenges))
-      (both (checked (c .live) refl) tt))))))))
+      (both (checked (c .modes .live) refl) tt))))))))
 
   pub rounds-taken-are : roundsOf (rowCount (c .rows)) ≡ suc m
   rounds-taken-are = rounds-are

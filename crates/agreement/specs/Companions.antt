@@ -16,5 +16,5 @@ use Rattle.agreement.specs.Demand3.{Taken, root, Room, verdict}
 -- ANOTHER SUM, not asserted: the prover is done, and the verifier answers 16 with that sum
 abbrev pub OtherSum : Type 0
 OtherSum =
-    (c : Call) (n : ℕ) (b : Buffers) (v : Lent) → Taken c n → c .asserted ≡ false → (root c n .p ≡ E.nil → ⊥) → Room false n b v
+    (c : Call) (n : ℕ) (b : Buffers) (v : Lent) → Taken c n → c .modes .«assert_zero» ≡ false → (root c n .p ≡ E.nil → ⊥) → Room false n b v
     → (proved c b .answer ≡ Done n (encFrac (root c n))) × (verdict c n (proved c b) v .answer ≡ TurnedAway (ZeroCheckFailed (enc (root c n .p))))

@@ -30,7 +30,7 @@ pub record Taken (c : Call) (n : ℕ) : Type 0 where
   pub enough : 4 * challenges n ≤ length (c .challenges)
   pub valid-rows : allCanonical (c .rows) ≡ true
   pub valid-challenges : allCanonical (take (4 * challenges n) (c .challenges)) ≡ true
-  pub checked : c .live ≡ true → (i : ℕ) → i < 2 ^ n → degenerate (node (c .rows) i) ≡ false
+  pub checked : c .modes .live ≡ true → (i : ℕ) → i < 2 ^ n → degenerate (node (c .rows) i) ≡ false
 
 -- the sum of all rows
 abbrev pub root : (c : Call) (n : ℕ) → Frac E.Ext
@@ -64,4 +64,4 @@ pub record Agreed (c : Call) (n : ℕ) (b : Prover.Buffers) (v : Lent) (P : Prov
 
 -- THE DEMAND: zero asserted, and the root numerator zero
 abbrev pub Demand3 : Type 0
-Demand3 = (c : Call) (n : ℕ) (b : Prover.Buffers) (v : Lent) → Taken c n → c .asserted ≡ true → root c n .p ≡ E.nil → Room true n b v → let P = Prover.proved c b in Agreed c n b v P (verdict c n P v)
+Demand3 = (c : Call) (n : ℕ) (b : Prover.Buffers) (v : Lent) → Taken c n → c .modes .«assert_zero» ≡ true → root c n .p ≡ E.nil → Room true n b v → let P = Prover.proved c b in Agreed c n b v P (verdict c n P v)

@@ -45,7 +45,7 @@ rowWords [] = []
 rowWords (f ∷ fs) = words (f .p) ++ (words (f .q) ++ rowWords fs)
 
 abbrev pub sheet : (live asserted : Bool) (fs : List (Frac E.Ext)) (challenges : List E.Ext) → Call
-sheet live asserted fs ch = record { rows = rowWords fs; live = live; asserted = asserted; challenges = pointWords ch }
+sheet live asserted fs ch = record { rows = rowWords fs; modes = record { live = live; «assert_zero» = asserted }; challenges = pointWords ch }
 
 -- buffers of zeros, as long as n rounds need
 abbrev pub room : ℕ → Prover.Buffers

@@ -11,10 +11,11 @@ ghost use Rattle.agreement.specs.Report.{jointReport};
 ghost use Rattle.agreement.specs.Together.{joined, together, Agrees};
 use field::Ext;
 use prover::Answer;
+use refusal::Proving;
 use refusal::Refusal;
 use refusal::Report;
-use verifier_round::Verdict;
 use step::Frac;
+use verifier_round::Verdict;
 
 // What the prover is done with and what the verifier makes of its proof; or the prover's refusal.
 pub enum Joint {
@@ -55,8 +56,7 @@ pub fn number_and_values(joint: Joint) -> JointReport
 // Proves a sheet, and hands the proof's bytes, n and the same challenges to the verifier, which has a point and a log of its own.
 pub fn prove_and_verify(
     rows: &[u32],
-    live: bool,
-    assert_zero: bool,
+    modes: Proving,
     challenges: &[u32],
     proof: &mut [u8],
     point: &mut [u32],
@@ -66,27 +66,18 @@ pub fn prove_and_verify(
     log_again: &mut [u32],
 ) -> Joint
     ensures both { λ r. ⌜ joined r (lent (now (proof .exit)) (now (point .exit)) (now (log .exit)) (now (work .exit))) (again (now («point_again» .exit)) (now («log_again» .exit)))
-        ≡ together (call (now (rows .entry)) live «assert_zero» (now (challenges .entry)))
+        ≡ together (call (now (rows .entry)) modes (now (challenges .entry)))
         (lent (now (proof .entry)) (now (point .entry)) (now (log .entry)) (now (work .entry))) (again (now («point_again» .entry)) (now («log_again» .entry))) ⌝ }
-    ensures demand { λ r. ⌜ ((n : ℕ) → Taken (call (now (rows .entry)) live «assert_zero» (now (challenges .entry))) n → «assert_zero» ≡ true
-        → root (call (now (rows .entry)) live «assert_zero» (now (challenges .entry))) n .p ≡ E.nil
+    ensures demand { λ r. ⌜ ((n : ℕ) → Taken (call (now (rows .entry)) modes (now (challenges .entry))) n → modes .«assert_zero» ≡ true
+        → root (call (now (rows .entry)) modes (now (challenges .entry))) n .p ≡ E.nil
         → Room true n (lent (now (proof .entry)) (now (point .entry)) (now (log .entry)) (now (work .entry))) (again (now («point_again» .entry)) (now («log_again» .entry)))
-        → Agrees (call (now (rows .entry)) live «assert_zero» (now (challenges .entry))) n
+        → Agrees (call (now (rows .entry)) modes (now (challenges .entry))) n
         (lent (now (proof .entry)) (now (point .entry)) (now (log .entry)) (now (work .entry))) (again (now («point_again» .entry)) (now («log_again» .entry)))
         (joined r (lent (now (proof .exit)) (now (point .exit)) (now (log .exit)) (now (work .exit))) (again (now («point_again» .exit)) (now («log_again» .exit))))) ⌝ }
 {
-    match prover::fractional_sumcheck(
-        rows,
-        live,
-        assert_zero,
-        challenges,
-        proof,
-        point,
-        log,
-        work,
-    ) {
+    match prover::fractional_sumcheck(rows, modes, challenges, proof, point, log, work) {
         Answer::Done { rounds, sum } => {
-            let size = prover_gate::proof_bytes(rounds);
+            let size = sizes::proof_bytes(rounds);
             let verdict = verifier::verify_gkr(
                 &proof[..size],
                 rounds,

@@ -1,5 +1,6 @@
 // Calls at the limits of document 01, and the number that each answers: rows, rounds, words.
 use prover::Answer;
+use refusal::Proving;
 
 fn print_answer(name: &[u8], number: u32) {
     io::write_all(1, name);
@@ -14,8 +15,10 @@ fn prove(name: &[u8], rows: &[u32], challenges: &[u32], proof: &mut [u8]) {
     let mut work = [0u32; 32768];
     let answer = prover::fractional_sumcheck(
         rows,
-        false,
-        false,
+        Proving {
+            live: false,
+            assert_zero: false,
+        },
         challenges,
         proof,
         &mut point,

@@ -3,14 +3,15 @@
 use mathlib.Core.Path.{_≡_, refl, sym, _∙_, ap}
 use mathlib.Core.Bool.{Bool, true, false, _&&_}
 use mathlib.Core.List.{List, [], _∷_}
-use Prim.Native.Nat.{ℕ, zero, suc, _+_, _-_, _<_, _≤_, min}
+use Prim.Native.Nat.{ℕ, zero, suc, _+_, _-_, _≤_, min}
 use native.Mathlib.Omega.{arith}
-use borrow.Author.Tests.{eq-eqb, eqb-true, leb-true, leb-false}
+use borrow.Author.Tests.{eq-eqb, eqb-true}
 use lib.Dec.{eqb, leb}
-use lib.ListN.{length, take, drop, drop-of-length-le}
+use lib.ListN.{length, take, drop}
 use lib.Seq.{drop-drop}
 use Rattle.field.specs.ExtRing.{both}
 use Rattle.sheet_text.specs.Reading.{lengthTo}
+use Rattle.sheet_text.proofs.Listing.{started}
 use Rattle.command.specs.Arguments.{argument, sameText, live, noAssert, challenges, sheet, wordOf}
 use Rattle.command.specs.declared.words.Word.the-variants.{Empty, Live, NoAssert, Challenges, Sheet, Other}
 
@@ -82,18 +83,6 @@ module _ (w : List ℕ) where
       is-other e₄ = sym (rw (some w z, test a false live h e, test b false noAssert h₂ e₂, test c false challenges h₃ e₃, test d false sheet h₄ e₄))
 
 -- ---- argument k
--- the next argument begins after the byte 0, or at the end
-started : (args : List ℕ) (to next : ℕ) (t : Bool) → leb (length args) to ≡ t → to ≤ length args → next ≡ min (to + 1) (length args) → drop next args ≡ drop (to + 1) args
-started args to next true l h e =
-    let g : length args ≤ to = leb-true (length args) to l in
-    let a : length args ≤ next = omega arith in
-    let b : length args ≤ to + 1 = omega arith in
-    drop-of-length-le args a ∙ sym (drop-of-length-le args b)
-started args to next false l h e =
-    let g : to < length args = leb-false (length args) to l in
-    let a : next ≡ to + 1 = omega arith in
-    rw a
-
 module _ (args : List ℕ) (from to : ℕ) (e : to ≡ from + lengthTo 0 (drop from args)) where
   -- the part before the byte 0 is the first argument from here on
   pub part : (k : ℕ) → k ≡ 0 → take (to - from) (drop from args) ≡ argument k (drop from args)

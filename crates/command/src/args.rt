@@ -4,11 +4,11 @@ use crate::options::fit_verify;
 use crate::options::read_options;
 use crate::words::count;
 use crate::words::part_at;
-use command_proofs::prove::Mode;
 use command_proofs::prove::prove;
 use command_proofs::verify::verify;
 use command_sheets::make;
 use command_sheets::show;
+use refusal::Proving;
 
 fn is_word(args: &[u8], k: usize, word: &[u8]) -> bool {
     let p = part_at(args, k);
@@ -38,9 +38,9 @@ fn run_prove(args: &[u8], n: usize) {
     if !fit_prove(o, n) {
         return usage();
     }
-    let mode = Mode {
+    let modes = Proving {
         live: o.live,
-        asserted: o.asserted,
+        assert_zero: o.asserted,
     };
     let sheet = part_at(args, 1);
     let proof = part_at(args, 2);
@@ -51,7 +51,7 @@ fn run_prove(args: &[u8], n: usize) {
     let d = proof.to;
     let e = challenges.from;
     let f = challenges.to;
-    prove(&args[a..b], &args[c..d], &args[e..f], mode);
+    prove(&args[a..b], &args[c..d], &args[e..f], modes);
 }
 
 // The rounds are a number in digits.

@@ -6,17 +6,16 @@ use mathlib.Core.List.{List, [], _++_}
 use Prim.Native.Nat.{ℕ, _*_, _/_, _≤_}
 use native.Mathlib.Omega.{arith}
 use borrow.Author.Tests.{eq-eqb, ne-eqb}
-use lib.ListN.{length, take, drop, length-append}
+use lib.ListN.{length, take, drop}
 use lib.Seq.{length-take-le, take-at}
 use Rattle.field.specs.Cells.{Clean}
 use Rattle.io.specs.Counts.{Counts}
 use Rattle.wire.specs.WordLaws.{canonical-below}
-use Rattle.wire.specs.ByteLaws.{words-length}
 use Rattle.stored_sheet.specs.declared.SheetAnswer.{SheetAnswer}
 use Rattle.stored_sheet.specs.declared.SheetAnswer.the-variants.{Done, Refused}
-use Rattle.stored_sheet.specs.Sheet.{rowCount, rowWords}
-use Rattle.stored_sheet.specs.SheetReads.{SheetEnd, ended, readAnswer, sheetRead}
-use Rattle.stored_sheet.specs.SheetLaws.{read-done}
+use Rattle.stored_sheet.specs.Sheet.{rowWords}
+use Rattle.stored_sheet.specs.SheetReads.{SheetEnd, sheetRead}
+use Rattle.stored_sheet.specs.SheetLaws.{is-read, read-front, read-long, read-most, read-fits}
 use Rattle.sheet_text.specs.declared.ListAnswer.{ListAnswer}
 use Rattle.sheet_text.specs.declared.ListAnswer.the-variants as Ends
 use Rattle.sheet_text.specs.Reading.{Ended, listRead, Within}
@@ -34,35 +33,15 @@ list-counts r k ws h e = counts k ws (subst (λ (x : ListAnswer). Within x ws) e
 pub no-rows : (ws : List ℕ) → Rows 0 ws
 no-rows ws = record { counts = counts 0 ws (omega arith); most = omega arith; clean = record { below = λ k. omega arith } }
 
-answered : (a : SheetAnswer) (ws old : List ℕ) → ended a ws old .answer ≡ a
-answered (Done n) ws old = refl
-answered (Refused e) ws old = refl
-
-module _ (bs old new : List ℕ) (n : ℕ) {r : SheetAnswer} (e : _≡_ {A = SheetEnd} (record { answer = r; buffer = new }) (sheetRead bs old)) (d : r ≡ Done n) where
-  done : readAnswer bs (length old) ≡ Done n
-  done = sym (answered (readAnswer bs (length old)) (rowWords bs) old) ∙ sym (ap (λ o. o .answer) e) ∙ d
-
-  pub read-few : n ≤ 1024
-  read-few = let h = read-done bs (length old) n done in omega (arith, h .most, h .count)
-
-  held : new ≡ rowWords bs ++ drop (length (rowWords bs)) old
-  held = ap (λ o. o .buffer) e ∙ ap (λ x. ended x (rowWords bs) old .buffer) done
-
-  long : length (rowWords bs) ≡ 8 * n
-  long = let h = read-done bs (length old) n done in words-length (8 * rowCount bs) (drop 3 bs) ∙ ap (λ k. 8 * k) (h .count)
-
-  front : take (8 * n) new ≡ rowWords bs
-  front = ap (take (8 * n)) held ∙ take-at (rowWords bs) (drop (length (rowWords bs)) old) (8 * n) long
-
-  pub read-rows : Rows (8 * n) new
-  read-rows =
-      let h = read-done bs (length old) n done in
-      let l : 8 * n ≤ length new = let b = ap length held ∙ length-append (rowWords bs) (drop (length (rowWords bs)) old) in omega (arith, long, b) in
-      record {
-        counts = counts (8 * n) new l;
-        most = omega (arith, read-few);
-        clean = subst (λ (x : List ℕ). Clean x) (sym front) (record { below = canonical-below (rowWords bs) (h .canonical) });
-      }
+pub read-rows : (bs old new : List ℕ) (n : ℕ) {r : SheetAnswer} → _≡_ {A = SheetEnd} (record { answer = r; buffer = new }) (sheetRead bs old) → r ≡ Done n → Rows (8 * n) new
+read-rows bs old new n e d =
+    let front : take (8 * n) new ≡ rowWords bs =
+    ap (take (8 * n)) (read-front bs old new n e d) ∙ take-at (rowWords bs) (drop (length (rowWords bs)) old) (8 * n) (read-long bs old new n e d) in
+    record {
+      counts = counts (8 * n) new (read-fits bs old new n e d);
+      most = omega (arith, read-most bs old new n e d);
+      clean = subst (λ (x : List ℕ). Clean x) (sym front) (record { below = canonical-below (rowWords bs) (is-read bs old new n e d .canonical) });
+    }
 
 -- ---- what is given: the end of a reading, by its answer
 module _ (bs old new : List ℕ) {r : SheetAnswer} (e : _≡_ {A = SheetEnd} (record { answer = r; buffer = new }) (sheetRead bs old)) where

@@ -3,20 +3,15 @@ use crate::notes::print_notes;
 use command_files::inputs;
 use command_text::refusals::print_refusal;
 use prover::Answer;
+use refusal::Proving;
 use step::Frac;
-
-// How a sheet is proved: live or sandbox, zero asserted or not.
-pub struct Mode {
-    pub live: bool,
-    pub asserted: bool,
-}
 
 // How many bytes a proof of so many rounds has.
 fn proof_length(rounds: usize) -> usize {
     if rounds > refusal::MAX_ROUNDS {
         return 0;
     }
-    prover_gate::proof_bytes(rounds)
+    sizes::proof_bytes(rounds)
 }
 
 // The proof goes to its file, and then what it is of is printed; whether that was done.
@@ -31,15 +26,14 @@ fn keep_proof(path: &[u8], proof: &[u8], count: usize, rounds: usize, sum: Frac)
     kept
 }
 
-fn prove_with(rows: &[u32], challenges: &[u32], counted: bool, mode: Mode, path: &[u8]) {
+fn prove_with(rows: &[u32], challenges: &[u32], counted: bool, modes: Proving, path: &[u8]) {
     let mut proof = [0u8; 2832];
     let mut point = [0u32; 40];
     let mut log = [0u32; 964];
     let mut work = [0u32; 32768];
     match prover::fractional_sumcheck(
         rows,
-        mode.live,
-        mode.asserted,
+        modes,
         challenges,
         &mut proof,
         &mut point,
@@ -55,21 +49,21 @@ fn prove_with(rows: &[u32], challenges: &[u32], counted: bool, mode: Mode, path:
     }
 }
 
-fn prove_rows(rows: &[u32], challenges: &[u8], mode: Mode, path: &[u8]) {
+fn prove_rows(rows: &[u32], challenges: &[u8], modes: Proving, path: &[u8]) {
     let mut words = [0u32; 256];
     let given = inputs::read_challenges(challenges, &mut words);
     let n = given.count;
     if given.good {
-        prove_with(rows, &words[..n], challenges.len() == 0, mode, path);
+        prove_with(rows, &words[..n], challenges.len() == 0, modes, path);
     }
 }
 
 // The names of the sheet, of the proof, and of a text of challenges; an empty one stands for counted challenges.
-pub fn prove(sheet: &[u8], proof: &[u8], challenges: &[u8], mode: Mode) {
+pub fn prove(sheet: &[u8], proof: &[u8], challenges: &[u8], modes: Proving) {
     let mut rows = [0u32; 8192];
     let given = inputs::read_sheet(sheet, &mut rows);
     let n = given.count;
     if given.good {
-        prove_rows(&rows[..n], challenges, mode, proof);
+        prove_rows(&rows[..n], challenges, modes, proof);
     }
 }

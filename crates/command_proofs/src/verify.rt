@@ -5,8 +5,8 @@ use command_files::After;
 use command_files::inputs;
 use command_text::print;
 use command_text::refusals::print_refusal;
-use verifier_round::Verdict;
 use step::Frac;
+use verifier_round::Verdict;
 
 fn verify_with(proof: &[u8], rounds: usize, challenges: &[u32], counted: bool, sheet: &[u8]) {
     let mut point = [0u32; 40];

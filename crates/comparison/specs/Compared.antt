@@ -32,5 +32,5 @@ pub record Compared (rows : List ℕ) (n : ℕ) (P : Prover.Outcome) (Q : Verifi
 
 abbrev pub Comparison : Type 0
 Comparison =
-    (c : Call) (n : ℕ) (b : Prover.Buffers) (v : Lent) → Taken c n → c .asserted ≡ true → root c n .p ≡ E.nil → Room true n b v
+    (c : Call) (n : ℕ) (b : Prover.Buffers) (v : Lent) → Taken c n → c .modes .«assert_zero» ≡ true → root c n .p ≡ E.nil → Room true n b v
     → let P = Prover.proved c b in Compared (c .rows) n P (verdict c n P v)

@@ -24,11 +24,11 @@ use Rattle.wire.specs.Words.{allCanonical}
 use Rattle.wire.specs.WordLaws.{canonical-append, elem-canonical}
 use Rattle.step.specs.Values.{IsFrac}
 use Rattle.prover_tree.specs.Nodes.{node}
-use Rattle.prover_gate.specs.Refusals as Refusals
-use Rattle.prover_gate.specs.Refusals.{rowCount}
+use Rattle.sizes.specs.Sizes.{rowCount, roundsOf, isSize}
 use Rattle.prover.specs.Proved as Prover
 use Rattle.agreement.specs.Demand3.{Taken, Agreed}
-use Rattle.agreement.proofs.Sizing.{rounds-taken, size-taken, rows-taken, whole, counted}
+use Rattle.sizes.specs.SizeLaws.{rounds-taken, size-taken, whole, counted}
+use Rattle.sizes.specs.LimitLaws.{rows-taken}
 use Rattle.agreement.proofs.Agreeing.{demand-3}
 use Rattle.evaluation.specs.Evaluated.{told, evaluated}
 use Rattle.evaluation.proofs.Answering.{done-some}
@@ -77,7 +77,7 @@ module _ (rows : List ℕ) (n : ℕ) (some : 1 ≤ n) (few : n ≤ Limits.maxRou
       let m : rowCount rows ≤ maxRows = subst (λ k. k ≤ maxRows) (sym e) (rows-taken n few) in
       let v = Tree.value ExtRing (node rows) (cells ws 0 n) in
       let is : IsFrac (Prover.encFrac v) v = record { p = is-enc (v .p); q = is-enc (v .q) } in
-      sym (done-some rows ws (whole rows n len) m refl (ap Refusals.isSize e ∙ size-taken n few) (sym (ap Refusals.roundsOf e ∙ rounds-taken n few)) long refl valid refl (point-canonical zs) z is)
+      sym (done-some rows ws (whole rows n len) m refl (ap isSize e ∙ size-taken n few) (sym (ap roundsOf e ∙ rounds-taken n few)) long refl valid refl (point-canonical zs) z is)
       ∙ ap (told n) value
 
   pub at-point : (buffer : List ℕ) → at-front rows n (over ws buffer) ≡ told n (Tree.value ExtRing (node rows) zs)

@@ -1,49 +1,46 @@
 -- Each way through the evaluation is the one answer that fits.
 -- Assumes nothing.
 use mathlib.Core.Path.{_≡_, refl, sym, _∙_, ap}
-use mathlib.Core.Bool.{Bool, true, false, _||_}
+use mathlib.Core.Bool.{Bool, true, false}
 use mathlib.Core.List.{List}
 use Prim.Native.Nat.{ℕ, _*_, _%_, _^_, _<_, _≤_}
 use native.Mathlib.Omega.{arith}
-use borrow.Author.Tests.{lt-ltb, le-ltb, eq-eqb, ne-eqb, eqb-true}
-use lib.Dec.{eqb}
+use borrow.Author.Tests.{lt-ltb, le-ltb, eq-eqb, ne-eqb}
 use lib.ListN.{length}
+use Rattle.field.specs.Ext as E
 use Rattle.field.specs.ExtRing.{ExtRing}
 use Rattle.field.specs.ElementLaws.{enc-of-is, zero-is, one-is}
 use Rattle.field.specs.Cells.{cells}
 use Rattle.gkr.specs.Tree as Tree
 use Rattle.refusal.specs.Limits.{maxRows}
 use Rattle.refusal.specs.declared.Refusal.the-variants.{RaggedRows, TooManyRows, NotPowerOfTwo, BadLength, BadWord}
+use Rattle.refusal.specs.Tests.{firstOf}
 use Rattle.wire.specs.Words.{allCanonical}
 use Rattle.step.specs.declared.Frac.{Frac as FracW}
 use Rattle.step.specs.Values.{IsFrac}
 use Rattle.prover_tree.specs.Nodes.{node}
-use Rattle.prover_gate.specs.Refusals.{rowCount, roundsOf, isSize}
+use Rattle.sizes.specs.Sizes.{rowCount, roundsOf, isSize}
+use Rattle.sizes.specs.SizeLaws.{some-size}
 use Rattle.evaluation.specs.declared.Evaluation.{Evaluation}
 use Rattle.evaluation.specs.declared.Evaluation.the-variants.{Done, Refused}
-use Rattle.evaluation.specs.Evaluated.{told, noRows, evaluated}
-
--- a size that is not 0 is the power of two
-some-size : (count : ℕ) → isSize count ≡ true → (count ≡ 0 → ⊥) → count ≡ 2 ^ roundsOf count
-unfolding isSize
-some-size count h z = eqb-true _ _ (rw (ne-eqb count 0 z) at h)
+use Rattle.evaluation.specs.Evaluated.{told, evaluated}
 
 module _ (rows point : List ℕ) where
   abbrev count : ℕ
   count = rowCount rows
 
   pub refuse-1 : (length rows % 8 ≡ 0 → ⊥) → Refused RaggedRows ≡ evaluated rows point
-  unfolding evaluated
+  unfolding evaluated firstOf
   refuse-1 h = rw (ne-eqb _ _ h)
 
   module _ (h1 : length rows % 8 ≡ 0) where
     pub refuse-2 : maxRows < count → Refused TooManyRows ≡ evaluated rows point
-    unfolding evaluated
+    unfolding evaluated firstOf
     refuse-2 h = rw (eq-eqb _ _ h1, lt-ltb _ _ h)
 
     module _ (h2 : count ≤ maxRows) {s : Bool} (se : s ≡ isSize count) where
       pub refuse-3 : s ≡ false → Refused NotPowerOfTwo ≡ evaluated rows point
-      unfolding evaluated
+      unfolding evaluated firstOf
       refuse-3 h = rw (eq-eqb _ _ h1, le-ltb _ _ h2, sym se ∙ h)
 
       module _ (h3 : s ≡ true) {n : ℕ} (ne : n ≡ roundsOf count) where
@@ -52,28 +49,28 @@ module _ (rows point : List ℕ) where
         rows-length z = let e : count ≡ 2 ^ n = some-size count (sym se ∙ h3) z ∙ ap (λ k. 2 ^ k) (sym ne) in omega arith
 
         pub refuse-13 : (length point ≡ 4 * n → ⊥) → Refused BadLength ≡ evaluated rows point
-        unfolding evaluated
+        unfolding evaluated firstOf
         refuse-13 h = rw (eq-eqb _ _ h1, le-ltb _ _ h2, sym se ∙ h3, sym ne, ne-eqb _ _ h)
 
         module _ (h4 : length point ≡ 4 * n) {u : Bool} (ue : u ≡ allCanonical rows) where
           pub refuse-6 : u ≡ false → Refused BadWord ≡ evaluated rows point
-          unfolding evaluated
+          unfolding evaluated firstOf
           refuse-6 h = rw (eq-eqb _ _ h1, le-ltb _ _ h2, sym se ∙ h3, sym ne, eq-eqb _ _ h4, sym ue ∙ h)
 
           module _ (h5 : u ≡ true) {v : Bool} (ve : v ≡ allCanonical point) where
             pub refuse-6' : v ≡ false → Refused BadWord ≡ evaluated rows point
-            unfolding evaluated
+            unfolding evaluated firstOf
             refuse-6' h = rw (eq-eqb _ _ h1, le-ltb _ _ h2, sym se ∙ h3, sym ne, eq-eqb _ _ h4, sym ue ∙ h5, sym ve ∙ h)
 
             module _ (h6 : v ≡ true) where
-              pub done-none : count ≡ 0 → told 0 noRows ≡ evaluated rows point
-              unfolding evaluated
+              pub done-none : count ≡ 0 → told 0 (record { p = E.nil; q = E.one }) ≡ evaluated rows point
+              unfolding evaluated firstOf
               done-none h = rw (eq-eqb _ _ h1, le-ltb _ _ h2, sym se ∙ h3, sym ne, eq-eqb _ _ h4, sym ue ∙ h5, sym ve ∙ h6, eq-eqb _ _ h)
 
               pub done-some : (count ≡ 0 → ⊥) → {r : FracW} → IsFrac r (Tree.value ExtRing (node rows) (cells point 0 n)) → Done n (r .p) (r .q) ≡ evaluated rows point
-              unfolding evaluated
-              done-some h is = (λ i. Done n (enc-of-is (is .p) i) (enc-of-is (is .q) i)) ∙ rw (eq-eqb _ _ h1, le-ltb _ _ h2, sym se ∙ h3, sym ne, eq-eqb _ _ h4, sym ue ∙ h5, sym ve ∙ h6, ne-eqb _ _ h)
+              unfolding evaluated firstOf
+              done-some h is = (λ i. Done n (enc-of-is (is .p) i) (enc-of-is (is .q) i)) ∙ rw (eq-eqb _ _ h1, le-ltb _ _ h2, sym se ∙ h3, sym ne, eq-eqb _ _ h4, sym ue ∙ h5, sym ve ∙ h6, ne-eqb _ _ h, sym ne)
 
 -- the words of 0 and 1 are those of the sum of no rows
-pub no-rows : Done 0 (record { c0 = 0; c1 = 0; c2 = 0; c3 = 0 }) (record { c0 = 1; c1 = 0; c2 = 0; c3 = 0 }) ≡ told 0 noRows
+pub no-rows : Done 0 (record { c0 = 0; c1 = 0; c2 = 0; c3 = 0 }) (record { c0 = 1; c1 = 0; c2 = 0; c3 = 0 }) ≡ told 0 (record { p = E.nil; q = E.one })
 no-rows = λ i. Done 0 (enc-of-is zero-is i) (enc-of-is one-is i)

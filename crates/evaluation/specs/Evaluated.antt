@@ -1,7 +1,7 @@
 -- What an evaluation answers: the first refusal that fits, or n and the values of both columns at the point.
 -- Assumes nothing.
 use mathlib.Core.Bool.{cond, not}
-use mathlib.Core.List.{List}
+use mathlib.Core.List.{List, [], _∷_}
 use Prim.Native.Nat.{ℕ, _*_, _%_}
 use lib.Dec.{eqb, ltb}
 use lib.ListN.{length}
@@ -14,9 +14,10 @@ use Rattle.gkr.specs.Sizes.{point-words}
 use Rattle.gkr.specs.Tree as Tree
 use Rattle.refusal.specs.Limits.{maxRows}
 use Rattle.refusal.specs.declared.Refusal.the-variants.{RaggedRows, TooManyRows, NotPowerOfTwo, BadLength, BadWord}
+use Rattle.refusal.specs.Tests.{Test, Tested, passed, refused, test, firstOf}
 use Rattle.wire.specs.Words.{allCanonical}
 use Rattle.prover_tree.specs.Nodes.{node}
-use Rattle.prover_gate.specs.Refusals.{rowCount, roundsOf, isSize}
+use Rattle.sizes.specs.Sizes.{rowCount, roundsOf, isSize}
 use Rattle.evaluation.specs.declared.Evaluation.{Evaluation}
 use Rattle.evaluation.specs.declared.Evaluation.the-variants.{Done, Refused}
 
@@ -24,20 +25,21 @@ use Rattle.evaluation.specs.declared.Evaluation.the-variants.{Done, Refu
 abbrev pub told : ℕ → Frac E.Ext → Evaluation
 told n v = Done n (enc (v .p)) (enc (v .q))
 
--- the sum of no rows
-abbrev pub noRows : Frac E.Ext
-noRows = record { p = E.nil; q = E.one }
+-- row words, eight a row, and the words of the point, four a coordinate: 1, 2, 3, 13, 6
+abbrev pub tests : (rows point : List ℕ) → List Test
+tests rows point =
+    test (not (eqb (length rows % 8) 0)) RaggedRows
+    ∷ test (ltb maxRows (rowCount rows)) TooManyRows
+    ∷ test (not (isSize (rowCount rows))) NotPowerOfTwo
+    ∷ test (not (eqb (length point) (point-words (roundsOf (rowCount rows))))) BadLength
+    ∷ test (not (allCanonical rows)) BadWord
+    ∷ test (not (allCanonical point)) BadWord ∷ []
 
--- row words, eight a row, and the words of the point, four a coordinate
+-- no rows have the values of the empty sum, 0 and 1
+abbrev pub valued : (rows point : List ℕ) → Tested → Evaluation
+valued rows point (refused e) = Refused e
+valued rows point passed = let n = roundsOf (rowCount rows) in
+    cond (eqb (rowCount rows) 0) (told 0 (record { p = E.nil; q = E.one })) (told n (Tree.value ExtRing (node rows) (cells point 0 n)))
+
 unfoldable pub evaluated : (rows point : List ℕ) → Evaluation
-evaluated rows point =
-    let count = rowCount rows in
-    let n = roundsOf count in
-    cond (not (eqb (length rows % 8) 0)) (Refused RaggedRows)
-    (cond (ltb maxRows count) (Refused TooManyRows)
-    (cond (not (isSize count)) (Refused NotPowerOfTwo)
-    (cond (not (eqb (length point) (point-words n))) (Refused BadLength)
-    (cond (not (allCanonical rows)) (Refused BadWord)
-    (cond (not (allCanonical point)) (Refused BadWord)
-    (cond (eqb count 0) (told 0 noRows)
-    (told n (Tree.value ExtRing (node rows) (cells point 0 n)))))))))
+evaluated rows point = valued rows point (firstOf (tests rows point))

@@ -44,10 +44,10 @@ pub fn evaluate(rows: &[u32], point: &[u32]) -> Evaluation
     if refusal::MAX_ROWS < count {
         return Evaluation::Refused(Refusal::TooManyRows);
     }
-    if !prover_gate::is_size(count) {
+    if !sizes::is_size(count) {
         return Evaluation::Refused(Refusal::NotPowerOfTwo);
     }
-    let n = prover_gate::least_size(count).n;
+    let n = sizes::least_size(count).n;
     if point.len() != 4 * n {
         return Evaluation::Refused(Refusal::BadLength);
     }
@@ -76,14 +76,7 @@ pub fn number_and_values(answer: Evaluation) -> Report
             rounds,
             numer,
             denom,
-        } => Report {
-            number: 0,
-            first: rounds,
-            second: 0,
-            third: 0,
-            left: numer,
-            right: denom,
-        },
+        } => refusal::done(rounds, numer, denom),
         Evaluation::Refused(r) => refusal::number_and_fields(r),
     }
 }

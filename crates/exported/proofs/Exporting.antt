@@ -1,6 +1,6 @@
 -- Demand 3 over the exported calls, from demand 3: each call tells the inner call's answer in words.
 -- Assumes nothing.
-use mathlib.Core.Path.{_≡_, _∙_, ap}
+use mathlib.Core.Path.{_≡_, sym, _∙_, ap, subst}
 use Prim.Native.Nat.{ℕ, _<_}
 use native.Mathlib.Nat.{mod-eq-of-lt}
 use native.Mathlib.Omega.{arith}
@@ -16,7 +16,8 @@ use Rattle.agreement.specs.Demand3.{root}
 use Rattle.agreement.proofs.Agreeing.{demand-3}
 use Rattle.accudrina.specs.Answer.{tells, answerWords}
 use Rattle.verifier_round.specs.Report.{verdictReport}
-use Rattle.exported.specs.Exported.{done, Demand3Exported}
+use Rattle.exported.specs.Exported.{done, handed, Exchanged, Demand3Exported}
+use Rattle.exported.proofs.Wording.{in-its-modes}
 
 -- a plain field that fits a word, and two elements
 telling : (field : ℕ) (f : Frac E.Ext) → field < 4294967296 → tells (elements 0 field (enc (f .p)) (enc (f .q))) ≡ done field f
@@ -26,11 +27,13 @@ telling field f h = ap (λ (w : ℕ). done w f) (mod-eq-of-lt h)
 -- THE THEOREM
 pub demand-3-exported : Demand3Exported
 demand-3-exported c n b v h =
-    let A = demand-3 c n b v (h .taken) (h .asserted) (h .zero-sum) (h .room) in
-    record {
+    let s = h .sheet in
+    let A = demand-3 c n b v (s .taken) (s .asserted) (s .zero-sum) (h .room) in
+    subst (λ P. Exchanged c n b v P (handed c n P v)) (sym (in-its-modes c b))
+    (record {
       point = A .point;
       logged = A .logged;
-      proved = ap (λ a. tells (answerReport a)) (A .done) ∙ telling n (root c n) (omega (arith, h .taken .few));
+      proved = ap (λ a. tells (answerReport a)) (A .done) ∙ telling n (root c n) (omega (arith, s .taken .few));
       accepted = ap (λ a. tells (verdictReport a)) (A .accepted) ∙ telling 0 (Tree.value ExtRing (node (c .rows)) (A .point)) (omega arith);
       coordinates = A .coordinates;
       proved-point = A .proved-point;
@@ -38,4 +41,4 @@ demand-3-exported c n b v h =
       size = A .size;
       proved-log = A .proved-log;
       verified-log = A .verified-log;
-    }
+    })

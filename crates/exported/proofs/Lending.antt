@@ -8,8 +8,9 @@ use borrow.Author.Tests.{le-ltb, eqb-false}
 use lib.Dec.{eqb, ltb}
 use Rattle.gkr.specs.Sizes.{log-words}
 use Rattle.refusal.specs.Limits.{maxRounds}
-use Rattle.prover_gate.specs.Refusals.{logRoom}
-use Rattle.accudrina.specs.Rooms.{taken}
+use Rattle.sizes.specs.Sizes.{logRoom}
+use Rattle.accudrina.specs.Modes.{ASSERT-ZERO, has}
+use Rattle.accudrina.specs.Rooms.{taken, logWords}
 use Rattle.accudrina.proofs.RoomLaws.{within}
 use Rattle.exported.specs.Asked.{NotShort}
 
@@ -23,7 +24,12 @@ fits n room have few h = subst (λ (k : ℕ). k ≤ have) (within n room few) h
 pub lent : (n room have : ℕ) → n ≤ maxRounds → taken n room ≤ have → ltb have room ≡ false
 lent n room have few h = le-ltb have room (fits n room have few h)
 
--- one round or more
+-- the log, where zero is asserted
+pub log-lent : (n have : ℕ) → n ≤ maxRounds → logWords n ASSERT-ZERO ≤ have → logRoom true n ≤ have
+unfolding has
+log-lent n have few l = fits n (logRoom true n) have few l
+
+-- of one round or more
 pub log-room : (n : ℕ) → eqb n 0 ≡ false → logRoom true n ≡ log-words true n
 log-room zero h = never h refl
 log-room (suc m) h = refl

@@ -1,4 +1,5 @@
 -- The proofs about the exported calls.
+pub mod Wording
 pub mod Exporting
 pub mod Lending
 pub mod ProverLent

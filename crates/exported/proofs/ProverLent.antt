@@ -2,17 +2,22 @@
 -- Assumes nothing.
 use mathlib.Core.Path.{_≡_, refl, subst}
 use mathlib.Core.Bool.{Bool, true, false, _||_}
+use mathlib.Core.List.{List, [], _∷_}
 use Prim.Native.Nat.{ℕ, _+_, _*_, _≤_}
 use borrow.Author.Tests.{not-false}
-use Rattle.gkr.specs.Tests.{pass}
+use lib.Dec.{eqb}
+use Rattle.gkr.specs.Tests.{pass, either}
 use Rattle.gkr.specs.Sizes as Sizes
 use Rattle.refusal.specs.Limits.{maxRounds}
-use Rattle.prover_gate.specs.Refusals.{Call, rowCount, roundsOf, isSize, logRoom, workRoom, shortRoom}
-use Rattle.prover_gate.proofs.Admitting.{both}
+use Rattle.sizes.specs.Sizes.{rowCount, roundsOf, isSize, logRoom, workRoom}
+use Rattle.prover_gate.specs.Refusals.{Call, call, shortRoom}
+use Rattle.refusal.specs.TestWays.{both}
 use Rattle.prover.specs.Proved as Prover
 use Rattle.prover.specs.Report.{answerReport}
 use Rattle.prover.proofs.Theorems.{Ends, each-end, each-front}
-use Rattle.agreement.proofs.Sizing.{few-rounds}
+use Rattle.sizes.specs.SizeLaws.{few-rounds}
+use Rattle.accudrina.specs.Modes.{LIVE, ASSERT-ZERO, has, untaken, provingOf}
+use Rattle.accudrina.specs.Calls.{Returned, provingTaken}
 use Rattle.exported.specs.Asked.{asked, ForProver, NotShort, ProverNotShort}
 use Rattle.exported.proofs.Lending.{never, lent, other}
 
@@ -20,11 +25,11 @@ use Rattle.exported.proofs.Lending.{never, lent, other}
 none : {p q r s : Bool} → p ≡ false → q ≡ false → r ≡ false → s ≡ false → (p || (q || (r || s))) ≡ false
 none p q r s = λ i. p i || (q i || (r i || s i))
 
-pub roomy : (c : Call) (b : Prover.Buffers) (n : ℕ) → n ≤ maxRounds → ForProver n c b → shortRoom (c .asserted) n (Prover.roomsOf b) ≡ false
+pub roomy : (modes : ℕ) (ch : List ℕ) (b : Prover.Buffers) (n : ℕ) → n ≤ maxRounds → ForProver n modes ch b → shortRoom (has ASSERT-ZERO modes) n (Prover.roomsOf b) ≡ false
 unfolding shortRoom
-roomy c b n few asks =
+roomy modes ch b n few asks =
     none (lent n (Sizes.proof-bytes n) _ few (asks .proof)) (lent n (Sizes.point-words n) _ few (asks .point))
-    (lent n (logRoom (c .asserted) n) _ few (asks .log)) (lent n (workRoom n) _ few (asks .work))
+    (lent n (logRoom (has ASSERT-ZERO modes) n) _ few (asks .log)) (lent n (workRoom n) _ few (asks .work))
 
 abbrev Fine : Prover.Outcome → Type 0
 Fine f = NotShort (answerReport (f .answer) .number)
@@ -32,21 +37,27 @@ Fine f = NotShort (answerReport (f .answer) .number)
 ends : (n : ℕ) → Ends Fine n
 ends n = record { finishes = λ ch P. other 0 refl refl; eight = other 8 refl refl; nine = other 9 refl refl }
 
-pub prover-not-short : ProverNotShort
+-- in modes that are taken
+run-not-short : (rows : List ℕ) (modes : ℕ) (ch : List ℕ) (b : Prover.Buffers) → ForProver (asked rows) modes ch b
+    → NotShort (provingTaken (call rows (provingOf modes) ch) b .told .number)
 unfolding Prover.proved
-prover-not-short c b h =
-    let count = rowCount (c .rows) in
+run-not-short rows modes ch b h =
+    let count = rowCount rows in
     let n = roundsOf count in
     let few = few-rounds count in
-    let asks : isSize count ≡ true → ForProver n c b = (λ e. subst (λ k. ForProver k c b) (pass (isSize count) n (maxRounds + 1) e) h) in
-    each-front Fine c (Prover.roomsOf b)
+    let asks : isSize count ≡ true → ForProver n modes ch b = (λ e. subst (λ k. ForProver k modes ch b) (pass (isSize count) n (maxRounds + 1) e) h) in
+    each-front Fine (call rows (provingOf modes) ch) (Prover.roomsOf b)
     (both (λ e. other 1 refl refl) (λ u1.
     both (λ e. other 2 refl refl) (λ u2.
     both (λ e. other 3 refl refl) (λ u3.
     let a = asks (not-false (isSize count) u3) in
     both (never (lent n (4 * Sizes.challenges n) _ few (a .challenges))) (λ u4.
-    both (never (roomy c b n few a)) (λ u5.
+    both (never (roomy modes ch b n few a)) (λ u5.
     both (λ e. other 6 refl refl) (λ u6.
     both (λ e. other 6 refl refl) (λ u7.
     both (λ e. other 7 refl refl) (λ u8.
-    each-end Fine (c .rows) (c .asserted) (c .challenges) n (ends n))))))))))
+    each-end Fine rows (has ASSERT-ZERO modes) ch n (ends n))))))))))
+
+pub prover-not-short : ProverNotShort
+prover-not-short rows modes ch b h =
+    either (λ (r : Returned Prover.Buffers). NotShort (r .told .number)) (eqb (untaken (LIVE ∷ ASSERT-ZERO ∷ []) modes) 0) _ _ (λ e. run-not-short rows modes ch b h) (λ e. other 28 refl refl)

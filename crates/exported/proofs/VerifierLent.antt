@@ -1,8 +1,9 @@
 -- A verifier's caller who asked is never refused as 4 or 5.
 -- Assumes nothing.
-use mathlib.Core.Path.{_≡_, refl, ap₂, subst}
-use mathlib.Core.Bool.{true, false, not, _||_}
-use Prim.Native.Nat.{ℕ, _*_, _≤_}
+use mathlib.Core.Path.{refl, ap₂}
+use mathlib.Core.Bool.{true, not, _||_}
+use Prim.Native.Nat.{_*_}
+use native.Mathlib.Omega.{arith}
 use borrow.Author.Tests.{le-ltb, ltb-false}
 use lib.Dec.{eqb, ltb}
 use lib.ListN.{length, getD}
@@ -18,14 +19,15 @@ use Rattle.wire.specs.Words.{allCanonical}
 use Rattle.stored.specs.Layout.{proofWords}
 use Rattle.stored.specs.Parse as Parse
 use Rattle.stored.specs.Parse.{proofOf}
-use Rattle.prover_gate.specs.Refusals.{logRoom}
+use Rattle.sizes.specs.Sizes.{logRoom}
 use Rattle.verifier_round.specs.Verdicts.{Model, answerOf}
 use Rattle.verifier.specs.Verified as Verifier
-use Rattle.verifier.specs.Verified.{Asked, Lent, needed, fronts}
+use Rattle.verifier.specs.Verified.{Asked, Lent, asked, needed, fronts}
 use Rattle.verifier.specs.Gates.{verdict}
 use Rattle.verifier_round.specs.Report.{verdictReport}
+use Rattle.accudrina.specs.Calls.{Returned, verifyingTaken}
 use Rattle.exported.specs.Asked.{ForVerifier, NotShort, VerifierNotShort}
-use Rattle.exported.proofs.Lending.{never, fits, lent, log-room, other}
+use Rattle.exported.proofs.Lending.{never, lent, log-lent, other}
 
 -- what the run answers
 model : (ch : Source E.Ext) (w : Model ch) → NotShort (verdictReport (answerOf ch w) .number)
@@ -38,25 +40,25 @@ model ch (root-check expected actual t) = other 17 refl refl
 model ch (subround-count round expected actual t) = other 18 refl refl
 model ch (layer-check round expected actual t) = other 19 refl refl
 
-module _ (a : Asked) (v : Lent) where
-  abbrev Passed : Tested → Type 0
-  Passed w = NotShort (verdictReport (fronts a w .answer) .number)
+abbrev Passed : Asked → Tested → Type 0
+Passed a w = NotShort (verdictReport (fronts a w .answer) .number)
 
-  -- the log of one round or more
-  logged : a .rounds ≤ maxRounds → eqb (a .rounds) 0 ≡ false → ForVerifier (a .rounds) (a .challenges) v → ltb (length (v .log)) (Sizes.log-words true (a .rounds)) ≡ false
-  logged few some h = le-ltb _ _ (subst (λ (k : ℕ). k ≤ length (v .log)) (log-room (a .rounds) some) (fits (a .rounds) (logRoom true (a .rounds)) _ few (h .log)))
-
-pub verifier-not-short : VerifierNotShort
+run-not-short : (a : Asked) (v : Lent) → ForVerifier (a .rounds) (a .challenges) v → NotShort (verifyingTaken a v .told .number)
 unfolding Verifier.verified firstOf
-verifier-not-short a v h =
-    let P = Passed a v in
+run-not-short a v h =
+    let P = Passed a in
     let n = a .rounds in
     either P (eqb n 0) _ _ (λ e. other 10 refl refl) (λ some.
     either P (ltb maxRounds n) _ _ (λ e. other 11 refl refl) (λ e.
     let few = ltb-false maxRounds n e in
+    let logs = le-ltb _ _ (log-lent n (length (v .log)) few (omega (arith, h .log))) in
     either P (ltb (length (a .challenges)) (4 * Sizes.challenges n)) _ _ (never (lent n _ _ few (h .challenges))) (λ e3.
-    either P (ltb (length (v .point)) (4 * n) || ltb (length (v .log)) (Sizes.log-words true n)) _ _ (never (ap₂ _||_ (lent n (4 * n) _ few (h .point)) (logged a v few some h))) (λ e4.
+    either P (ltb (length (v .point)) (4 * n) || ltb (length (v .log)) (logRoom true n)) _ _ (never (ap₂ _||_ (lent n (4 * n) _ few (h .point)) logs)) (λ e4.
     either P (not (eqb (getD (a .proof) 0 0) 1)) _ _ (λ e. other 12 refl refl) (λ e5.
     either P (not (Parse.fits (a .proof))) _ _ (λ e. other 13 refl refl) (λ e6.
     either P (not (allCanonical (proofWords (proofOf (a .proof))))) _ _ (λ e. other 6 refl refl) (λ e7.
     either P (not (allCanonical (needed a))) _ _ (λ e. other 6 refl refl) (λ e8. model (supplied (needed a)) (verdict (a .proof) (a .rounds) (supplied (needed a)))))))))))
+
+pub verifier-not-short : VerifierNotShort
+verifier-not-short proof n modes ch v h =
+    either (λ (r : Returned Lent). NotShort (r .told .number)) (eqb modes 0) _ _ (λ e. run-not-short (asked proof n ch) v h) (λ e. other 28 refl refl)

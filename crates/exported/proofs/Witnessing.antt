@@ -2,9 +2,10 @@
 -- Assumes nothing.
 use mathlib.Core.Path.{_≡_, refl, _∙_, ap}
 use mathlib.Core.Bool.{Bool, true, false}
-use Prim.Native.Nat.{ℕ, zero, suc, _<_}
+use Prim.Native.Nat.{ℕ, zero, suc, _<_, _≤_}
 use native.Mathlib.Omega.{arith}
 use borrow.Author.Tests.{leb-true}
+use lib.ListN.{length}
 use Rattle.field.specs.ExtRing.{arithmetic}
 use Rattle.field.specs.Element.{pointWords}
 use Rattle.field.specs.Cells.{cell}
@@ -15,16 +16,18 @@ use Rattle.wire.specs.Bytes.{bytesOf, word}
 use Rattle.stored.specs.Layout.{claimsWords, cubicsWords, polysWords, entriesBytes, layout}
 use Rattle.stored.specs.Parse.{claimsFrom, cubicsFrom, entriesFrom, entriesFit, fits}
 use Rattle.prover_tree.specs.Nodes.{node}
-use Rattle.prover_gate.specs.Refusals.{roundsFrom, isSize, shortRoom, degenerate, lowest, firstRefusal}
+use Rattle.sizes.specs.Sizes.{roundsFrom, isSize}
+use Rattle.prover_gate.specs.Refusals.{shortRoom, degenerate, lowest, firstRefusal}
 use Rattle.prover.specs.Proved as Prover
 use Rattle.verifier.specs.Verified as Verifier
 use Rattle.agreement.specs.Demand3.{root}
 use Rattle.prover.specs.Companions.{in-mode}
 use Rattle.agreement.specs.KTable.{K3, room, room-again}
 use Rattle.accudrina.specs.Answer.{answerWords}
-use Rattle.accudrina.specs.Calls.{proving}
-use Rattle.exported.specs.Exported.{done, handed}
-use Rattle.exported.specs.Asked.{Sheet, ForProver, ForVerifier}
+use Rattle.accudrina.specs.Modes.{has, without}
+use Rattle.accudrina.specs.Rooms.{logWords}
+use Rattle.exported.specs.Exported.{Sheet, done, wordOf, proves, handed}
+use Rattle.exported.specs.Asked.{ForProver, ForVerifier}
 use Rattle.exported.specs.Witness.{n, K3Met, K3Accepted}
 use Rattle.exported.proofs.Exporting.{demand-3-exported}
 use Rattle.exported.proofs.Asking.{premises}
@@ -42,30 +45,37 @@ sheet : (live : Bool) → Sheet (in-mode live K3) n
 unfolding model arithmetic cell allCanonical pointWords
 sheet live =
     record {
-      some = leb-true _ _ refl;
-      few = leb-true _ _ refl;
-      rows = refl;
-      valid-rows = refl;
-      valid-challenges = refl;
-      checked = λ e. sound;
+      taken = record {
+        some = leb-true _ _ refl;
+        few = leb-true _ _ refl;
+        rows = refl;
+        enough = leb-true _ _ refl;
+        valid-rows = refl;
+        valid-challenges = refl;
+        checked = λ e. sound;
+      };
       asserted = refl;
       zero-sum = refl;
     }
 
 -- buffers of zeros, and K3's own challenges
-for-prover : (live : Bool) → ForProver n (in-mode live K3) (room n)
-unfolding pointWords
+for-prover : (live : Bool) → ForProver n (wordOf (in-mode live K3)) (K3 .challenges) (room n)
+unfolding pointWords has
 for-prover live =
     record {
       proof = leb-true _ _ refl;
       point = leb-true _ _ refl;
-      log = leb-true _ _ refl;
+      log = logs live;
       work = leb-true _ _ refl;
       challenges = leb-true _ _ refl;
     }
+  where
+    logs : (live : Bool) → logWords n (wordOf (in-mode live K3)) ≤ length (room n .log)
+    logs true = leb-true _ _ refl
+    logs false = leb-true _ _ refl
 
 for-verifier : ForVerifier n (K3 .challenges) (room-again n)
-unfolding pointWords
+unfolding pointWords has
 for-verifier = record { point = leb-true _ _ refl; log = leb-true _ _ refl; challenges = leb-true _ _ refl }
 
 pub K3-met : K3Met
@@ -73,13 +83,12 @@ unfolding roundsFrom isSize
 K3-met live =
     record {
       premises = premises (in-mode live K3) n (room n) (room-again n) (sheet live) (for-prover live) for-verifier;
-      sheet = sheet live;
       for-prover = for-prover live;
       for-verifier = for-verifier;
     }
 
-claims : (live : Bool) → handed (in-mode live K3) n (proving (in-mode live K3) (room n)) (room-again n) .told ≡ done 0 (frac (minus 25) (el 1))
-unfolding model arithmetic cell allCanonical bytesOf word claimsWords cubicsWords polysWords entriesBytes layout claimsFrom cubicsFrom entriesFrom entriesFit fits roundsFrom isSize shortRoom degenerate lowest firstOf firstRefusal pointWords Prover.fronts Prover.proved Verifier.verified answerWords
+claims : (live : Bool) → handed (in-mode live K3) n (proves (in-mode live K3) (room n)) (room-again n) .told ≡ done 0 (frac (minus 25) (el 1))
+unfolding model arithmetic cell allCanonical bytesOf word claimsWords cubicsWords polysWords entriesBytes layout claimsFrom cubicsFrom entriesFrom entriesFit fits roundsFrom isSize shortRoom degenerate lowest firstOf firstRefusal pointWords Prover.fronts Prover.proved Verifier.verified answerWords has without
 claims true = refl
 claims false = refl
 

@@ -1,9 +1,9 @@
 -- Demand 3 over the exported calls: the numbers that they return, the answer's words that they write, and what the buffers hold.
 -- Assumes nothing.
 use mathlib.Core.Path.{_≡_}
-use mathlib.Core.Bool.{true}
+use mathlib.Core.Bool.{true, cond}
 use mathlib.Core.List.{List, [], _∷_, _++_}
-use Prim.Native.Nat.{ℕ}
+use Prim.Native.Nat.{ℕ, _+_}
 use lib.ListN.{length, take}
 use Rattle.field.specs.Ext as E
 use Rattle.field.specs.ExtRing.{ExtRing}
@@ -13,26 +13,42 @@ use Rattle.gkr.specs.Sizes.{proof-bytes, log-words}
 use Rattle.gkr.specs.Tree as Tree
 use Rattle.prover_tree.specs.Nodes.{node}
 use Rattle.prover_gate.specs.Refusals.{Call}
+use Rattle.refusal.specs.declared.Proving.{Proving}
 use Rattle.refusal.specs.Fronts.{over}
 use Rattle.prover.specs.Proved.{Buffers}
-use Rattle.verifier.specs.Verified.{Lent, asked}
+use Rattle.verifier.specs.Verified.{Lent}
 use Rattle.agreement.specs.Demand3.{Taken, root, Room}
 use Rattle.accudrina.specs.Answer.{Told}
+use Rattle.accudrina.specs.Modes.{LIVE, ASSERT-ZERO}
 use Rattle.accudrina.specs.Calls.{Returned, proving, verifying}
 
 -- done: the number 0 is returned, and the sixteen words are 0, a plain field, two zeros, two elements, four zeros
 abbrev pub done : (field : ℕ) → Frac E.Ext → Told
 done field f = record { number = 0; words = 0 ∷ field ∷ 0 ∷ 0 ∷ (words (f .p) ++ (words (f .q) ++ (0 ∷ 0 ∷ 0 ∷ 0 ∷ []))) }
 
--- the verifier's call: the first bytes of the buffer with the proof, n and the same challenges
-abbrev pub handed : (c : Call) (n : ℕ) (P : Returned Buffers) (v : Lent) → Returned Lent
-handed c n P v = verifying (asked (take (proof-bytes n) (P .buffers .proof)) n (c .challenges)) v
+-- the word of modes of proving
+abbrev pub word : Proving → ℕ
+word m = cond (m .live) LIVE 0 + cond (m .«assert_zero») ASSERT-ZERO 0
 
--- DEMAND 3'S PREMISES: a sheet that is taken, zero asserted, the root numerator zero, every buffer long enough
-pub record Premises (c : Call) (n : ℕ) (b : Buffers) (v : Lent) : Type 0 where
+abbrev pub wordOf : Call → ℕ
+wordOf c = word (c .modes)
+
+-- the prover's call, with the word of its modes
+abbrev pub proves : (c : Call) (b : Buffers) → Returned Buffers
+proves c b = proving (c .rows) (wordOf c) (c .challenges) b
+
+-- the verifier's call: the first bytes of the buffer with the proof, n, no modes and the same challenges
+abbrev pub handed : (c : Call) (n : ℕ) (P : Returned Buffers) (v : Lent) → Returned Lent
+handed c n P v = verifying (take (proof-bytes n) (P .buffers .proof)) n 0 (c .challenges) v
+
+-- DEMAND 3'S PREMISES: a sheet that is taken, zero asserted, the root numerator zero; and every buffer long enough
+pub record Sheet (c : Call) (n : ℕ) : Type 0 where
   pub taken : Taken c n
-  pub asserted : c .asserted ≡ true
+  pub asserted : c .modes .«assert_zero» ≡ true
   pub zero-sum : root c n .p ≡ E.nil
+
+pub record Premises (c : Call) (n : ℕ) (b : Buffers) (v : Lent) : Type 0 where
+  pub sheet : Sheet c n
   pub room : Room true n b v
 
 -- THE AGREEMENT of what the prover's call returns over the buffers b and the verifier's over the buffers v
@@ -53,4 +69,4 @@ pub record Exchanged (c : Call) (n : ℕ) (b : Buffers) (v : Lent) (P : Returned
 
 -- THE DEMAND
 abbrev pub Demand3Exported : Type 0
-Demand3Exported = (c : Call) (n : ℕ) (b : Buffers) (v : Lent) → Premises c n b v → let P = proving c b in Exchanged c n b v P (handed c n P v)
+Demand3Exported = (c : Call) (n : ℕ) (b : Buffers) (v : Lent) → Premises c n b v → let P = proves c b in Exchanged c n b v P (handed c n P v)

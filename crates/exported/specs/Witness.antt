@@ -7,9 +7,8 @@ use Rattle.gkr.specs.Compute.{el, minus, frac}
 use Rattle.prover_gate.specs.Refusals.{Call}
 use Rattle.prover.specs.Companions.{in-mode}
 use Rattle.agreement.specs.KTable.{K3, room, room-again}
-use Rattle.accudrina.specs.Calls.{proving}
-use Rattle.exported.specs.Exported.{Premises, Exchanged, done, handed}
-use Rattle.exported.specs.Asked.{asked, Sheet, ForProver, ForVerifier}
+use Rattle.exported.specs.Exported.{Premises, Exchanged, done, wordOf, proves, handed}
+use Rattle.exported.specs.Asked.{asked, ForProver, ForVerifier}
 
 -- its rounds
 abbrev pub n : ℕ
@@ -18,15 +17,14 @@ n = 2
 -- demand 3's premises, and those of a caller who asks
 pub record Met (c : Call) : Type 0 where
   pub premises : Premises c n (room n) (room-again n)
-  pub sheet : Sheet c n
-  pub for-prover : ForProver (asked c) c (room n)
-  pub for-verifier : ForVerifier (asked c) (c .challenges) (room-again n)
+  pub for-prover : ForProver (asked (c .rows)) (wordOf c) (c .challenges) (room n)
+  pub for-verifier : ForVerifier (asked (c .rows)) (c .challenges) (room-again n)
 
 -- both calls return 0; the prover's words say two rounds and the sum 0/1, the verifier's the claims −25 and 1
 pub record Accepted (c : Call) : Type 0 where
-  pub exchanged : let P = proving c (room n) in Exchanged c n (room n) (room-again n) P (handed c n P (room-again n))
-  pub proved : proving c (room n) .told ≡ done n (frac (el 0) (el 1))
-  pub accepted : handed c n (proving c (room n)) (room-again n) .told ≡ done 0 (frac (minus 25) (el 1))
+  pub exchanged : let P = proves c (room n) in Exchanged c n (room n) (room-again n) P (handed c n P (room-again n))
+  pub proved : proves c (room n) .told ≡ done n (frac (el 0) (el 1))
+  pub accepted : handed c n (proves c (room n)) (room-again n) .told ≡ done 0 (frac (minus 25) (el 1))
 
 abbrev pub K3Met : Type 0
 K3Met = (live : Bool) → Met (in-mode live K3)

@@ -1,9 +1,8 @@
--- Two published vectors of SHAKE128, and a word that is drawn, each computed from the definition. A crate of their own: they take longer than the crate that has it.
--- The first two are NIST's example values for FIPS 202 (csrc.nist.gov, SHAKE128_Msg0 and SHAKE128_Msg1600), 32 of their 512 bytes. The last is by Python's hashlib.
+-- Two vectors of SHAKE128, and a word that is drawn, each computed from the definition. The messages of the two are those of NIST's example values for FIPS 202
+-- (csrc.nist.gov, SHAKE128_Msg0 and SHAKE128_Msg1600); all bytes here were written by Python's hashlib, and not held to NIST's own files, which were not at hand.
 -- Assumes nothing.
 use mathlib.Core.Path.{_≡_, refl}
-use mathlib.Core.List.{List, [], _∷_}
-use Prim.Native.Nat.{ℕ}
+use mathlib.Core.List.{[], _∷_}
 use lib.ListN.{replicate}
 use Rattle.wire.specs.Bytes.{bytesOf}
 use Rattle.keccak.specs.Keccak.{keccak, rounds, round, theta, rho, pi, chi, iota, rot, constant}

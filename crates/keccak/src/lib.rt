@@ -192,11 +192,11 @@ fn one_round(a: Lanes, w: u64) -> Lanes
     mix_rows(move_lanes(mix_columns(a)), w)
 }
 
-// All 24 rounds. The table is laid out once: named in the loop, it would be built anew in each round.
+// The permutation: all 24 rounds.
 pub fn permute(a: Lanes) -> Lanes
     ensures { λ r. ⌜ asList r ≡ keccak (asList a) ⌝ }
 {
-    let table = CONSTANTS;
+    let table = CONSTANTS; // laid out once: named in the loop, it would be built anew in each round
     let mut s = a;
     for k in 0..24 {
         s = one_round(s, table[k]);

@@ -33,7 +33,10 @@ pub extern "C" fn layer_bench_round_sums(
 )
     requires room { ⌜ (8 * (pq + 4 * half) ≤ length (now work)) × (4 * (eq + 2 * half) ≤ length (now work)) × (12 ≤ length (now out)) ⌝ }
     requires clean { ⌜ Clean (now work) × Clean (now out) ⌝ }
-    ensures { λ _. ⌜ InFront (now (out .entry)) (now (out .exit)) (Table.sum ExtRing half (summand (now (work .entry)) eq pq E.nil E.one)) (Table.sum ExtRing half (summand (now (work .entry)) eq pq E.nil two)) (Table.sum ExtRing half (summand (now (work .entry)) eq pq E.nil three)) ⌝ }
+    ensures { λ _. ⌜ InFront (now (out .entry)) (now (out .exit))
+        (Table.sum ExtRing half (summand (now (work .entry)) eq pq E.nil E.one))
+        (Table.sum ExtRing half (summand (now (work .entry)) eq pq E.nil two))
+        (Table.sum ExtRing half (summand (now (work .entry)) eq pq E.nil three)) ⌝ }
 {
     let s = prover_layer::sumcheck_round_poly_evals(work, eq, pq, half);
     put_three(out, s);

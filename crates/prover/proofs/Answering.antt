@@ -29,14 +29,17 @@ use Rattle.refusal.specs.Tests.{Tested, passed, refused}
 use Rattle.refusal.specs.Fronts.{over}
 use Rattle.prover_gate.specs.declared.Gate.{Gate}
 use Rattle.prover_gate.specs.declared.Gate.the-variants.{Open, Shut}
-use Rattle.prover_gate.specs.Refusals.{Call, rowCount, roundsOf, workRoom, firstRefusal, asGate}
+use Rattle.sizes.specs.declared.Size.{Size}
+use Rattle.sizes.specs.Sizes.{rowCount, roundsOf, workRoom}
+use Rattle.prover_gate.specs.Refusals.{Call, Rooms, firstRefusal, asGate}
 use Rattle.stored.specs.Layout.{layout}
 use Rattle.stored_writer.specs.Messages.{noRows}
 use Rattle.prover.specs.declared.Answer.{Answer}
 use Rattle.prover.specs.declared.Answer.the-variants.{Done, Refused}
 use Rattle.prover.specs.Proved.{Buffers, Outcome, lent, outcome, laid, encFrac, untouched, after, oneRow, ran, entered, fronts, proved, roomsOf}
-use Rattle.prover.specs.Inner.{runOf, Written}
+use Rattle.prover.specs.Inner.{runOf, Written, Opens}
 use Rattle.prover.proofs.Writing.{drop-all, whole-proof}
+use Rattle.prover.proofs.Opening.{gate-opens}
 
 -- THE TEST OF ROOT P
 
@@ -75,13 +78,12 @@ pub levels-at : {f : ℕ → Frac E.Ext} {ws : List ℕ} {m n : ℕ} → n ≡ s
 levels-at {f} {ws} e L = subst (λ n. Levels f ws n 0) (sym e) L
 
 -- the workspace of a run is the whole of its part
-whole-work : (ws ws' : List ℕ) (m n size : ℕ) → n ≡ suc m → size ≡ 2 ^ n → length ws ≡ 32 * size → ws' ≡ replicate (length ws) 0 → ws' ≡ over (replicate (workRoom n) 0) ws
-whole-work ws ws' m n size e s l h =
-    let k : length ws ≡ workRoom n = l ∙ ap (λ k. 32 * k) (s ∙ ap (λ k. 2 ^ k) e) ∙ ap workRoom (sym e) in
+whole-work : (ws ws' : List ℕ) (n : ℕ) → length ws ≡ workRoom n → ws' ≡ replicate (length ws) 0 → ws' ≡ over (replicate (workRoom n) 0) ws
+whole-work ws ws' n k h =
     h ∙ ap (λ k. replicate k 0) k ∙ sym (append-nil (replicate (workRoom n) 0))
     ∙ ap (λ r. replicate (workRoom n) 0 ++ r) (sym (drop-all (length (replicate (workRoom n) 0)) ws (omega (arith, k, zeros-length (workRoom n)))))
 
-module _ (rows : List ℕ) (ch : Source E.Ext) (pf pt lg ws : List ℕ) (asserted : Bool) (m n size : ℕ) (root : FracW) (e : n ≡ suc m) (se : size ≡ 2 ^ n) (lw : length ws ≡ 32 * size)
+module _ (rows : List ℕ) (ch : Source E.Ext) (pf pt lg ws : List ℕ) (asserted : Bool) (m n : ℕ) (root : FracW) (e : n ≡ suc m) (lw : length ws ≡ workRoom n)
     (R : IsFrac root (Tree.tree ExtRing (node rows) (suc m) 0)) {t : Bool} (te : t ≡ (asserted && not (E.same (dec (root .p)) E.nil))) where
   abbrev f : ℕ → Frac E.Ext
   f = node rows
@@ -98,7 +100,7 @@ module _ (rows : List ℕ) (ch : Source E.Ext) (pf pt lg ws : List ℕ) (asserte
   pub prove-refused : (ws₁ ws' : List ℕ) → t ≡ true → length ws₁ ≡ length ws → ws' ≡ replicate (length ws₁) 0
       → outcome (Refused NonZeroRootSum) pf pt lg ws' ≡ laid (after ch n (told asserted)) before
   prove-refused ws₁ ws' h l w =
-      let W = whole-work ws ws' m n size e se lw (w ∙ ap (λ k. replicate k 0) l) in
+      let W = whole-work ws ws' n lw (w ∙ ap (λ k. replicate k 0) l) in
       (λ i. outcome (Refused NonZeroRootSum) pf pt lg (W i))
       ∙ ap (λ a. laid (after ch n a) before) (sym (sumcheck-refused ch f m asserted (sym tested ∙ h)))
 
@@ -106,7 +108,7 @@ module _ (rows : List ℕ) (ch : Source E.Ext) (pf pt lg ws : List ℕ) (asserte
   unfolding Gkr.run
   prove-done b' h w =
       let S : root ≡ encFrac (runOf f asserted m ch .sum) = (λ i. record { p = enc-of-is (R .p) i; q = enc-of-is (R .q) i }) in
-      let W = whole-work ws (b' .work) m n size e se lw (w .work) in
+      let W = whole-work ws (b' .work) n lw (w .work) in
       (λ i. outcome (Done n (S i)) (w .proof i) (w .point i) (w .log i) (W i))
       ∙ ap (λ a. laid (after ch n a) before) (sym (sumcheck-done ch f m asserted (sym tested ∙ h)))
 
@@ -141,19 +143,28 @@ one-done rows pf asserted h e pt lg ws = ap (λ r. outcome (Refused r) pf pt lg 
 -- THE WHOLE CALL
 
 -- what the gate tells of the tests
-pub told-shut : (t : Tested) (e : Refusal) → Shut e ≡ asGate t → t ≡ refused e
-told-shut passed e h = cc
-told-shut (refused d) e h = cc
+pub told-shut : (count : ℕ) (t : Tested) (e : Refusal) → Shut e ≡ asGate count t → t ≡ refused e
+told-shut count passed e h = cc
+told-shut count (refused d) e h = cc
 
-pub told-open : (t : Tested) → Open ≡ asGate t → t ≡ passed
-told-open passed h = refl
-told-open (refused d) h = cc
+told-open : (count : ℕ) (t : Tested) (s : Size) → Open s ≡ asGate count t → (t ≡ passed) × (s ≡ record { n = roundsOf count; rows = 2 ^ roundsOf count })
+told-open count passed s h = (refl, cc)
+told-open count (refused d) s h = (cc, cc)
 
-pub proved-shut : (c : Call) (b : Buffers) {g : Gate} {e : Refusal} → g ≡ asGate (firstRefusal c (roomsOf b)) → g ≡ Shut e → laid (untouched e) b ≡ proved c b
+module _ (c : Call) (r : Rooms) {g : Gate} {s : Size} (h : g ≡ asGate (rowCount (c .rows)) (firstRefusal c r)) (k : g ≡ Open s) where
+  opened : (firstRefusal c r ≡ passed) × (s ≡ record { n = roundsOf (rowCount (c .rows)); rows = 2 ^ roundsOf (rowCount (c .rows)) })
+  opened = told-open _ (firstRefusal c r) s (sym k ∙ h)
+
+  pub gate-told : Opens (c .rows) (c .modes .«assert_zero») (c .challenges) r (s .n) (s .rows)
+  gate-told = subst (λ z. Opens (c .rows) (c .modes .«assert_zero») (c .challenges) r (z .n) (z .rows)) (sym (opened .1)) (gate-opens c r (opened .0))
+
+pub proved-shut : (c : Call) (b : Buffers) {g : Gate} {e : Refusal} → g ≡ asGate (rowCount (c .rows)) (firstRefusal c (roomsOf b)) → g ≡ Shut e → laid (untouched e) b ≡ proved c b
 unfolding proved fronts
-proved-shut c b {g} {e} h s = ap (λ t. laid (entered c t) b) (sym (told-shut (firstRefusal c (roomsOf b)) e (sym s ∙ h)))
+proved-shut c b {e = e} h s = ap (λ t. laid (entered c t) b) (sym (told-shut _ (firstRefusal c (roomsOf b)) e (sym s ∙ h)))
 
-pub proved-open : (c : Call) (b : Buffers) {g : Gate} {o : Outcome} → g ≡ asGate (firstRefusal c (roomsOf b)) → g ≡ Open
-    → o ≡ laid (ran (c .rows) (c .asserted) (c .challenges) (roundsOf (rowCount (c .rows)))) b → o ≡ proved c b
+pub proved-open : (c : Call) (b : Buffers) {g : Gate} {s : Size} {o : Outcome} → g ≡ asGate (rowCount (c .rows)) (firstRefusal c (roomsOf b)) → g ≡ Open s
+    → o ≡ laid (ran (c .rows) (c .modes .«assert_zero») (c .challenges) (s .n)) b → o ≡ proved c b
 unfolding proved fronts
-proved-open c b h s k = k ∙ ap (λ t. laid (entered c t) b) (sym (told-open (firstRefusal c (roomsOf b)) (sym s ∙ h)))
+proved-open c b h k q =
+    let z = opened c (roomsOf b) h k in
+    q ∙ ap (λ s. laid (ran (c .rows) (c .modes .«assert_zero») (c .challenges) (s .n)) b) (z .1) ∙ ap (λ t. laid (entered c t) b) (sym (z .0))

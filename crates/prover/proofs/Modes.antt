@@ -13,12 +13,12 @@ use lib.ListN.{take}
 use Rattle.gkr.specs.Tests.{pass, fail}
 use Rattle.prover_tree.specs.Nodes.{node}
 use Rattle.refusal.specs.Tests.{Tested, passed, refused, test, firstOf}
-use Rattle.refusal.specs.TestWays.{next, next-passed, first-split}
+use Rattle.refusal.specs.TestWays.{both, next, next-passed, first-split}
 use Rattle.refusal.specs.Numbers.{reportOf}
 use Rattle.refusal.specs.declared.Refusal.{Refusal}
 use Rattle.refusal.specs.declared.Refusal.the-variants.{RaggedRows, TooManyRows, NotPowerOfTwo, ShortChallenges, ShortRoom, BadWord, ZeroDenominator, NonZeroRootSum, SingleRow}
-use Rattle.prover_gate.specs.Refusals.{Call, Rooms, rowCount, roundsOf, degenerate, lowest, tests, firstRefusal}
-use Rattle.prover_gate.proofs.Admitting.{both}
+use Rattle.sizes.specs.Sizes.{rowCount, roundsOf}
+use Rattle.prover_gate.specs.Refusals.{Call, Rooms, degenerate, lowest, tests, firstRefusal}
 use Rattle.prover.specs.declared.Answer.the-variants.{Refused}
 use Rattle.prover.specs.Proved.{entered, fronts}
 use Rattle.prover.specs.Companions.{in-mode, LiveMode}
@@ -109,5 +109,5 @@ module _ (c : Call) (r : Rooms) where
             both (λ m. other BadWord i (λ z. omega arith)) (λ u6.
             both (λ m. other BadWord i (λ z. omega arith)) (λ u7.
             both (λ m. absurd (never m)) (λ u8.
-            each-end (λ f. f .answer ≡ Refused (ZeroDenominator i) → ⊥) (c .rows) (c .asserted) (c .challenges) (roundsOf count) (seven i))))))))));
+            each-end (λ f. f .answer ≡ Refused (ZeroDenominator i) → ⊥) (c .rows) (c .modes .«assert_zero») (c .challenges) (roundsOf count) (seven i))))))))));
       }

@@ -3,7 +3,7 @@
 use mathlib.Core.Path.{_≡_, refl, sym, _∙_, ap}
 use mathlib.Core.Bool.{Bool}
 use mathlib.Core.List.{List, [], _++_, append-nil}
-use Prim.Native.Nat.{ℕ, suc, _*_, _-_, _^_, _≤_}
+use Prim.Native.Nat.{ℕ, suc, _*_, _-_, _≤_}
 use native.Mathlib.Omega.{arith}
 use lib.ListN.{length, take, drop, replicate, take-append-drop}
 use lib.Seq.{length-take-le}
@@ -18,7 +18,7 @@ use Rattle.gkr.specs.Gkr as Gkr
 use Rattle.gkr.specs.Gkr.{done, non-zero-root-sum}
 use Rattle.transcript.specs.Log.{Drawing, supplied}
 use Rattle.prover_tree.specs.Nodes.{node}
-use Rattle.prover_gate.specs.Refusals.{rowCount, roundsOf, workRoom}
+use Rattle.sizes.specs.Sizes.{workRoom}
 use Rattle.prover.specs.declared.Answer.{Answer}
 use Rattle.refusal.specs.Fronts.{over}
 use Rattle.prover.specs.Proved.{Buffers, Outcome, lent, outcome, laid, after, ran}
@@ -53,24 +53,23 @@ module _ (ch : Source E.Ext) (n k w : ℕ) (pf pt lg ws : List ℕ) (ke : k ≡ 
       let o = laid (after ch n non-zero-root-sum) whole in
       λ i. outcome (o .answer) (o .buffers .proof) (take-append-drop k pt i) (o .buffers .log) (wipes i)
 
-pub run-parts : (rows ch pf pt lg ws : List ℕ) (asserted : Bool) (n need size k w : ℕ) (r : Answer) (pf' xi' lg' ws' : List ℕ)
-    → n ≡ roundsOf (rowCount rows) → (n ≡ 0 → ⊥) → size ≡ 2 ^ n → need ≡ 4 * challenges n → k ≡ 4 * n → w ≡ 32 * size → k ≤ length pt → w ≤ length ws
+pub run-parts : (rows ch pf pt lg ws : List ℕ) (asserted : Bool) (n need k w : ℕ) (r : Answer) (pf' xi' lg' ws' : List ℕ)
+    → (n ≡ 0 → ⊥) → need ≡ 4 * challenges n → k ≡ 4 * n → w ≡ workRoom n → k ≤ length pt → w ≤ length ws
     → ((m : ℕ) → n ≡ suc m → outcome r pf' xi' lg' ws'
     ≡ laid (after (supplied (take need ch)) n (Gkr.fractional-sumcheck Extension (Drawing (supplied (take need ch))) asserted m (node rows) empty)) (lent pf (take k pt) lg (take w ws)))
-    → outcome r pf' (xi' ++ drop k pt) lg' (ws' ++ drop w ws) ≡ laid (ran rows asserted ch (roundsOf (rowCount rows))) (lent pf pt lg ws)
-run-parts rows ch pf pt lg ws asserted n need size k w r pf' xi' lg' ws' ne nz se de ke we kl wl h =
+    → outcome r pf' (xi' ++ drop k pt) lg' (ws' ++ drop w ws) ≡ laid (ran rows asserted ch n) (lent pf pt lg ws)
+run-parts rows ch pf pt lg ws asserted n need k w r pf' xi' lg' ws' nz de ke we kl wl h =
     let m = n - 1 in
     let e : n ≡ suc m = omega arith in
     let c = supplied (take need ch) in
-    let wr : w ≡ workRoom n = we ∙ ap (λ j. 32 * j) (se ∙ ap (λ j. 2 ^ j) e) ∙ ap workRoom (sym e) in
     let a = Gkr.fractional-sumcheck Extension (Drawing c) asserted m (node rows) empty in
     let b : Buffers = lent pf pt lg ws in
-    ap (glue c n k w pf pt lg ws ke wr kl wl) (h m e)
-    ∙ glued c n k w pf pt lg ws ke wr kl wl a (λ P q. Count.done-point Extension (Drawing c) asserted m (node rows) empty P q ∙ sym e)
+    ap (glue c n k w pf pt lg ws ke we kl wl) (h m e)
+    ∙ glued c n k w pf pt lg ws ke we kl wl a (λ P q. Count.done-point Extension (Drawing c) asserted m (node rows) empty P q ∙ sym e)
     ∙ (λ i. laid (after (supplied (take (de i) ch)) (e i) (Gkr.fractional-sumcheck Extension (Drawing (supplied (take (de i) ch))) asserted m (node rows) empty)) b)
     ∙ ap (λ j. laid (after (supplied (take (4 * challenges j) ch)) (suc m) (Gkr.fractional-sumcheck Extension (Drawing (supplied (take (4 * challenges j) ch))) asserted m (node rows) empty)) b) e
-    ∙ ap (λ j. laid (ran rows asserted ch j) b) (sym e ∙ ne)
+    ∙ ap (λ j. laid (ran rows asserted ch j) b) (sym e)
 
 -- no rounds take no challenges
-pub no-parts : (rows ch : List ℕ) (asserted : Bool) (b : Buffers) {o : Outcome} → o ≡ laid (ran rows asserted [] 0) b → 0 ≡ roundsOf (rowCount rows) → o ≡ laid (ran rows asserted ch (roundsOf (rowCount rows))) b
-no-parts rows ch asserted b h e = h ∙ ap (λ n. laid (ran rows asserted ch n) b) e
+pub no-parts : (rows ch : List ℕ) (asserted : Bool) (b : Buffers) {n : ℕ} {o : Outcome} → o ≡ laid (ran rows asserted [] 0) b → n ≡ 0 → o ≡ laid (ran rows asserted ch n) b
+no-parts rows ch asserted b h e = h ∙ ap (λ n. laid (ran rows asserted ch n) b) (sym e)

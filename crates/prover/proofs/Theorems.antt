@@ -17,11 +17,11 @@ use Rattle.gkr.specs.Gkr.{done, non-zero-root-sum}
 use Rattle.transcript.specs.Log.{Drawing, supplied, Observing}
 use Rattle.step.specs.declared.Frac.{Frac}
 use Rattle.prover_tree.specs.Nodes.{node}
-use Rattle.refusal.specs.TestWays.{Ways, each-way}
+use Rattle.refusal.specs.TestWays.{Ways, both, each-way}
 use Rattle.refusal.specs.declared.Refusal.{Refusal}
 use Rattle.refusal.specs.declared.Refusal.the-variants.{RaggedRows, TooManyRows, NotPowerOfTwo, ShortChallenges, ShortRoom, BadWord, ZeroDenominator, NonZeroRootSum, SingleRow}
-use Rattle.prover_gate.specs.Refusals.{Call, Rooms, rowCount, roundsOf, workRoom, tests, firstRefusal}
-use Rattle.prover_gate.proofs.Admitting.{both}
+use Rattle.sizes.specs.Sizes.{rowCount, roundsOf, workRoom}
+use Rattle.prover_gate.specs.Refusals.{Call, Rooms, tests, firstRefusal}
 use Rattle.prover.specs.declared.Answer.{Answer}
 use Rattle.prover.specs.declared.Answer.the-variants.{Done, Refused}
 use Rattle.prover.specs.Proved.{Buffers, Outcome, roomsOf, outcome, laid, untouched, finished, after, ran, entered, fronts, proved}
@@ -111,4 +111,4 @@ wiping c r =
     both (λ m. quiet n BadWord (λ z. omega arith)) (λ u6.
     both (λ m. quiet n BadWord (λ z. omega arith)) (λ u7.
     both (λ m. quiet n (ZeroDenominator _) (λ z. omega arith)) (λ u8.
-    each-end (Left n) (c .rows) (c .asserted) (c .challenges) n (ends-left n))))))))))
+    each-end (Left n) (c .rows) (c .modes .«assert_zero») (c .challenges) n (ends-left n))))))))))

@@ -10,7 +10,8 @@ use Rattle.refusal.specs.declared.Refusal.{Refusal}
 use Rattle.refusal.specs.declared.Refusal.the-variants.{ZeroDenominator, NonZeroRootSum}
 use Rattle.step.specs.declared.Frac.{Frac}
 use Rattle.prover_tree.specs.Nodes.{node}
-use Rattle.prover_gate.specs.Refusals.{Call, Rooms, call, rowCount, roundsOf, workRoom, degenerate, firstRefusal}
+use Rattle.sizes.specs.Sizes.{rowCount, roundsOf, workRoom}
+use Rattle.prover_gate.specs.Refusals.{Call, Rooms, call, degenerate, firstRefusal}
 use Rattle.prover.specs.declared.Answer.the-variants.{Done, Refused}
 use Rattle.prover.specs.Proved.{Buffers, Outcome, lent, roomsOf, laid, untouched, fronts, proved}
 
@@ -30,7 +31,7 @@ Wiping = (c : Call) (r : Rooms) → Left (roundsOf (rowCount (c .rows))) (fronts
 -- LIVE MODE
 
 abbrev pub in-mode : (live : Bool) → Call → Call
-in-mode live c = call (c .rows) live (c .asserted) (c .challenges)
+in-mode live c = call (c .rows) (record { live = live; «assert_zero» = c .modes .«assert_zero» }) (c .challenges)
 
 -- no row is over zero
 abbrev pub Sound : List ℕ → Type 0

@@ -3,7 +3,6 @@
 use mathlib.Core.Path.{_≡_}
 use mathlib.Core.Bool.{Bool, cond}
 use mathlib.Core.List.{List}
-use mathlib.Core.Logic.{_⊎_}
 use Prim.Native.Nat.{ℕ, suc, _+_, _*_, _^_, _<_, _≤_}
 use lib.ListN.{length, take, replicate}
 use Rattle.field.specs.Ext as E
@@ -22,7 +21,9 @@ use Rattle.stored.specs.Elements.{encoded}
 use Rattle.stored.specs.Lengths.{proofSize}
 use Rattle.prover_run.specs.Runs.{begun}
 use Rattle.prover_rounds.specs.Layers.{logUpTo, usedUpTo}
-use Rattle.prover_gate.specs.Refusals.{Rooms, rowCount, roundsOf, logRoom, workRoom}
+use Rattle.refusal.specs.Limits.{maxRounds}
+use Rattle.sizes.specs.Sizes.{rowCount, roundsOf, logRoom, workRoom}
+use Rattle.prover_gate.specs.Refusals.{Rooms}
 use Rattle.refusal.specs.Fronts.{over}
 use Rattle.prover.specs.Proved.{Buffers}
 
@@ -46,16 +47,19 @@ pub record Room (asserted : Bool) (n size : ℕ) (c p x l w : ℕ) : Type 0 wher
   pub point : x ≡ 4 * n
   pub log : cond asserted 0 4 + logUpTo n ≤ l
   pub used : 4 * usedUpTo n ≤ c + 4
-  pub work : w ≡ 32 * size
+  pub work : w ≡ workRoom n
 
--- what an open gate tells
-pub record Opens (rows : List ℕ) (asserted : Bool) (ch : List ℕ) (r : Rooms) : Type 0 where
+-- what an open gate tells of a sheet of n rounds and of size rows
+pub record Opens (rows : List ℕ) (asserted : Bool) (ch : List ℕ) (r : Rooms) (n size : ℕ) : Type 0 where
+  pub rounds : n ≡ roundsOf (rowCount rows)
+  pub few : n ≤ maxRounds
+  pub pow : size ≡ 2 ^ n
   pub words : length rows ≡ 8 * rowCount rows
-  pub size : (roundsOf (rowCount rows) ≡ 0) ⊎ (rowCount rows ≡ 2 ^ roundsOf (rowCount rows))
-  pub challenges : 4 * Sizes.challenges (roundsOf (rowCount rows)) ≤ length ch
-  pub proof : Sizes.proof-bytes (roundsOf (rowCount rows)) ≤ r .proof
-  pub point : Sizes.point-words (roundsOf (rowCount rows)) ≤ r .point
-  pub log : logRoom asserted (roundsOf (rowCount rows)) ≤ r .log
-  pub work : workRoom (roundsOf (rowCount rows)) ≤ r .work
+  pub all : (rowCount rows ≡ 0 → ⊥) → rowCount rows ≡ 2 ^ roundsOf (rowCount rows)
+  pub challenges : 4 * Sizes.challenges n ≤ length ch
+  pub proof : Sizes.proof-bytes n ≤ r .proof
+  pub point : Sizes.point-words n ≤ r .point
+  pub log : logRoom asserted n ≤ r .log
+  pub work : workRoom n ≤ r .work
   pub clean : Clean rows
-  pub supplied : Clean (take (4 * Sizes.challenges (roundsOf (rowCount rows))) ch)
+  pub supplied : Clean (take (4 * Sizes.challenges n) ch)

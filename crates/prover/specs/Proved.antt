@@ -22,7 +22,8 @@ use Rattle.refusal.specs.Tests.{Tested, passed, refused}
 use Rattle.refusal.specs.Fronts.{over}
 use Rattle.refusal.specs.declared.Refusal.{Refusal}
 use Rattle.refusal.specs.declared.Refusal.the-variants.{NonZeroRootSum, SingleRow}
-use Rattle.prover_gate.specs.Refusals.{Call, Rooms, rowCount, roundsOf, workRoom, firstRefusal}
+use Rattle.sizes.specs.Sizes.{rowCount, roundsOf, workRoom}
+use Rattle.prover_gate.specs.Refusals.{Call, Rooms, firstRefusal}
 use Rattle.prover.specs.declared.Answer.{Answer}
 use Rattle.prover.specs.declared.Answer.the-variants.{Done, Refused}
 
@@ -80,7 +81,7 @@ ran rows asserted ch (suc m) =
 
 abbrev pub entered : Call → Tested → Outcome
 entered c (refused e) = untouched e
-entered c passed = ran (c .rows) (c .asserted) (c .challenges) (roundsOf (rowCount (c .rows)))
+entered c passed = ran (c .rows) (c .modes .«assert_zero») (c .challenges) (roundsOf (rowCount (c .rows)))
 
 -- the answer, and the words at the front of each buffer
 unfoldable pub fronts : Call → Rooms → Outcome

@@ -17,14 +17,17 @@ ghost use Rattle.transcript.specs.Log.{Drawing, supplied};
 ghost use Rattle.step.specs.Values.{CanonFrac, IsFrac};
 ghost use Rattle.prover_tree.specs.Nodes.{node};
 ghost use Rattle.prover_rounds.specs.Layers.{Levels};
-ghost use Rattle.prover_gate.specs.Refusals.{call, rooms, rowCount, roundsOf};
+ghost use Rattle.sizes.specs.Sizes.{rowCount};
+ghost use Rattle.prover_gate.specs.Refusals.{call, rooms};
 ghost use Rattle.prover.specs.Proved.{lent, outcome, laid, oneRow, after, ran, proved};
 ghost use Rattle.prover.specs.Inner.{Written, Room, Opens};
 ghost use Rattle.prover.specs.Report.{answerReport};
 use field::Ext;
 use prover_gate::Gate;
+use refusal::Proving;
 use refusal::Refusal;
 use refusal::Report;
+use sizes::Size;
 use step::Frac;
 
 // Done tells n and the sum of all rows.
@@ -127,9 +130,10 @@ fn no_rounds(rows: &[u32], asserted: bool, proof: &mut [u8]) -> Answer
     Answer::Refused(one_row(rows, asserted))
 }
 
-// What passed the gate. A run gets the needed parts of the challenges, the point and the workspace.
+// What passed the gate, with its size. A run gets the needed parts of the challenges, the point and the workspace.
 fn admitted(
     rows: &[u32],
+    size: Size,
     asserted: bool,
     challenges: &[u32],
     proof: &mut [u8],
@@ -137,19 +141,18 @@ fn admitted(
     log: &mut [u32],
     work: &mut [u32],
 ) -> Answer
-    requires { ⌜ Opens (now rows) asserted (now challenges) (rooms (length (now proof)) (length (now point)) (length (now log)) (length (now work))) ⌝ }
+    requires { ⌜ Opens (now rows) asserted (now challenges) (rooms (length (now proof)) (length (now point)) (length (now log)) (length (now work))) (size .n) (size .rows) ⌝ }
     ensures { λ r. ⌜ outcome r (now (proof .exit)) (now (point .exit)) (now (log .exit)) (now (work .exit))
-        ≡ laid (ran (now (rows .entry)) asserted (now (challenges .entry)) (roundsOf (rowCount (now (rows .entry)))))
+        ≡ laid (ran (now (rows .entry)) asserted (now (challenges .entry)) (size .n))
         (lent (now (proof .entry)) (now (point .entry)) (now (log .entry)) (now (work .entry))) ⌝ }
 {
-    let size = prover_gate::least_size(rows.len() / 8);
     let n = size.n;
     if n == 0 {
         return no_rounds(rows, asserted, proof);
     }
-    let need = prover_gate::challenge_words(n);
+    let need = sizes::challenge_words(n);
+    let w = sizes::work_words(n, size.rows);
     let k = 4 * n;
-    let w = 32 * size.rows;
     prove(
         rows,
         asserted,
@@ -163,12 +166,11 @@ fn admitted(
     )
 }
 
-// Proves that the fractions of a sheet sum up, over lent buffers: row words, live or sandbox, zero asserted or not, challenge words;
+// Proves that the fractions of a sheet sum up, over lent buffers: row words, how they are proved, challenge words;
 // rooms for the proof's bytes, the point, the log, and a workspace.
 pub fn fractional_sumcheck(
     rows: &[u32],
-    live: bool,
-    assert_zero: bool,
+    modes: Proving,
     challenges: &[u32],
     proof: &mut [u8],
     point: &mut [u32],
@@ -176,13 +178,12 @@ pub fn fractional_sumcheck(
     work: &mut [u32],
 ) -> Answer
     ensures { λ r. ⌜ outcome r (now (proof .exit)) (now (point .exit)) (now (log .exit)) (now (work .exit))
-        ≡ proved (call (now (rows .entry)) live «assert_zero» (now (challenges .entry)))
+        ≡ proved (call (now (rows .entry)) modes (now (challenges .entry)))
         (lent (now (proof .entry)) (now (point .entry)) (now (log .entry)) (now (work .entry))) ⌝ }
 {
     let gate = prover_gate::first_refusal(
         rows,
-        live,
-        assert_zero,
+        modes,
         challenges,
         proof.len(),
         point.len(),
@@ -191,7 +192,16 @@ pub fn fractional_sumcheck(
     );
     match gate {
         Gate::Shut(r) => Answer::Refused(r),
-        Gate::Open => admitted(rows, assert_zero, challenges, proof, point, log, work),
+        Gate::Open(size) => admitted(
+            rows,
+            size,
+            modes.assert_zero,
+            challenges,
+            proof,
+            point,
+            log,
+            work,
+        ),
     }
 }
 
@@ -200,18 +210,7 @@ pub fn number_and_values(answer: Answer) -> Report
     ensures { λ r. ⌜ r ≡ answerReport answer ⌝ }
 {
     match answer {
-        Answer::Done { rounds, sum } => {
-            let p = sum.p;
-            let q = sum.q;
-            Report {
-                number: 0,
-                first: rounds,
-                second: 0,
-                third: 0,
-                left: p,
-                right: q,
-            }
-        }
+        Answer::Done { rounds, sum } => refusal::done(rounds, sum.p, sum.q),
         Answer::Refused(r) => refusal::number_and_fields(r),
     }
 }

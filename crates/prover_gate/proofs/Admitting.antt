@@ -3,7 +3,7 @@
 use mathlib.Core.Path.{_≡_, refl, sym, _∙_, ap}
 use mathlib.Core.Bool.{Bool, true, false, not, _&&_}
 use mathlib.Core.List.{List}
-use Prim.Native.Nat.{ℕ, suc, _+_, _*_, _-_, _%_, _<_, _≤_}
+use Prim.Native.Nat.{ℕ, suc, _+_, _*_, _-_, _%_, _^_, _<_, _≤_}
 use native.Mathlib.Numerals.{add-one}
 use native.Mathlib.Omega.{arith}
 use borrow.Author.Tests.{lt-ltb, le-ltb, eq-eqb, ne-eqb}
@@ -12,7 +12,7 @@ use lib.ListN.{length, take}
 use Rattle.field.specs.Ext as E
 use Rattle.gkr.specs.Run.{Frac}
 use Rattle.gkr.specs.Sizes.{challenges}
-use Rattle.refusal.specs.Limits.{maxRows}
+use Rattle.refusal.specs.Limits.{maxRounds, maxRows}
 use Rattle.refusal.specs.TestLaws.{NoneMet, all-passed}
 use Rattle.refusal.specs.TestWays.{MetAt, met-at}
 use Rattle.refusal.specs.declared.Refusal.{Refusal}
@@ -22,8 +22,12 @@ use Rattle.step.specs.declared.Frac.{Frac as FracW}
 use Rattle.step.specs.Values.{IsFrac, decFrac}
 use Rattle.prover_tree.specs.Nodes.{node}
 use Rattle.prover_tree.proofs.Memory.{frac-path}
+use Rattle.prover_gate.specs.declared.Gate.{Gate}
 use Rattle.prover_gate.specs.declared.Gate.the-variants.{Open, Shut}
-use Rattle.prover_gate.specs.Refusals.{Call, Rooms, rowCount, roundsOf, isSize, shortRoom, degenerate, lowest, tests, firstRefusal, asGate}
+use Rattle.sizes.specs.declared.Size.{Size}
+use Rattle.sizes.specs.Sizes.{rowCount, roundsOf, isSize}
+use Rattle.sizes.specs.SizeLaws.{few-rounds, size-unique}
+use Rattle.prover_gate.specs.Refusals.{Call, Rooms, shortRoom, degenerate, lowest, tests, firstRefusal, asGate}
 
 -- ROWS OVER ZERO
 
@@ -49,10 +53,6 @@ rows-end rows count i h s = let e : count - i ≡ 0 = omega arith in sym (s ∙ 
 
 -- THE ORDER
 
--- a pair: one test's fact, and those of the others
-pub both : {A B : Type 0} → A → B → A × B
-both a b = (a, b)
-
 module _ (c : Call) (r : Rooms) where
   abbrev count : ℕ
   count = rowCount (c .rows)
@@ -60,76 +60,80 @@ module _ (c : Call) (r : Rooms) where
   abbrev low : ℕ
   low = lowest (c .rows) count 0
 
+  -- what the code answers is the outcome of the tests
+  abbrev Tells : Gate → Type 0
+  Tells g = g ≡ asGate count (firstRefusal c r)
+
   -- the test at place k answers; none does
-  shut : (k : ℕ) (e : Refusal) → MetAt (tests c r) k e → Shut e ≡ asGate (firstRefusal c r)
+  shut : (k : ℕ) (e : Refusal) → MetAt (tests c r) k e → Tells (Shut e)
   unfolding firstRefusal
-  shut k e h = sym (ap asGate (met-at (tests c r) k e h))
+  shut k e h = sym (ap (asGate count) (met-at (tests c r) k e h))
 
-  opened : NoneMet (tests c r) → Open ≡ asGate (firstRefusal c r)
+  opened : NoneMet (tests c r) → {s : Size} → (s .n ≡ roundsOf count) × (s .rows ≡ 2 ^ s .n) × (s .n ≤ maxRounds) → Tells (Open s)
   unfolding firstRefusal
-  opened h = sym (ap asGate (all-passed (tests c r) h))
+  opened h z = ap Open (size-unique count z (refl, refl, few-rounds count)) ∙ sym (ap (asGate count) (all-passed (tests c r) h))
 
-  pub refuse-1 : (length (c .rows) % 8 ≡ 0 → ⊥) → Shut RaggedRows ≡ asGate (firstRefusal c r)
+  pub refuse-1 : (length (c .rows) % 8 ≡ 0 → ⊥) → Tells (Shut RaggedRows)
   refuse-1 h = shut 0 RaggedRows (ap not (ne-eqb _ _ h), refl)
 
   module _ (h1 : length (c .rows) % 8 ≡ 0) where
     p1 : not (eqb (length (c .rows) % 8) 0) ≡ false
     p1 = ap not (eq-eqb _ _ h1)
 
-    pub refuse-2 : maxRows < count → Shut TooManyRows ≡ asGate (firstRefusal c r)
+    pub refuse-2 : maxRows < count → Tells (Shut TooManyRows)
     refuse-2 h = shut 1 TooManyRows (p1, (lt-ltb _ _ h, refl))
 
     module _ (h2 : count ≤ maxRows) {s : Bool} (se : s ≡ isSize count) where
       p2 : ltb maxRows count ≡ false
       p2 = le-ltb _ _ h2
 
-      pub refuse-3 : s ≡ false → Shut NotPowerOfTwo ≡ asGate (firstRefusal c r)
+      pub refuse-3 : s ≡ false → Tells (Shut NotPowerOfTwo)
       refuse-3 h = shut 2 NotPowerOfTwo (p1, (p2, (ap not (sym se ∙ h), refl)))
 
-      module _ (h3 : s ≡ true) {n need : ℕ} (ne : n ≡ roundsOf count) (de : need ≡ 4 * challenges n) where
+      module _ (h3 : s ≡ true) {z : Size} (ze : (z .n ≡ roundsOf count) × (z .rows ≡ 2 ^ z .n) × (z .n ≤ maxRounds)) {need : ℕ} (de : need ≡ 4 * challenges (z .n)) where
         p3 : not (isSize count) ≡ false
         p3 = ap not (sym se ∙ h3)
 
         d : need ≡ 4 * challenges (roundsOf count)
-        d = de ∙ ap (λ k. 4 * challenges k) ne
+        d = de ∙ ap (λ k. 4 * challenges k) (ze .0)
 
-        pub refuse-4 : length (c .challenges) < need → Shut ShortChallenges ≡ asGate (firstRefusal c r)
+        pub refuse-4 : length (c .challenges) < need → Tells (Shut ShortChallenges)
         refuse-4 h = shut 3 ShortChallenges (p1, (p2, (p3, (ap (ltb (length (c .challenges))) (sym d) ∙ lt-ltb _ _ h, refl))))
 
-        module _ (h4 : need ≤ length (c .challenges)) {t : Bool} (te : t ≡ shortRoom (c .asserted) n r) where
+        module _ (h4 : need ≤ length (c .challenges)) {t : Bool} (te : t ≡ shortRoom (c .modes .«assert_zero») (z .n) r) where
           p4 : ltb (length (c .challenges)) (4 * challenges (roundsOf count)) ≡ false
           p4 = ap (ltb (length (c .challenges))) (sym d) ∙ le-ltb _ _ h4
 
-          room : shortRoom (c .asserted) (roundsOf count) r ≡ t
-          room = ap (λ k. shortRoom (c .asserted) k r) (sym ne) ∙ sym te
+          room : shortRoom (c .modes .«assert_zero») (roundsOf count) r ≡ t
+          room = ap (λ k. shortRoom (c .modes .«assert_zero») k r) (sym (ze .0)) ∙ sym te
 
-          pub refuse-5 : t ≡ true → Shut ShortRoom ≡ asGate (firstRefusal c r)
+          pub refuse-5 : t ≡ true → Tells (Shut ShortRoom)
           refuse-5 h = shut 4 ShortRoom (p1, (p2, (p3, (p4, (room ∙ h, refl)))))
 
           module _ (h5 : t ≡ false) {u : Bool} (ue : u ≡ allCanonical (c .rows)) where
-            pub refuse-6 : u ≡ false → Shut BadWord ≡ asGate (firstRefusal c r)
+            pub refuse-6 : u ≡ false → Tells (Shut BadWord)
             refuse-6 h = shut 5 BadWord (p1, (p2, (p3, (p4, (room ∙ h5, (ap not (sym ue ∙ h), refl))))))
 
             module _ (h6 : u ≡ true) {v : Bool} (ve : v ≡ allCanonical (take need (c .challenges))) where
               words : not (allCanonical (take (4 * challenges (roundsOf count)) (c .challenges))) ≡ not v
               words = ap (λ k. not (allCanonical (take k (c .challenges)))) (sym d) ∙ ap not (sym ve)
 
-              pub refuse-6' : v ≡ false → Shut BadWord ≡ asGate (firstRefusal c r)
+              pub refuse-6' : v ≡ false → Tells (Shut BadWord)
               refuse-6' h = shut 6 BadWord (p1, (p2, (p3, (p4, (room ∙ h5, (ap not (sym ue ∙ h6), (words ∙ ap not h, refl)))))))
 
               module _ (h7 : v ≡ true) where
-                passes : (c .live && ltb low count) ≡ false → Open ≡ asGate (firstRefusal c r)
-                passes h = opened (p1, (p2, (p3, (p4, (room ∙ h5, (ap not (sym ue ∙ h6), (words ∙ ap not h7, (h, tt))))))))
+                passes : (c .modes .live && ltb low count) ≡ false → Tells (Open z)
+                passes h = opened (p1, (p2, (p3, (p4, (room ∙ h5, (ap not (sym ue ∙ h6), (words ∙ ap not h7, (h, tt)))))))) ze
 
-                pub sandbox-passes : c .live ≡ false → Open ≡ asGate (firstRefusal c r)
+                pub sandbox-passes : c .modes .live ≡ false → Tells (Open z)
                 sandbox-passes h = passes (ap (λ b. b && ltb low count) h)
 
-                module _ (h8 : c .live ≡ true) {row : ℕ} (e : row ≡ low) where
-                  row-test : (c .live && ltb low count) ≡ ltb row count
+                module _ (h8 : c .modes .live ≡ true) {row : ℕ} (e : row ≡ low) where
+                  row-test : (c .modes .live && ltb low count) ≡ ltb row count
                   row-test = ap (λ b. b && ltb low count) h8 ∙ ap (λ k. ltb k count) (sym e)
 
-                  pub refuse-7 : row < count → Shut (ZeroDenominator row) ≡ asGate (firstRefusal c r)
+                  pub refuse-7 : row < count → Tells (Shut (ZeroDenominator row))
                   refuse-7 h = shut 7 (ZeroDenominator row) (p1, (p2, (p3, (p4, (room ∙ h5, (ap not (sym ue ∙ h6), (words ∙ ap not h7, (row-test ∙ lt-ltb _ _ h, ap ZeroDenominator (sym e)))))))))
 
-                  pub live-passes : count ≤ row → Open ≡ asGate (firstRefusal c r)
+                  pub live-passes : count ≤ row → Tells (Open z)
                   live-passes h = passes (row-test ∙ le-ltb _ _ h)

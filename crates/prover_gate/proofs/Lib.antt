@@ -1,3 +1,3 @@
 -- The laws of the gate.
-pub mod Sizing
+pub mod RoomLaws
 pub mod Admitting

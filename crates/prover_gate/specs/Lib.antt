@@ -1,3 +1,2 @@
 -- The prover's refusals before a run.
 pub mod Refusals
-pub mod SizeLaws

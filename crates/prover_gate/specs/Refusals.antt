@@ -2,25 +2,26 @@
 -- Assumes nothing.
 use mathlib.Core.Bool.{Bool, cond, not, _&&_, _||_}
 use mathlib.Core.List.{List, [], _∷_}
-use Prim.Native.Nat.{ℕ, zero, suc, _*_, _/_, _%_, _^_}
-use lib.Dec.{eqb, ltb, leb}
+use Prim.Native.Nat.{ℕ, zero, suc, _*_, _%_, _^_}
+use lib.Dec.{eqb, ltb}
 use lib.ListN.{length, take}
 use Rattle.field.specs.Ext as E
 use Rattle.gkr.specs.Run.{Frac}
-use Rattle.gkr.specs.Sizes.{challenges, proof-bytes, point-words, log-words, workspace-words}
-use Rattle.refusal.specs.Limits.{maxRounds, maxRows}
+use Rattle.gkr.specs.Sizes.{challenges, proof-bytes, point-words}
+use Rattle.refusal.specs.Limits.{maxRows}
+use Rattle.refusal.specs.declared.Proving.{Proving}
 use Rattle.refusal.specs.declared.Refusal.the-variants.{RaggedRows, TooManyRows, NotPowerOfTwo, ShortChallenges, ShortRoom, BadWord, ZeroDenominator}
 use Rattle.refusal.specs.Tests.{Test, Tested, passed, refused, test, firstOf}
+use Rattle.sizes.specs.Sizes.{rowCount, roundsOf, isSize, logRoom, workRoom}
 use Rattle.wire.specs.Words.{allCanonical}
 use Rattle.prover_tree.specs.Nodes.{node}
 use Rattle.prover_gate.specs.declared.Gate.{Gate}
 use Rattle.prover_gate.specs.declared.Gate.the-variants.{Open, Shut}
 
--- what a call is given: row words, eight a row; live or sandbox; zero asserted or not; challenge words, four a challenge
+-- what a call is given: row words, eight a row; the modes of proving; challenge words, four a challenge
 pub record Call : Type 0 where
   pub rows : List ℕ
-  pub live : Bool
-  pub asserted : Bool
+  pub modes : Proving
   pub challenges : List ℕ
 
 -- the lengths of the rooms: proof bytes, and words of point, log and workspace
@@ -30,35 +31,11 @@ pub record Rooms : Type 0 where
   pub log : ℕ
   pub work : ℕ
 
-abbrev pub call : (rows : List ℕ) (live asserted : Bool) (challenges : List ℕ) → Call
-call rows live asserted challenges = record { rows = rows; live = live; asserted = asserted; challenges = challenges }
+abbrev pub call : (rows : List ℕ) (modes : Proving) (challenges : List ℕ) → Call
+call rows modes challenges = record { rows = rows; modes = modes; challenges = challenges }
 
 abbrev pub rooms : (proof point log work : ℕ) → Rooms
 rooms proof point log work = record { proof = proof; point = point; log = log; work = work }
-
-abbrev pub rowCount : List ℕ → ℕ
-rowCount rows = length rows / 8
-
--- the least n with count ≤ 2 ^ n, at most the limit
-unfoldable pub roundsFrom : (left n count : ℕ) → ℕ
-roundsFrom zero n count = n
-roundsFrom (suc left) n count = cond (leb count (2 ^ n)) n (roundsFrom left (suc n) count)
-
-abbrev pub roundsOf : ℕ → ℕ
-roundsOf count = roundsFrom maxRounds 0 count
-
--- 0 or a power of two
-unfoldable pub isSize : ℕ → Bool
-isSize count = eqb count 0 || eqb count (2 ^ roundsOf count)
-
--- 0 or 1 row takes no rounds, and needs no log and no workspace
-abbrev pub logRoom : (asserted : Bool) (n : ℕ) → ℕ
-logRoom asserted zero = 0
-logRoom asserted (suc m) = log-words asserted (suc m)
-
-abbrev pub workRoom : (n : ℕ) → ℕ
-workRoom zero = 0
-workRoom (suc m) = workspace-words (suc m)
 
 unfoldable pub shortRoom : (asserted : Bool) (n : ℕ) (r : Rooms) → Bool
 shortRoom asserted n r = ltb (r .proof) (proof-bytes n) || (ltb (r .point) (point-words n) || (ltb (r .log) (logRoom asserted n) || ltb (r .work) (workRoom n)))
@@ -80,15 +57,15 @@ tests c r =
     ∷ test (ltb maxRows count) TooManyRows
     ∷ test (not (isSize count)) NotPowerOfTwo
     ∷ test (ltb (length (c .challenges)) need) ShortChallenges
-    ∷ test (shortRoom (c .asserted) n r) ShortRoom
+    ∷ test (shortRoom (c .modes .«assert_zero») n r) ShortRoom
     ∷ test (not (allCanonical (c .rows))) BadWord
     ∷ test (not (allCanonical (take need (c .challenges)))) BadWord
-    ∷ test (c .live && ltb low count) (ZeroDenominator low) ∷ []
+    ∷ test (c .modes .live && ltb low count) (ZeroDenominator low) ∷ []
 
 unfoldable pub firstRefusal : Call → Rooms → Tested
 firstRefusal c r = firstOf (tests c r)
 
--- as the code answers it
-abbrev pub asGate : Tested → Gate
-asGate passed = Open
-asGate (refused e) = Shut e
+-- as the code answers it, with the size of so many rows
+abbrev pub asGate : (count : ℕ) → Tested → Gate
+asGate count passed = Open (record { n = roundsOf count; rows = 2 ^ roundsOf count })
+asGate count (refused e) = Shut e

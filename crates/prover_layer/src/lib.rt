@@ -93,7 +93,9 @@ fn add_summands(work: &[u32], eq: usize, pq: usize, y: usize, acc: Three) -> Thr
     requires room { ⌜ (8 * (pq + 4 * y) + 31 < length (now work)) × (4 * (eq + 2 * y) + 7 < length (now work)) ⌝ }
     requires clean { ⌜ Clean (now work) ⌝ }
     requires canon { ⌜ CanonThree acc ⌝ }
-    ensures { λ r. ⌜ IsThree r (E.add (dec (acc .s1)) (summand (now (work .entry)) eq pq E.nil E.one y)) (E.add (dec (acc .s2)) (summand (now (work .entry)) eq pq E.nil two y)) (E.add (dec (acc .s3)) (summand (now (work .entry)) eq pq E.nil three y)) ⌝ }
+    ensures { λ r. ⌜ IsThree r (E.add (dec (acc .s1)) (summand (now (work .entry)) eq pq E.nil E.one y))
+        (E.add (dec (acc .s2)) (summand (now (work .entry)) eq pq E.nil two y))
+        (E.add (dec (acc .s3)) (summand (now (work .entry)) eq pq E.nil three y)) ⌝ }
 {
     let t0 = load_entry(work, eq, pq, 2 * y);
     let t1 = load_entry(work, eq, pq, 2 * y + 1);
@@ -104,7 +106,9 @@ fn add_summands(work: &[u32], eq: usize, pq: usize, y: usize, acc: Three) -> Thr
 pub fn sumcheck_round_poly_evals(work: &[u32], eq: usize, pq: usize, half: usize) -> Three
     requires room { ⌜ (8 * (pq + 4 * half) ≤ length (now work)) × (4 * (eq + 2 * half) ≤ length (now work)) ⌝ }
     requires clean { ⌜ Clean (now work) ⌝ }
-    ensures { λ r. ⌜ IsThree r (Table.sum ExtRing half (summand (now (work .entry)) eq pq E.nil E.one)) (Table.sum ExtRing half (summand (now (work .entry)) eq pq E.nil two)) (Table.sum ExtRing half (summand (now (work .entry)) eq pq E.nil three)) ⌝ }
+    ensures { λ r. ⌜ IsThree r (Table.sum ExtRing half (summand (now (work .entry)) eq pq E.nil E.one))
+        (Table.sum ExtRing half (summand (now (work .entry)) eq pq E.nil two))
+        (Table.sum ExtRing half (summand (now (work .entry)) eq pq E.nil three)) ⌝ }
 {
     let mut acc = Three {
         s1: Ext::ZERO,
@@ -132,7 +136,9 @@ fn store_entry(work: &mut [u32], eq: usize, pq: usize, y: usize, t: Entry)
 fn fold_entry(work: &mut [u32], eq: usize, pq: usize, y: usize, rho: Ext)
     requires room { ⌜ (2 * pq + 8 * y + 8 ≤ eq) × (4 * (eq + 2 * y) + 7 < length (now work)) ⌝ }
     requires clean { ⌜ Clean (now work) × Canon rho ⌝ }
-    ensures { λ _. ⌜ StoredEntry (now (work .entry)) (now (work .exit)) eq pq y (Table.fold ExtRing (eqs (now (work .entry)) eq) (dec rho) y) (RoundSum.folded ExtRing (claims (now (work .entry)) pq) (dec rho) y) ⌝ }
+    ensures { λ _. ⌜ StoredEntry (now (work .entry)) (now (work .exit)) eq pq y
+        (Table.fold ExtRing (eqs (now (work .entry)) eq) (dec rho) y)
+        (RoundSum.folded ExtRing (claims (now (work .entry)) pq) (dec rho) y) ⌝ }
 {
     let t = step::entry_line(
         load_entry(work, eq, pq, 2 * y),

@@ -42,7 +42,8 @@ fn sub_round(
     requires layer { ⌜ (2 * pq + 8 * half ≤ eq) × (4 * (eq + 2 * half) ≤ length (now work)) ⌝ }
     requires room { ⌜ (4 * i + 3 < length (now xi)) × (pos .put + 16 ≤ length (now log)) × Enough (now log) (now challenges) pos 1 ⌝ }
     requires clean { ⌜ Clean (now work) × Clean (now xi) ⌝ }
-    ensures { λ r. ⌜ ((k : ℕ) → half ≡ 2 ^ k → SubRound (now (work .entry)) (now (work .exit)) (now (xi .entry)) (now (xi .exit)) (now (log .entry)) (now (log .exit))
+    ensures { λ r. ⌜ ((k : ℕ) → half ≡ 2 ^ k →
+        SubRound (now (work .entry)) (now (work .exit)) (now (xi .entry)) (now (xi .exit)) (now (log .entry)) (now (log .exit))
         (source (pos .drawn) (now (challenges .entry))) eq pq k half i E.nil pos r) ⌝ }
 {
     let s = prover_layer::sumcheck_round_poly_evals(work, eq, pq, half);
@@ -187,10 +188,10 @@ pub fn gkr_rounds(
     requires layer { ⌜ (1 ≤ n) × (4 * 2 ^ n ≤ eq) × (4 * eq + 2 * 2 ^ n ≤ length (now work)) ⌝ }
     requires room { ⌜ (4 * n ≤ length (now xi)) × (pos .put + logUpTo n ≤ length (now log) + logUpTo 1) × Enough (now log) (now challenges) pos (usedUpTo n - usedUpTo 1) ⌝ }
     requires clean { ⌜ Clean (now work) × Clean (now xi) ⌝ }
-    ensures run { λ r. ⌜ ((f : ℕ → Fraction E.Ext) (g : ℕ) → n ≡ suc g → Levels f (now (work .entry)) n 1 → AllLayers f (now (xi .entry)) (now (xi .exit)) (now (log .entry)) (now (log .exit))
-        (source (pos .drawn) (now (challenges .entry))) n g pos r) ⌝ }
-    ensures rest { λ r. ⌜ (drop (r .put) (now (log .exit)) ≡ drop (r .put) (now (log .entry)))
-        × (r .put + logUpTo 1 ≡ pos .put + logUpTo n) × (r .used + usedUpTo 1 ≡ pos .used + usedUpTo n) × Clean (now (xi .exit)) × Clean (now (work .exit)) ⌝ }
+    ensures run { λ r. ⌜ ((f : ℕ → Fraction E.Ext) (g : ℕ) → n ≡ suc g → Levels f (now (work .entry)) n 1 →
+        AllLayers f (now (xi .entry)) (now (xi .exit)) (now (log .entry)) (now (log .exit)) (source (pos .drawn) (now (challenges .entry))) n g pos r) ⌝ }
+    ensures rest { λ r. ⌜ (drop (r .put) (now (log .exit)) ≡ drop (r .put) (now (log .entry))) × (r .put + logUpTo 1 ≡ pos .put + logUpTo n)
+        × (r .used + usedUpTo 1 ≡ pos .used + usedUpTo n) × Clean (now (xi .exit)) × Clean (now (work .exit)) ⌝ }
 {
     let mut p = pos;
     let mut size = 2;

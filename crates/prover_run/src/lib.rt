@@ -54,8 +54,8 @@ pub fn run_rounds(
     requires size { ⌜ (1 ≤ n) × (size ≡ 2 ^ n) × (18 * size ≤ length (now work)) ⌝ }
     requires room { ⌜ (4 * n ≤ length (now xi)) × (pos .put + logUpTo n ≤ length (now log)) × Enough (now log) (now challenges) pos (usedUpTo n - 1) ⌝ }
     requires clean { ⌜ Clean (now work) × Canon q ⌝ }
-    ensures run { λ r. ⌜ ((f : ℕ → Fraction E.Ext) (m : ℕ) → n ≡ suc m → Levels f (now (work .entry)) n 0 → dec q ≡ Tree.tree ExtRing f (suc m) 0 .q
-        → RunOf f (now (xi .exit)) (now (log .entry)) (now (log .exit)) (source (pos .drawn) (now (challenges .entry))) m pos r) ⌝ }
+    ensures run { λ r. ⌜ ((f : ℕ → Fraction E.Ext) (m : ℕ) → n ≡ suc m → Levels f (now (work .entry)) n 0 → dec q ≡ Tree.tree ExtRing f (suc m) 0 .q →
+        RunOf f (now (xi .exit)) (now (log .entry)) (now (log .exit)) (source (pos .drawn) (now (challenges .entry))) m pos r) ⌝ }
     ensures ends { λ r. ⌜ (r .put ≡ pos .put + logUpTo n) × Clean (now (xi .exit)) ⌝ }
 {
     let eq = 4 * size;

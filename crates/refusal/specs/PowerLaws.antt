@@ -1,10 +1,10 @@
--- What is a power of two is found to be one, and what lies between two of them is not.
+-- What is a power of two is found to be one, and what lies between two of them is not; a shift of 1 is one.
 -- Assumes nothing.
 use mathlib.Core.Path.{_≡_, refl, sym, _∙_, ap}
 use mathlib.Core.Bool.{Bool, true, false, cond}
 use mathlib.Core.Logic.{⊎-elim}
-use Prim.Native.Nat.{ℕ, zero, suc, _+_, _^_, _<_, _≤_}
-use native.Mathlib.Nat.{eq-or-lt-of-le, two-pow-succ, one-le-pow, pow-le-pow-right}
+use Prim.Native.Nat.{ℕ, zero, suc, _+_, _*_, _%_, _^_, _<_, _≤_}
+use native.Mathlib.Nat.{eq-or-lt-of-le, two-pow-succ, one-le-pow, pow-le-pow-right, mod-eq-of-lt, one-mul}
 use native.Mathlib.Numerals.{add-one}
 use native.Mathlib.Omega.{arith}
 use borrow.Author.Tests.{eq-eqb, ne-eqb, leb-true, leb-false}
@@ -52,3 +52,6 @@ power-between k n a b = power-no n (λ j e. no-side j k n (leb j k) refl a b e)
 
 pub doubled : (k p : ℕ) → p ≡ 2 ^ k → p + p ≡ 2 ^ (k + 1)
 doubled k p e = let s : 2 ^ (k + 1) ≡ 2 ^ suc k = ap (λ j. 2 ^ j) (add-one k) in omega (arith, s, two-pow-succ k, e)
+
+pub shifted : (n : ℕ) → n < 64 → 1 * 2 ^ n % 18446744073709551616 ≡ 2 ^ n
+shifted n h = let s : 2 ^ n ≤ 2 ^ 63 = grows n 63 (omega arith) in mod-eq-of-lt (omega (arith, s)) ∙ one-mul (2 ^ n)

@@ -1,10 +1,10 @@
--- A list of tests: the first that is met answers; where all are passed, none is met.
+-- A list of tests is passed where none is met, and only there.
 -- Assumes nothing.
-use mathlib.Core.Path.{_≡_, refl, _∙_, ap, subst}
+use mathlib.Core.Path.{_≡_, refl, subst}
 use mathlib.Core.Bool.{Bool, true, false, cond}
-use mathlib.Core.List.{List, [], _∷_, _++_}
+use mathlib.Core.List.{List, [], _∷_}
 use Rattle.refusal.specs.declared.Refusal.{Refusal}
-use Rattle.refusal.specs.Tests.{Test, Tested, passed, refused, test, firstOf}
+use Rattle.refusal.specs.Tests.{Test, Tested, passed, refused, firstOf}
 
 -- none of the tests is met
 abbrev pub NoneMet : List Test → Type 0
@@ -15,12 +15,6 @@ pub all-passed : (ts : List Test) → NoneMet ts → firstOf ts ≡ passed
 unfolding firstOf
 all-passed [] h = refl
 all-passed (t ∷ ts) h = rw (h .0) (all-passed ts (h .1))
-
--- the first that is met, after those that are not
-pub first-met : (ts us : List Test) (r : Refusal) → NoneMet ts → firstOf (ts ++ (test true r ∷ us)) ≡ refused r
-unfolding firstOf
-first-met [] us r h = refl
-first-met (t ∷ ts) us r h = rw (h .0) (first-met ts us r (h .1))
 
 met-not : (b : Bool) (r : Refusal) (x : Tested) → cond b (refused r) x ≡ passed → (b ≡ false) × (x ≡ passed)
 met-not true r x h = absurd (subst (λ o. elim o as (λ _. Type 0) [ passed ↦ ⊥ | refused _ ↦ Unit ]) h tt)

@@ -20,6 +20,10 @@ met-at [] k r h = absurd h
 met-at (t ∷ ts) zero r h = rw (h .0) (ap refused (h .1))
 met-at (t ∷ ts) (suc k) r h = rw (h .0) (met-at ts k r (h .1))
 
+-- a pair: one test's fact, and those of the others
+pub both : {A B : Type 0} → A → B → A × B
+both a b = (a, b)
+
 -- Q of each refusal where its test is the first that is met, and of passed
 abbrev pub Ways : (Q : Tested → Type 0) → List Test → Type 0
 Ways Q [] = Q passed

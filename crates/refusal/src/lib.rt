@@ -25,6 +25,12 @@ pub fn most_rows() -> usize
     MAX_ROWS
 }
 
+// How a sheet is proved: whether a row over zero is refused, and whether the sum's numerator must be zero.
+pub struct Proving {
+    pub live: bool,
+    pub assert_zero: bool,
+}
+
 pub enum Refusal {
     RaggedRows,
     TooManyRows,

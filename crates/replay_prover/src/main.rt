@@ -5,11 +5,11 @@ use cases::read::fill_words;
 use cases::read::next_number;
 use cases::read::next_word;
 use cases::read::next_words;
+use refusal::Proving;
 
-// Mode and assertion, and the place where the rows begin.
+// The modes, and the place where the rows begin.
 struct Modes {
-    live: bool,
-    asserted: bool,
+    modes: Proving,
     at: usize,
 }
 
@@ -27,8 +27,10 @@ fn next_modes(text: &[u8], at: usize) -> Modes {
     let live = next_number(text, at);
     let asserted = next_number(text, live.at);
     Modes {
-        live: live.value != 0,
-        asserted: asserted.value != 0,
+        modes: Proving {
+            live: live.value != 0,
+            assert_zero: asserted.value != 0,
+        },
         at: asserted.at,
     }
 }
@@ -51,23 +53,14 @@ fn next_rooms(text: &[u8], at: usize) -> Rooms {
 
 fn call(
     rows: &[u32],
-    modes: Modes,
+    modes: Proving,
     challenges: &[u32],
     proof: &mut [u8],
     point: &mut [u32],
     log: &mut [u32],
     work: &mut [u32],
 ) {
-    let answer = prover::fractional_sumcheck(
-        rows,
-        modes.live,
-        modes.asserted,
-        challenges,
-        proof,
-        point,
-        log,
-        work,
-    );
+    let answer = prover::fractional_sumcheck(rows, modes, challenges, proof, point, log, work);
     print::report(prover::number_and_values(answer));
     print::bytes(proof);
     print::words(point);
@@ -76,7 +69,7 @@ fn call(
     print::end();
 }
 
-fn call_filled(rows: &[u32], modes: Modes, challenges: &[u32], rooms: Rooms) {
+fn call_filled(rows: &[u32], modes: Proving, challenges: &[u32], rooms: Rooms) {
     let mut proof = [0u8; 2900];
     let mut point = [0u32; 48];
     let mut log = [0u32; 1000];
@@ -101,13 +94,13 @@ fn answer(text: &[u8], at: usize) -> usize {
     let mut rows = [0u32; 16400];
     let mut challenges = [0u32; 320];
     let code = next_number(text, at);
-    let modes = next_modes(text, code.at);
-    let r = next_words(text, modes.at, &mut rows);
+    let asked = next_modes(text, code.at);
+    let r = next_words(text, asked.at, &mut rows);
     let c = next_words(text, r.at, &mut challenges);
     let rooms = next_rooms(text, c.at);
     let m = r.count;
     let n = c.count;
-    call_filled(&rows[..m], modes, &challenges[..n], rooms);
+    call_filled(&rows[..m], asked.modes, &challenges[..n], rooms);
     rooms.at
 }
 

@@ -63,10 +63,6 @@ block-absorbed s p k {b} e f g =
 unfoldable pub Same : List ℕ → List ℕ → ℕ → Type 0
 Same p q n = (i : ℕ) → i < n → getD p i 0 ≡ getD q i 0
 
-pub same-less : (p q : List ℕ) (m n : ℕ) → m ≤ n → Same p q n → Same p q m
-unfolding Same
-same-less p q m n h s i l = s i (omega arith)
-
 module _ (p q : List ℕ) where
   same-lane : (i n : ℕ) → 8 * i + 8 ≤ n → Same p q n → laneAt p i ≡ laneAt q i
   unfolding laneAt Same

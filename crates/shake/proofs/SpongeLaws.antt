@@ -6,6 +6,7 @@ use Prim.Native.Nat.{ℕ, zero, suc, _+_, _*_, _/_, _%_, _≤_, _<_}
 use native.Mathlib.Numerals.{add-one}
 use native.Mathlib.Omega.{arith}
 use lib.ListN.{length, getD, take, length-append, List·getD-append}
+use lib.Seq.{take-suc}
 use Rattle.field.specs.Base.{P}
 use Rattle.wire.specs.Bytes.{bytesOf}
 use Rattle.wire.specs.ByteLaws.{bytes-append}
@@ -14,10 +15,10 @@ use Rattle.keccak.specs.State.{asList}
 use Rattle.keccak.specs.Keccak.{chi, iota, round, rounds, keccak}
 use Rattle.keccak.specs.declared.Lanes.{Lanes}
 use Rattle.shake.specs.declared.Sponge.{Sponge}
-use Rattle.shake.specs.Sponge.{highFirst, padded, blockAt, xored, absorbBlock, absorbed, final, laneByte, bytes, squeezed, shake128}
+use Rattle.shake.specs.Sponge.{highFirst, padded, absorbBlock, absorbed, final, laneByte, bytes, squeezed, shake128}
 use Rattle.shake.specs.Drawn.{message, drawn, Holds}
 use Rattle.shake.proofs.PadLaws.{length-message, pad-inside}
-use Rattle.shake.proofs.BlockLaws.{Same, same-less, same-absorbBlock}
+use Rattle.shake.proofs.BlockLaws.{Same, same-absorbBlock}
 
 -- ---- only the bytes of the first k blocks matter
 
@@ -70,6 +71,10 @@ holds-longer {s} m e h =
 pub holds-grown : {s : Sponge} (l ws vs : List ℕ) → Holds s (message l ws) → Holds s (message l (ws ++ vs))
 unfolding message
 holds-grown l ws vs h = rw (bytes-append ws vs, ← append-assoc l (bytesOf ws) (bytesOf vs)) (holds-longer (l ++ bytesOf ws) (bytesOf vs) h)
+
+-- the first words, and the next
+pub holds-next : {s : Sponge} (l ws : List ℕ) (n : ℕ) → Holds s (message l (take n ws)) → n < length ws → Holds s (message l (take (n + 1) ws))
+holds-next l ws n h k = rw (add-one n, take-suc ws n 0 k) (holds-grown l (take n ws) _ h)
 
 -- ---- the first 8 bytes of output
 

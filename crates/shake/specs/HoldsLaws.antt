@@ -5,7 +5,6 @@ use mathlib.Core.List.{List, []}
 use Prim.Native.Nat.{ℕ}
 use native.Mathlib.Omega.{arith}
 use Rattle.keccak.specs.StateLaws.{lanes-unique}
-use Rattle.keccak.specs.declared.Lanes.{Lanes}
 use Rattle.shake.specs.declared.Sponge.{Sponge}
 use Rattle.shake.specs.Sponge.{absorbed}
 use Rattle.shake.specs.Drawn.{Holds}

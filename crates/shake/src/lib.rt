@@ -62,7 +62,7 @@ fn absorb_block(s: Lanes, label: &[u8], words: &[u32], k: usize) -> Lanes
     permute(xor_block(s, block_lanes(label, words, k)))
 }
 
-// Nothing absorbed, of whatever message.
+// A sponge that has absorbed nothing, of whatever message.
 pub fn start() -> Sponge
     ensures { λ r. ⌜ ((m : List ℕ) → Holds r m) ⌝ }
 {

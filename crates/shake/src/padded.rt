@@ -77,7 +77,7 @@ fn quad_of_words(words: &[u32], j: usize) -> u64
     y / 0x100_0000 + y / 0x1_0000 % 256 * 0x100 + y / 0x100 % 256 * 0x1_0000 + y % 256 * 0x100_0000
 }
 
-// Four bytes of the padded message: at once where they all lie in the words or in the padding's zeros, as nearly all do.
+// Four bytes of the padded message: at once where they all lie in the words or in the padding's zeros.
 fn padded_quad(label: &[u8], words: &[u32], i: usize) -> u64
     requires { ⌜ (length (now label) < 2 ^ 62) × (i + 3 < (length (now label) + 4 * length (now words)) / 168 * 168 + 168) ⌝ }
     ensures { λ r. ⌜ (r ≡ quadAt (padded (message (now (label .entry)) (now (words .entry)))) i) × (r < 2 ^ 32) ⌝ }
@@ -97,14 +97,46 @@ fn padded_quad(label: &[u8], words: &[u32], i: usize) -> u64
     quad_by_bytes(label, words, i)
 }
 
-// Lane i of the padded message.
-fn padded_lane(label: &[u8], words: &[u32], i: usize) -> u64
+// Lane i of the padded message, by its halves.
+fn lane_by_quads(label: &[u8], words: &[u32], i: usize) -> u64
     requires { ⌜ (length (now label) < 2 ^ 62) × (i < (length (now label) + 4 * length (now words)) / 168 * 21 + 21) ⌝ }
     ensures { λ r. ⌜ r ≡ laneAt (padded (message (now (label .entry)) (now (words .entry)))) i ⌝ }
 {
     let low = padded_quad(label, words, 8 * i);
     let high = padded_quad(label, words, 8 * i + 4);
     low + high * 0x1_0000_0000
+}
+
+// Eight bytes of the words, from byte j on.
+fn lane_of_words(words: &[u32], j: usize) -> u64
+    requires { ⌜ j + 8 < 4 * length (now words) ⌝ }
+    ensures { λ r. ⌜ r ≡ quadAt (bytesOf (now (words .entry))) j + quadAt (bytesOf (now (words .entry))) (j + 4) * 2 ^ 32 ⌝ }
+{
+    let low = quad_of_words(words, j);
+    let high = quad_of_words(words, j + 4);
+    low + high * 0x1_0000_0000
+}
+
+// Lane i of the padded message: at once where it lies in the words or after the byte 1f, as nearly all do.
+fn padded_lane(label: &[u8], words: &[u32], i: usize) -> u64
+    requires { ⌜ (length (now label) < 2 ^ 62) × (i < (length (now label) + 4 * length (now words)) / 168 * 21 + 21) ⌝ }
+    ensures { λ r. ⌜ r ≡ laneAt (padded (message (now (label .entry)) (now (words .entry)))) i ⌝ }
+{
+    let at = 8 * i;
+    if at >= label.len() {
+        let j = at - label.len();
+        if j + 8 < 4 * words.len() {
+            return lane_of_words(words, j);
+        }
+    }
+    let size = label.len() + 4 * words.len();
+    if at > size {
+        if at + 7 == size / 168 * 168 + 167 {
+            return 0x8000_0000_0000_0000;
+        }
+        return 0;
+    }
+    lane_by_quads(label, words, i)
 }
 
 // The 21 lanes of block k of the padded message.

@@ -135,8 +135,8 @@ put-fits pairs at k ws ws' line r e d h =
     let f : fitsIn (record { answer = r; words = ws' }) = subst (λ (x : Left). fitsIn x) (sym e) (line-fits pairs at ws line h) in
     subst (λ (x : Placed). fitsIn (record { answer = x; words = ws' })) d f
 
--- The next line begins after the line feed, or at the end.
-started : (text : List ℕ) (end start : ℕ) (t : Bool) → leb (length text) end ≡ t → end ≤ length text → start ≡ min (end + 1) (length text) → drop start text ≡ drop (end + 1) text
+-- What begins after one byte more begins there, or at the end.
+pub started : (text : List ℕ) (end start : ℕ) (t : Bool) → leb (length text) end ≡ t → end ≤ length text → start ≡ min (end + 1) (length text) → drop start text ≡ drop (end + 1) text
 started text end start true l h e =
     let g : length text ≤ end = leb-true (length text) end l in
     let a : length text ≤ start = omega arith in

@@ -4,9 +4,10 @@ use answers::counting::count_up;
 use answers::print_accepted;
 use answers::print_number;
 use answers::print_sum;
+use refusal::Proving;
 use refusal::Refusal;
-use verifier_round::Verdict;
 use stored_sheet::SheetAnswer;
+use verifier_round::Verdict;
 
 // `refused` and the refusal's number.
 pub fn print_refusal(refusal: Refusal) {
@@ -37,8 +38,10 @@ fn show_rows(rows: &[u32], count: usize, work: &mut [u32]) {
     count_up(&mut challenges);
     match agreement::prove_and_verify(
         rows,
-        false,
-        true,
+        Proving {
+            live: false,
+            assert_zero: true,
+        },
         &challenges,
         &mut proof,
         &mut point,

@@ -159,7 +159,9 @@ pub fn summand(t: Entry, lambda: Ext) -> Ext
 // The summands at 1, 2 and 3 of the lines through two weighed entries. At 2 and 3 an entry is found by adding the difference.
 pub fn weighed_summands(t0: Entry, t1: Entry) -> Three
     requires { ⌜ CanonEntry t0 × CanonEntry t1 ⌝ }
-    ensures { λ r. ⌜ IsThree r (weighedAt E.one (dec (t0 .e)) (dec (t1 .e)) (decClaims t0) (decClaims t1)) (weighedAt two (dec (t0 .e)) (dec (t1 .e)) (decClaims t0) (decClaims t1)) (weighedAt three (dec (t0 .e)) (dec (t1 .e)) (decClaims t0) (decClaims t1)) ⌝ }
+    ensures { λ r. ⌜ IsThree r (weighedAt E.one (dec (t0 .e)) (dec (t1 .e)) (decClaims t0) (decClaims t1))
+        (weighedAt two (dec (t0 .e)) (dec (t1 .e)) (decClaims t0) (decClaims t1))
+        (weighedAt three (dec (t0 .e)) (dec (t1 .e)) (decClaims t0) (decClaims t1)) ⌝ }
 {
     let d = entry_minus(t1, t0);
     let t2 = entry_plus(t1, d);
@@ -174,7 +176,9 @@ pub fn weighed_summands(t0: Entry, t1: Entry) -> Three
 // The summands at 1, 2 and 3 of the lines through two entries: lambda is multiplied in twice, and its products go on by additions.
 pub fn summands(t0: Entry, t1: Entry, lambda: Ext) -> Three
     requires { ⌜ CanonEntry t0 × CanonEntry t1 × Canon lambda ⌝ }
-    ensures { λ r. ⌜ IsThree r (summandAt E.one (dec lambda) (dec (t0 .e)) (dec (t1 .e)) (decClaims t0) (decClaims t1)) (summandAt two (dec lambda) (dec (t0 .e)) (dec (t1 .e)) (decClaims t0) (decClaims t1)) (summandAt three (dec lambda) (dec (t0 .e)) (dec (t1 .e)) (decClaims t0) (decClaims t1)) ⌝ }
+    ensures { λ r. ⌜ IsThree r (summandAt E.one (dec lambda) (dec (t0 .e)) (dec (t1 .e)) (decClaims t0) (decClaims t1))
+        (summandAt two (dec lambda) (dec (t0 .e)) (dec (t1 .e)) (decClaims t0) (decClaims t1))
+        (summandAt three (dec lambda) (dec (t0 .e)) (dec (t1 .e)) (decClaims t0) (decClaims t1)) ⌝ }
 {
     weighed_summands(weigh_entry(t0, lambda), weigh_entry(t1, lambda))
 }

@@ -10,6 +10,7 @@ use borrow.Author.Tests.{eq-eqb, ne-eqb}
 use lib.ListN.{length, getD, drop, length-drop, drop-of-length-le}
 use lib.Seq.{drop-cons}
 use Rattle.refusal.specs.Limits.{maxRows}
+use Rattle.refusal.specs.Tests.{firstOf}
 use Rattle.refusal.specs.declared.Refusal.{Refusal}
 use Rattle.refusal.specs.declared.Refusal.the-variants.{RaggedRows, TooManyRows, NotPowerOfTwo, ShortRoom, BadWord}
 use Rattle.wire.specs.Bytes.{be4, bytesOf}
@@ -20,40 +21,40 @@ use Rattle.wire.specs.ByteLaws.{bytes-length}
 use Rattle.stored_sheet.specs.declared.SheetAnswer.{SheetAnswer}
 use Rattle.stored_sheet.specs.declared.SheetAnswer.the-variants.{Done, Refused}
 use Rattle.stored_sheet.specs.Sheet.{sheet}
-use Rattle.stored_sheet.specs.SheetReads.{counted, fitted, writeAnswer, SheetEnd, ended, sheetWritten}
-use Rattle.stored_sheet.specs.SheetLaws.{taken, IsWritten, write-done}
-use Rattle.stored_sheet.proofs.SheetSteps.{counted-many, counted-odd, counted-next, fitted-short, fitted-bad, fitted-done}
+use Rattle.stored_sheet.specs.SheetReads.{sized, tested, writeAnswer, SheetEnd, ended, sheetWritten}
+use Rattle.stored_sheet.specs.SheetLaws.{taken, write-done}
+use Rattle.stored_sheet.proofs.SheetSteps.{sized-many, sized-odd, sized-short, sized-words}
 
 module _ (ws : List ℕ) (room : ℕ) where
+  abbrev need : ℕ
+  need = 3 + 4 * length ws
+
   pub ragged : (length ws % 8 ≡ 0 → ⊥) → Refused RaggedRows ≡ writeAnswer ws room
-  unfolding writeAnswer
+  unfolding writeAnswer firstOf
   ragged h = sym (rw (ne-eqb (length ws % 8) 0 h))
 
   module _ (w : length ws % 8 ≡ 0) where
-    inside : writeAnswer ws room ≡ counted (length ws / 8) (fitted (3 + 4 * length ws) room ws (3 + 4 * length ws))
-    unfolding writeAnswer
+    inside : writeAnswer ws room ≡ tested need (firstOf (sized (length ws / 8) need room ws))
+    unfolding writeAnswer firstOf
     inside = rw (eq-eqb (length ws % 8) 0 w)
 
     pub too-many : maxRows < length ws / 8 → Refused TooManyRows ≡ writeAnswer ws room
-    too-many h = sym (inside ∙ counted-many (length ws / 8) _ h)
+    too-many h = sym (inside ∙ ap (tested need) (sized-many (length ws / 8) need room ws h))
 
     module _ (m : length ws / 8 ≤ maxRows) (t : Bool) (e : t ≡ taken (length ws / 8)) where
       pub no-power : t ≡ false → Refused NotPowerOfTwo ≡ writeAnswer ws room
-      no-power h = sym (inside ∙ counted-odd (length ws / 8) _ m (sym e ∙ h))
+      no-power h = sym (inside ∙ ap (tested need) (sized-odd (length ws / 8) need room ws m (sym e ∙ h)))
 
       module _ (p : t ≡ true) where
-        within : writeAnswer ws room ≡ fitted (3 + 4 * length ws) room ws (3 + 4 * length ws)
-        within = inside ∙ counted-next (length ws / 8) (fitted (3 + 4 * length ws) room ws (3 + 4 * length ws)) m (sym e ∙ p)
-
         pub no-room : room < 3 + 4 * length ws → Refused ShortRoom ≡ writeAnswer ws room
-        no-room h = sym (within ∙ fitted-short (3 + 4 * length ws) room ws (3 + 4 * length ws) h)
+        no-room h = sym (inside ∙ ap (tested need) (sized-short (length ws / 8) need room ws m (sym e ∙ p) h))
 
         module _ (r : 3 + 4 * length ws ≤ room) (b : Bool) (f : b ≡ allCanonical ws) where
           pub bad-word : b ≡ false → Refused BadWord ≡ writeAnswer ws room
-          bad-word h = sym (within ∙ fitted-bad (3 + 4 * length ws) room ws (3 + 4 * length ws) r (sym f ∙ h))
+          bad-word h = sym (inside ∙ ap (tested need) (sized-words (length ws / 8) need room ws m (sym e ∙ p) r false (sym f ∙ h)))
 
           pub write-all : b ≡ true → Done (3 + 4 * length ws) ≡ writeAnswer ws room
-          write-all h = sym (within ∙ fitted-done (3 + 4 * length ws) room ws (3 + 4 * length ws) r (sym f ∙ h))
+          write-all h = sym (inside ∙ ap (tested need) (sized-words (length ws / 8) need room ws m (sym e ∙ p) r true (sym f ∙ h)))
 
 -- THE BYTES
 pub words-turn : (ws : List ℕ) (i : ℕ) → i < length ws → bytesOf (drop i ws) ≡ be4 (getD ws i 0) ++ bytesOf (drop (i + 1) ws)

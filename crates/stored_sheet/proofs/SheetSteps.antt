@@ -6,14 +6,15 @@ use mathlib.Core.List.{List, [], _∷_, _++_, append-assoc}
 use Prim.Native.Nat.{ℕ, zero, suc, _+_, _*_, _-_, _/_, _%_, _<_, _≤_}
 use native.Mathlib.Numerals.{add-one}
 use native.Mathlib.Omega.{arith}
-use borrow.Author.Tests.{eq-eqb, ne-eqb, le-leb, lt-leb}
-use lib.Dec.{eqb, leb}
+use borrow.Author.Tests.{eq-eqb, ne-eqb, le-ltb, lt-ltb}
+use lib.Dec.{eqb}
 use lib.ListN.{length, getD, take, drop, set}
 use lib.Seq.{drop-cons, drop-drop, getD-drop, set-at}
 use Rattle.refusal.specs.Limits.{maxRows}
 use Rattle.refusal.specs.Powers.{powerOfTwo}
+use Rattle.refusal.specs.Tests.{Tested, passed, refused, firstOf}
 use Rattle.refusal.specs.declared.Refusal.{Refusal}
-use Rattle.refusal.specs.declared.Refusal.the-variants.{RaggedRows, TooManyRows, NotPowerOfTwo, ShortRoom, BadWord, BadVersion, BadLength}
+use Rattle.refusal.specs.declared.Refusal.the-variants.{TooManyRows, NotPowerOfTwo, ShortRoom, BadWord, BadVersion, BadLength}
 use Rattle.wire.specs.Bytes.{word, wordsFrom}
 use Rattle.wire.specs.Words.{allCanonical, firstBad}
 use Rattle.wire.specs.ByteLaws.{words-length, words-add}
@@ -21,8 +22,8 @@ use Rattle.wire.specs.WordLaws.{none-canonical, some-bad}
 use Rattle.stored_sheet.specs.declared.SheetAnswer.{SheetAnswer}
 use Rattle.stored_sheet.specs.declared.SheetAnswer.the-variants.{Done, Refused}
 use Rattle.stored_sheet.specs.Sheet.{sheet, rowCount, rowWords}
-use Rattle.stored_sheet.specs.SheetReads.{counted, fitted, readAnswer, writeAnswer, SheetEnd, ended, sheetRead, sheetWritten}
-use Rattle.stored_sheet.specs.SheetLaws.{taken, IsRead, read-done, IsWritten, write-done, sheet-size}
+use Rattle.stored_sheet.specs.SheetReads.{sized, tested, readAnswer, SheetEnd, ended, sheetRead}
+use Rattle.stored_sheet.specs.SheetLaws.{taken, read-done}
 
 -- a count of rows
 pub taken-none : (n : ℕ) → n ≡ 0 → true ≡ taken n
@@ -31,27 +32,28 @@ taken-none n e = sym (ap (λ t. cond t true (powerOfTwo n)) (eq-eqb n 0 e))
 pub taken-some : (n : ℕ) (r : Bool) → (n ≡ 0 → ⊥) → r ≡ powerOfTwo n → r ≡ taken n
 taken-some n r h e = e ∙ sym (ap (λ t. cond t true (powerOfTwo n)) (ne-eqb n 0 h))
 
-module _ (n : ℕ) (x : SheetAnswer) where
-  pub counted-many : maxRows < n → counted n x ≡ Refused TooManyRows
-  counted-many h = rw (lt-leb n maxRows h)
+module _ (n need room : ℕ) (ws : List ℕ) where
+  abbrev outcome : Tested
+  outcome = firstOf (sized n need room ws)
+
+  pub sized-many : maxRows < n → outcome ≡ refused TooManyRows
+  unfolding firstOf
+  sized-many h = rw (lt-ltb maxRows n h)
 
   module _ (m : n ≤ maxRows) where
-    pub counted-odd : taken n ≡ false → counted n x ≡ Refused NotPowerOfTwo
-    counted-odd p = rw (le-leb n maxRows m, p)
+    pub sized-odd : taken n ≡ false → outcome ≡ refused NotPowerOfTwo
+    unfolding firstOf
+    sized-odd p = rw (le-ltb maxRows n m, p)
 
-    pub counted-next : taken n ≡ true → counted n x ≡ x
-    counted-next p = rw (le-leb n maxRows m, p)
+    module _ (p : taken n ≡ true) where
+      pub sized-short : room < need → outcome ≡ refused ShortRoom
+      unfolding firstOf
+      sized-short h = rw (le-ltb maxRows n m, p, lt-ltb room need h)
 
-module _ (need room : ℕ) (ws : List ℕ) (n : ℕ) where
-  pub fitted-short : room < need → fitted need room ws n ≡ Refused ShortRoom
-  fitted-short h = rw (lt-leb need room h)
-
-  module _ (r : need ≤ room) where
-    pub fitted-bad : allCanonical ws ≡ false → fitted need room ws n ≡ Refused BadWord
-    fitted-bad h = rw (le-leb need room r, h)
-
-    pub fitted-done : allCanonical ws ≡ true → fitted need room ws n ≡ Done n
-    fitted-done h = rw (le-leb need room r, h)
+      pub sized-words : need ≤ room → (b : Bool) → allCanonical ws ≡ b → outcome ≡ cond b passed (refused BadWord)
+      unfolding firstOf
+      sized-words r true h = rw (le-ltb maxRows n m, p, le-ltb room need r, h)
+      sized-words r false h = rw (le-ltb maxRows n m, p, le-ltb room need r, h)
 
 -- THE READER
 pub count-read : (bs : List ℕ) (a b : ℕ) → a ≡ getD bs 1 0 → b ≡ getD bs 2 0 → a * 256 + b ≡ rowCount bs
@@ -59,48 +61,48 @@ count-read bs a b p q = ap₂ (λ (x y : ℕ). x * 256 + y) (p ∙ sym (getD-dro
 
 module _ (bs : List ℕ) (room : ℕ) where
   pub no-version : (getD bs 0 0 ≡ 1 → ⊥) → Refused BadVersion ≡ readAnswer bs room
-  unfolding readAnswer
+  unfolding readAnswer firstOf
   no-version h = sym (rw (ne-eqb (getD bs 0 0) 1 h))
 
   module _ (v : getD bs 0 0 ≡ 1) where
     pub too-short : length bs < 3 → Refused BadLength ≡ readAnswer bs room
-    unfolding readAnswer
+    unfolding readAnswer firstOf
     too-short h = sym (rw (eq-eqb (getD bs 0 0) 1 v, ne-eqb (3 + 32 * rowCount bs) (length bs) (λ e. omega arith)))
 
     module _ (n : ℕ) (c : n ≡ rowCount bs) where
       pub wrong-length : (length bs ≡ 3 + 32 * n → ⊥) → Refused BadLength ≡ readAnswer bs room
-      unfolding readAnswer
+      unfolding readAnswer firstOf
       wrong-length h = sym (rw (eq-eqb (getD bs 0 0) 1 v, ne-eqb (3 + 32 * rowCount bs) (length bs) (λ e. h (omega (arith, c, e)))))
 
       module _ (l : length bs ≡ 3 + 32 * n) where
-        inside : readAnswer bs room ≡ counted n (fitted (8 * n) room (wordsFrom (8 * n) (drop 3 bs)) n)
-        unfolding readAnswer
+        abbrev words : List ℕ
+        words = wordsFrom (8 * n) (drop 3 bs)
+
+        inside : readAnswer bs room ≡ tested n (firstOf (sized n (8 * n) room words))
+        unfolding readAnswer firstOf
         inside =
             rw (eq-eqb (getD bs 0 0) 1 v, eq-eqb (3 + 32 * rowCount bs) (length bs) (omega (arith, c, l)))
-            (ap (λ k. counted k (fitted (8 * k) room (wordsFrom (8 * k) (drop 3 bs)) k)) (sym c))
+            (ap (λ k. tested k (firstOf (sized k (8 * k) room (wordsFrom (8 * k) (drop 3 bs))))) (sym c))
 
         pub too-many : maxRows < n → Refused TooManyRows ≡ readAnswer bs room
-        too-many h = sym (inside ∙ counted-many n _ h)
+        too-many h = sym (inside ∙ ap (tested n) (sized-many n (8 * n) room words h))
 
         module _ (m : n ≤ maxRows) (t : Bool) (e : t ≡ taken n) where
           pub no-power : t ≡ false → Refused NotPowerOfTwo ≡ readAnswer bs room
-          no-power h = sym (inside ∙ counted-odd n _ m (sym e ∙ h))
+          no-power h = sym (inside ∙ ap (tested n) (sized-odd n (8 * n) room words m (sym e ∙ h)))
 
           module _ (p : t ≡ true) where
-            within : readAnswer bs room ≡ fitted (8 * n) room (wordsFrom (8 * n) (drop 3 bs)) n
-            within = inside ∙ counted-next n (fitted (8 * n) room (wordsFrom (8 * n) (drop 3 bs)) n) m (sym e ∙ p)
-
             pub no-room : room < 8 * n → Refused ShortRoom ≡ readAnswer bs room
-            no-room h = sym (within ∙ fitted-short (8 * n) room (wordsFrom (8 * n) (drop 3 bs)) n h)
+            no-room h = sym (inside ∙ ap (tested n) (sized-short n (8 * n) room words m (sym e ∙ p) h))
 
             module _ (r : 8 * n ≤ room) (b : ℕ) (f : b ≡ firstBad (wordsFrom (8 * n) (drop 3 bs))) where
               pub bad-word : b < 8 * n → Refused BadWord ≡ readAnswer bs room
               bad-word h =
-                  sym (within ∙ fitted-bad (8 * n) room (wordsFrom (8 * n) (drop 3 bs)) n r (some-bad (wordsFrom (8 * n) (drop 3 bs)) (omega (arith, words-length (8 * n) (drop 3 bs), f))))
+                  sym (inside ∙ ap (tested n) (sized-words n (8 * n) room words m (sym e ∙ p) r false (some-bad words (omega (arith, words-length (8 * n) (drop 3 bs), f)))))
 
               pub read-all : 8 * n ≤ b → Done n ≡ readAnswer bs room
               read-all h =
-                  sym (within ∙ fitted-done (8 * n) room (wordsFrom (8 * n) (drop 3 bs)) n r (none-canonical (wordsFrom (8 * n) (drop 3 bs)) (omega (arith, words-length (8 * n) (drop 3 bs), f))))
+                  sym (inside ∙ ap (tested n) (sized-words n (8 * n) room words m (sym e ∙ p) r true (none-canonical words (omega (arith, words-length (8 * n) (drop 3 bs), f)))))
 
 -- one word more is copied
 pub copy-more : (bs old : List ℕ) (i w : ℕ) → i < length old → w ≡ word (drop (3 + 4 * i) bs)

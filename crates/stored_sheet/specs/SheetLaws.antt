@@ -1,31 +1,34 @@
 -- Sheets: what a sheet that is read says of its bytes, and that rows and their stored form are one thing.
 -- Assumes nothing.
 use mathlib.Core.Path.{_≡_, refl, sym, _∙_, ap, ap₂}
-use mathlib.Core.Bool.{Bool, true, false, cond}
+use mathlib.Core.Bool.{Bool, true, cond}
 use mathlib.Core.List.{List, [], _∷_, _++_, append-nil}
 use Prim.Native.Nat.{ℕ, suc, _+_, _*_, _-_, _/_, _%_, _<_, _≤_}
 use native.Mathlib.Numerals.{add-one}
 use native.Mathlib.Omega.{arith}
-use borrow.Author.Tests.{eqb-true, eq-eqb, leb-true, le-leb}
-use lib.Dec.{eqb, leb}
-use lib.ListN.{length, getD, take, drop, length-drop}
+use borrow.Author.Tests.{eqb-true, eq-eqb, ltb-false, le-ltb, not-false}
+use lib.Dec.{eqb}
+use lib.ListN.{length, getD, take, drop, length-drop, length-append}
 use lib.Seq.{drop-cons, drop-drop, getD-drop, take-all}
 use Rattle.refusal.specs.Limits.{maxRows}
 use Rattle.refusal.specs.Powers.{powerOfTwo}
-use Rattle.refusal.specs.declared.Refusal.{Refusal}
-use Rattle.refusal.specs.declared.Refusal.the-variants.{RaggedRows, TooManyRows, NotPowerOfTwo, ShortRoom, BadWord, BadVersion, BadLength}
+use Rattle.refusal.specs.Tests.{Test, Tested, passed, refused, firstOf}
+use Rattle.refusal.specs.TestLaws.{NoneMet, passed-all}
 use Rattle.wire.specs.Bytes.{be2, half, wordsFrom, bytesOf, Bytes}
 use Rattle.wire.specs.Words.{allCanonical}
 use Rattle.wire.specs.ByteLaws.{bytes-drop, bytes-back, bytes-length, half-back, half-digits, words-back, words-length}
 use Rattle.stored_sheet.specs.declared.SheetAnswer.{SheetAnswer}
 use Rattle.stored_sheet.specs.declared.SheetAnswer.the-variants.{Done, Refused}
 use Rattle.stored_sheet.specs.Sheet.{sheet, rowCount, rowWords}
-use Rattle.stored_sheet.specs.SheetReads.{counted, fitted, readAnswer, writeAnswer, SheetEnd, ended, sheetRead, sheetWritten}
+use Rattle.stored_sheet.specs.SheetReads.{tested, readAnswer, writeAnswer, SheetEnd, ended, sheetRead}
 
--- a test passed
-pub passed : (t : Bool) (x : SheetAnswer) (r : Refusal) (k : ℕ) → cond t x (Refused r) ≡ Done k → (t ≡ true) × (x ≡ Done k)
-passed true x r k h = (refl, h)
-passed false x r k h = absurd (let z : _≡_ {A = ℕ} 0 1 = cc in omega arith)
+-- done has passed all tests
+was-passed : (n k : ℕ) (t : Tested) → tested n t ≡ Done k → (t ≡ passed) × (n ≡ k)
+was-passed n k passed h = (refl, cc h)
+was-passed n k (refused e) h = absurd (let z : _≡_ {A = ℕ} 0 1 = cc in omega arith)
+
+tests-passed : (n k : ℕ) (ts : List Test) → tested n (firstOf ts) ≡ Done k → NoneMet ts × (n ≡ k)
+tests-passed n k ts h = let w = was-passed n k (firstOf ts) h in (passed-all ts (w .0), w .1)
 
 -- the test on a row count
 abbrev pub taken : ℕ → Bool
@@ -44,32 +47,46 @@ pub record IsRead (bs : List ℕ) (space n : ℕ) : Type 0 where
 pub read-done : (bs : List ℕ) (room n : ℕ) → readAnswer bs room ≡ Done n → IsRead bs room n
 unfolding readAnswer
 read-done bs room n h =
-    let N = rowCount bs in
-    let x6 = cond (allCanonical (rowWords bs)) (Done N) (Refused BadWord) in
-    let x5 = cond (leb (8 * N) room) x6 (Refused ShortRoom) in
-    let x3 = cond (taken N) x5 (Refused NotPowerOfTwo) in
-    let x2 = cond (leb N maxRows) x3 (Refused TooManyRows) in
-    let p12 = passed (eqb (getD bs 0 0) 1) (cond (eqb (3 + 32 * N) (length bs)) x2 (Refused BadLength)) BadVersion n h in
-    let p13 = passed (eqb (3 + 32 * N) (length bs)) x2 BadLength n (p12 .1) in
-    let p2 = passed (leb N maxRows) x3 TooManyRows n (p13 .1) in
-    let p3 = passed (taken N) x5 NotPowerOfTwo n (p2 .1) in
-    let p5 = passed (leb (8 * N) room) x6 ShortRoom n (p3 .1) in
-    let p6 = passed (allCanonical (rowWords bs)) (Done N) BadWord n (p5 .1) in
-    let d = p6 .1 in
+    let (none, count) = tests-passed (rowCount bs) n _ h in
+    let sizes = none .1 .1 in
     record {
-      version = eqb-true (getD bs 0 0) 1 (p12 .0);
-      size = eqb-true (3 + 32 * N) (length bs) (p13 .0);
-      most = leb-true N maxRows (p2 .0);
-      power = p3 .0;
-      room = leb-true (8 * N) room (p5 .0);
-      canonical = p6 .0;
-      count = cc d;
+      version = eqb-true _ _ (not-false _ (none .0));
+      size = eqb-true _ _ (not-false _ (none .1 .0));
+      most = ltb-false _ _ (sizes .0);
+      power = not-false _ (sizes .1 .0);
+      room = ltb-false _ _ (sizes .1 .1 .0);
+      canonical = not-false _ (sizes .1 .1 .1 .0);
+      count = count;
     }
 
 pub read-ok : (bs : List ℕ) (room n : ℕ) → IsRead bs room n → readAnswer bs room ≡ Done n
-unfolding readAnswer
+unfolding readAnswer firstOf
 read-ok bs room n r =
-    rw (eq-eqb (getD bs 0 0) 1 (r .version), eq-eqb (3 + 32 * rowCount bs) (length bs) (r .size), le-leb (rowCount bs) maxRows (r .most), r .power, le-leb (8 * rowCount bs) room (r .room), r .canonical) (ap Done (r .count))
+    rw (eq-eqb (getD bs 0 0) 1 (r .version), eq-eqb (3 + 32 * rowCount bs) (length bs) (r .size), le-ltb maxRows (rowCount bs) (r .most), r .power, le-ltb room (8 * rowCount bs) (r .room), r .canonical) (ap Done (r .count))
+
+-- what is read of a sheet, by the reader's end: its buffer begins with the rows
+answered : (a : SheetAnswer) (ws old : List ℕ) → ended a ws old .answer ≡ a
+answered (Done n) ws old = refl
+answered (Refused e) ws old = refl
+
+module _ (bs old new : List ℕ) (n : ℕ) {r : SheetAnswer} (e : _≡_ {A = SheetEnd} (record { answer = r; buffer = new }) (sheetRead bs old)) (d : r ≡ Done n) where
+  done : readAnswer bs (length old) ≡ Done n
+  done = sym (answered (readAnswer bs (length old)) (rowWords bs) old) ∙ sym (ap (λ o. o .answer) e) ∙ d
+
+  pub is-read : IsRead bs (length old) n
+  is-read = read-done bs (length old) n done
+
+  pub read-front : new ≡ rowWords bs ++ drop (length (rowWords bs)) old
+  read-front = ap (λ o. o .buffer) e ∙ ap (λ x. ended x (rowWords bs) old .buffer) done
+
+  pub read-long : length (rowWords bs) ≡ 8 * n
+  read-long = words-length (8 * rowCount bs) (drop 3 bs) ∙ ap (λ k. 8 * k) (is-read .count)
+
+  pub read-most : n ≤ maxRows
+  read-most = omega (arith, is-read .most, is-read .count)
+
+  pub read-fits : 8 * n ≤ length new
+  read-fits = let l = ap length read-front ∙ length-append (rowWords bs) (drop (length (rowWords bs)) old) in omega (arith, read-long, l)
 
 -- rows that are written
 pub record IsWritten (ws : List ℕ) (space n : ℕ) : Type 0 where
@@ -83,31 +100,21 @@ pub record IsWritten (ws : List ℕ) (space n : ℕ) : Type 0 where
 pub write-done : (ws : List ℕ) (room n : ℕ) → writeAnswer ws room ≡ Done n → IsWritten ws room n
 unfolding writeAnswer
 write-done ws room n h =
-    let N = length ws / 8 in
-    let need = 3 + 4 * length ws in
-    let x6 = cond (allCanonical ws) (Done need) (Refused BadWord) in
-    let x5 = cond (leb need room) x6 (Refused ShortRoom) in
-    let x3 = cond (taken N) x5 (Refused NotPowerOfTwo) in
-    let x2 = cond (leb N maxRows) x3 (Refused TooManyRows) in
-    let p1 = passed (eqb (length ws % 8) 0) x2 RaggedRows n h in
-    let p2 = passed (leb N maxRows) x3 TooManyRows n (p1 .1) in
-    let p3 = passed (taken N) x5 NotPowerOfTwo n (p2 .1) in
-    let p5 = passed (leb need room) x6 ShortRoom n (p3 .1) in
-    let p6 = passed (allCanonical ws) (Done need) BadWord n (p5 .1) in
-    let d = p6 .1 in
+    let (none, size) = tests-passed (3 + 4 * length ws) n _ h in
+    let sizes = none .1 in
     record {
-      whole = eqb-true (length ws % 8) 0 (p1 .0);
-      most = leb-true N maxRows (p2 .0);
-      power = p3 .0;
-      room = leb-true need room (p5 .0);
-      canonical = p6 .0;
-      size = cc d;
+      whole = eqb-true _ _ (not-false _ (none .0));
+      most = ltb-false _ _ (sizes .0);
+      power = not-false _ (sizes .1 .0);
+      room = ltb-false _ _ (sizes .1 .1 .0);
+      canonical = not-false _ (sizes .1 .1 .1 .0);
+      size = size;
     }
 
 pub write-ok : (ws : List ℕ) (room n : ℕ) → IsWritten ws room n → writeAnswer ws room ≡ Done n
-unfolding writeAnswer
+unfolding writeAnswer firstOf
 write-ok ws room n r =
-    rw (eq-eqb (length ws % 8) 0 (r .whole), le-leb (length ws / 8) maxRows (r .most), r .power, le-leb (3 + 4 * length ws) room (r .room), r .canonical) (ap Done (r .size))
+    rw (eq-eqb (length ws % 8) 0 (r .whole), le-ltb maxRows (length ws / 8) (r .most), r .power, le-ltb room (3 + 4 * length ws) (r .room), r .canonical) (ap Done (r .size))
 
 -- BYTES, READ, AND WRITTEN AGAIN
 next : (bs : List ℕ) (i : ℕ) → i < length bs → getD bs i 0 ∷ drop (i + 1) bs ≡ drop i bs

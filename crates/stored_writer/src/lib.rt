@@ -128,7 +128,9 @@ fn put_header(out: &mut [u8], size: u32) -> usize
 // q0, and all claims after their count.
 fn put_front(out: &mut [u8], at: usize, log: &[u32], i: usize, n: usize) -> usize
     requires { ⌜ (1 ≤ n) × (n < 256) × (at + (64 * n + 17) ≤ length (now out)) × (4 * i + logWords n ≤ length (now log)) ⌝ }
-    ensures { λ r. ⌜ Wrote (now (out .entry)) (now (out .exit)) at r (((bytesOf (extWords (enc (cell (now (log .entry)) i))) ++ (n ∷ [])) ++ bytesOf (claimWords (storedClaims (now (log .entry)) (i + 1)))) ++ bytesOf (claimsWords (storedLayers (now (log .entry)) (i + 6) 1 (n - 1)))) ⌝ }
+    ensures { λ r. ⌜ Wrote (now (out .entry)) (now (out .exit)) at r
+        (((bytesOf (extWords (enc (cell (now (log .entry)) i))) ++ (n ∷ [])) ++ bytesOf (claimWords (storedClaims (now (log .entry)) (i + 1))))
+        ++ bytesOf (claimsWords (storedLayers (now (log .entry)) (i + 6) 1 (n - 1)))) ⌝ }
 {
     let b = put_cell(out, at, log, i);
     let c = wire::put_byte(out, b, n as u8);

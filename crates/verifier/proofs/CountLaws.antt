@@ -15,12 +15,13 @@ use Rattle.multilinear.specs.RoundSum.{Claims}
 use Rattle.gkr.specs.Run.{Cubic, Proof}
 use Rattle.gkr.specs.Transcripts.{Words, empty, Source}
 use Rattle.gkr.specs.Count.{run-cost, words, draws}
-use Rattle.gkr.specs.Sizes.{challenges, log-words}
+use Rattle.gkr.specs.Sizes.{challenges}
 use Rattle.gkr.specs.Gkr as Gkr
 use Rattle.gkr.specs.Gkr.{layer-count, poly-count}
 use Rattle.transcript.specs.Log.{Drawing}
 use Rattle.refusal.specs.declared.Refusal.{Refusal}
 use Rattle.refusal.specs.declared.Refusal.the-variants.{IncorrectLayerCount, IncorrectSumcheckPolyCount}
+use Rattle.sizes.specs.Sizes.{logRoom}
 use Rattle.wire.specs.Bytes.{elem}
 use Rattle.wire.specs.Words.{allCanonical, extWords}
 use Rattle.wire.specs.WordLaws.{canonical-left, canonical-right, canonical-elem}
@@ -137,7 +138,7 @@ module _ (bs pt lg ch : List ℕ) (n : ℕ) (o : Outline) (r : Ready bs pt lg ch
   ready-space =
       let w = words k in
       let d = draws k in
-      let e : log-words true n ≡ log-words true (suc k) = ap (log-words true) k-is in
+      let e : logRoom true n ≡ logRoom true (suc k) = ap (logRoom true) k-is in
       let f : challenges n ≡ challenges (suc k) = ap challenges k-is in
       record { put = omega (arith, w, e, r .log-room); enough = record { room = omega (arith, d, f, r .chals); clean = r .clean } }
 

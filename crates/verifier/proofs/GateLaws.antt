@@ -10,12 +10,13 @@ use lib.Dec.{eqb, ltb}
 use lib.ListN.{length, getD, take, drop}
 use Rattle.field.specs.declared.Ext.{Ext}
 use Rattle.gkr.specs.Run.{Proof}
-use Rattle.gkr.specs.Sizes.{challenges, log-words}
+use Rattle.gkr.specs.Sizes.{challenges}
 use Rattle.refusal.specs.Limits.{maxRounds}
 use Rattle.refusal.specs.declared.Refusal.{Refusal}
 use Rattle.refusal.specs.declared.Refusal.the-variants.{ShortChallenges, ShortRoom, BadWord, ZeroRounds, TooManyRounds, BadVersion, BadLength}
 use Rattle.refusal.specs.Tests.{Test, Tested, passed, refused, test, firstOf}
 use Rattle.refusal.specs.TestLaws.{passed-all}
+use Rattle.sizes.specs.Sizes.{logRoom}
 use Rattle.wire.specs.Words.{allCanonical}
 use Rattle.stored.specs.declared.Outline.{Outline}
 use Rattle.stored.specs.declared.Shape.{Shape}
@@ -86,15 +87,15 @@ module _ (a : Asked) (points logs : ℕ) where
         unfolding firstOf
         way-5 h = enough ∙ rw (lt-ltb points (4 * n) h)
 
-        module _ (h4 : 4 * n ≤ points) (l : ℕ) (le : l ≡ log-words true n) where
+        module _ (h4 : 4 * n ≤ points) (l : ℕ) (le : l ≡ logRoom true n) where
           pub way-5-log : logs < l → way ≡ refused ShortRoom
           unfolding firstOf
-          way-5-log h = enough ∙ rw (le-ltb points (4 * n) h4, lt-ltb logs (log-words true n) (subst (λ m. logs < m) le h))
+          way-5-log h = enough ∙ rw (le-ltb points (4 * n) h4, lt-ltb logs (logRoom true n) (subst (λ m. logs < m) le h))
 
           module _ (h5 : l ≤ logs) where
             roomy : way ≡ firstOf (drop 4 (tests a points logs))
             unfolding firstOf
-            roomy = enough ∙ rw (le-ltb points (4 * n) h4, le-ltb logs (log-words true n) (subst (λ m. m ≤ logs) le h5))
+            roomy = enough ∙ rw (le-ltb points (4 * n) h4, le-ltb logs (logRoom true n) (subst (λ m. m ≤ logs) le h5))
 
             pub way-12-13 : (r : Shape) (e : Refusal) → r ≡ shapeOf (parse (a .proof)) → r ≡ Refused e → way ≡ refused e
             unfolding parse
@@ -125,20 +126,20 @@ pub record Passes (a : Asked) (points logs : ℕ) : Type 0 where
   pub few : a .rounds ≤ maxRounds
   pub chals : 4 * challenges (a .rounds) ≤ length (a .challenges)
   pub room : 4 * a .rounds ≤ points
-  pub log-room : log-words true (a .rounds) ≤ logs
+  pub log-room : logRoom true (a .rounds) ≤ logs
   pub canon : allCanonical (proofWords (proofOf (a .proof))) ≡ true
   pub clean : allCanonical (needed a) ≡ true
 
 pub passes : {a : Asked} {points logs : ℕ} {o : Outline} → Opened a points logs o → Passes a points logs
 passes {a} {points} {logs} g =
     let m = passed-all (tests a points logs) (g .passes) in
-    let r = neither (ltb points (4 * a .rounds)) (ltb logs (log-words true (a .rounds))) (m .1 .1 .1 .0) in
+    let r = neither (ltb points (4 * a .rounds)) (ltb logs (logRoom true (a .rounds))) (m .1 .1 .1 .0) in
     record {
       some = omega (arith, eqb-false (a .rounds) 0 (m .0));
       few = ltb-false maxRounds (a .rounds) (m .1 .0);
       chals = ltb-false (length (a .challenges)) (4 * challenges (a .rounds)) (m .1 .1 .0);
       room = ltb-false points (4 * a .rounds) (r .0);
-      log-room = ltb-false logs (log-words true (a .rounds)) (r .1);
+      log-room = ltb-false logs (logRoom true (a .rounds)) (r .1);
       canon = not-false _ (m .1 .1 .1 .1 .1 .1 .0);
       clean = not-false _ (m .1 .1 .1 .1 .1 .1 .1 .0);
     }
@@ -151,7 +152,7 @@ opens-all a points logs r h =
       le-ltb maxRounds (a .rounds) (h .few),
       le-ltb (length (a .challenges)) (4 * challenges (a .rounds)) (h .chals),
       le-ltb points (4 * a .rounds) (h .room),
-      le-ltb logs (log-words true (a .rounds)) (h .log-room),
+      le-ltb logs (logRoom true (a .rounds)) (h .log-room),
       eq-eqb (getD (a .proof) 0 0) 1 (r .version),
       reads-fits (a .proof) r,
       h .canon,

@@ -1,4 +1,4 @@
-pub mod SizeLaws
+pub mod Copying
 pub mod GateLaws
 pub mod CountLaws
 pub mod EndLaws

@@ -9,12 +9,13 @@ use Rattle.field.specs.Ext as E
 use Rattle.field.specs.Extension.{Extension}
 use Rattle.field.specs.Cells.{Clean}
 use Rattle.gkr.specs.Transcripts.{Source, empty}
-use Rattle.gkr.specs.Sizes.{challenges, log-words}
+use Rattle.gkr.specs.Sizes.{challenges}
 use Rattle.gkr.specs.Gkr as Gkr
 use Rattle.transcript.specs.declared.Pos.{Pos}
 use Rattle.transcript.specs.Log.{Drawing}
 use Rattle.refusal.specs.declared.Refusal.the-variants.{BadWord}
 use Rattle.refusal.specs.Tests.{passed, refused, firstOf}
+use Rattle.sizes.specs.Sizes.{logRoom}
 use Rattle.wire.specs.Words.{allCanonical}
 use Rattle.stored.specs.declared.Outline.{Outline}
 use Rattle.stored.specs.Layout.{proofWords}
@@ -49,7 +50,7 @@ pub record Ready (bs pt lg ch : List ℕ) (n : ℕ) (o : Outline) : Type 0 where
   pub shaped : Shaped bs o
   pub canon : allCanonical (proofWords (proofOf bs)) ≡ true
   pub room : 4 * n ≤ length pt
-  pub log-room : log-words true n ≤ length lg
+  pub log-room : logRoom true n ≤ length lg
   pub chals : 4 * challenges n ≤ length ch
   pub points : Clean pt
   pub clean : Clean ch

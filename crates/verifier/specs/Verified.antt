@@ -7,7 +7,7 @@ use lib.Dec.{eqb, ltb}
 use lib.ListN.{length, getD, take}
 use Rattle.field.specs.Ext as E
 use Rattle.field.specs.Extension.{Extension}
-use Rattle.gkr.specs.Sizes.{challenges, log-words}
+use Rattle.gkr.specs.Sizes.{challenges}
 use Rattle.gkr.specs.Gkr as Gkr
 use Rattle.gkr.specs.Transcripts.{empty, Source}
 use Rattle.transcript.specs.Log.{Drawing, supplied}
@@ -15,6 +15,7 @@ use Rattle.refusal.specs.Limits.{maxRounds}
 use Rattle.refusal.specs.declared.Refusal.the-variants.{ShortChallenges, ShortRoom, BadWord, ZeroRounds, TooManyRounds, BadVersion, BadLength}
 use Rattle.refusal.specs.Tests.{Test, Tested, passed, refused, test, firstOf}
 use Rattle.refusal.specs.Fronts.{over}
+use Rattle.sizes.specs.Sizes.{logRoom}
 use Rattle.wire.specs.Words.{allCanonical}
 use Rattle.stored.specs.Layout.{proofWords}
 use Rattle.stored.specs.Parse.{fits, proofOf}
@@ -55,7 +56,7 @@ abbrev pub tests : Asked → (points logs : ℕ) → List Test
 tests a points logs = test (eqb (a .rounds) 0) ZeroRounds
     ∷ test (ltb maxRounds (a .rounds)) TooManyRounds
     ∷ test (ltb (length (a .challenges)) (4 * challenges (a .rounds))) ShortChallenges
-    ∷ test (ltb points (4 * a .rounds) || ltb logs (log-words true (a .rounds))) ShortRoom
+    ∷ test (ltb points (4 * a .rounds) || ltb logs (logRoom true (a .rounds))) ShortRoom
     ∷ test (not (eqb (getD (a .proof) 0 0) 1)) BadVersion
     ∷ test (not (fits (a .proof))) BadLength
     ∷ test (not (allCanonical (proofWords (proofOf (a .proof))))) BadWord

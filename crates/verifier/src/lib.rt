@@ -1,44 +1,25 @@
 // The verifier over the stored bytes of a proof: refusals in document 01's order, then the run.
 ghost use mathlib.Core.Path.{_≡_};
-ghost use mathlib.Core.Bool.{true};
 ghost use mathlib.Core.List.{_++_};
-ghost use Prim.Native.Nat.{_+_, _*_, _≤_};
+ghost use Prim.Native.Nat.{_≤_};
 ghost use lib.ListN.{length, take, drop};
 ghost use Rattle.stored.specs.ParseLaws.{Shaped};
-ghost use Rattle.gkr.specs.Sizes.{challenges, log-words};
-ghost use Rattle.refusal.specs.Limits.{maxRounds};
 ghost use Rattle.transcript.specs.Log.{supplied};
 ghost use Rattle.verifier_round.specs.declared.Verdict.the-variants.{Accepted};
 ghost use Rattle.verifier.specs.Verified.{asked, lent, outcome, verified};
 ghost use Rattle.verifier.specs.Gates.{wordsGate, Gated, Opened, Ready, Counted, pointLeft, answered};
 use refusal::Refusal;
-use verifier_round::Advance;
-use verifier_round::Layer;
-use verifier_round::Verdict;
 use stored::Outline;
 use stored::Shape;
 use transcript::Pos;
+use verifier_round::Advance;
+use verifier_round::Layer;
+use verifier_round::Verdict;
 
 // What the checks before the run answer.
 pub enum Gate {
     Open(Outline),
     Shut(Refusal),
-}
-
-// The words of challenges that so many rounds take.
-pub fn challenge_words(rounds: usize) -> usize
-    requires { ⌜ (1 ≤ rounds) × (rounds ≤ maxRounds) ⌝ }
-    ensures { λ r. ⌜ r ≡ 4 * challenges rounds ⌝ }
-{
-    4 * (2 * rounds - 1 + rounds * (rounds - 1) / 2)
-}
-
-// The words of the log.
-pub fn log_words(rounds: usize) -> usize
-    requires { ⌜ rounds ≤ maxRounds ⌝ }
-    ensures { λ r. ⌜ r ≡ log-words true rounds ⌝ }
-{
-    8 * (rounds * rounds) + 16 * rounds
 }
 
 // The words of the proof, then the challenges.
@@ -65,14 +46,14 @@ fn check(proof: &[u8], rounds: usize, challenges: &[u32], points: usize, logs: u
     if refusal::MAX_ROUNDS < rounds {
         return Gate::Shut(Refusal::TooManyRounds);
     }
-    let needs = challenge_words(rounds);
+    let needs = sizes::challenge_words(rounds);
     if challenges.len() < needs {
         return Gate::Shut(Refusal::ShortChallenges);
     }
     if points < 4 * rounds {
         return Gate::Shut(Refusal::ShortRoom);
     }
-    if logs < log_words(rounds) {
+    if logs < sizes::log_words(true, rounds) {
         return Gate::Shut(Refusal::ShortRoom);
     }
     match stored::read_shape(proof) {
@@ -164,7 +145,7 @@ fn run(
     requires { ⌜ Opened (asked (now proof) rounds (now challenges)) (length (now point)) (length (now log)) outline ⌝ }
     ensures { λ r. ⌜ outcome r (now (point .exit)) (now (log .exit)) ≡ verified (asked (now (proof .entry)) rounds (now (challenges .entry))) (lent (now (point .entry)) (now (log .entry))) ⌝ }
 {
-    let needs = challenge_words(rounds);
+    let needs = sizes::challenge_words(rounds);
     let mut xi = [0u32; 4 * refusal::MAX_ROUNDS];
     let end = verify_counted(proof, rounds, outline, &mut xi, log, &challenges[..needs]);
     leave_point(end, &xi, point, 4 * rounds);

@@ -49,8 +49,8 @@ pub fn verify_gkr_sumcheck(
     challenges: &[u32],
     first: Sums,
 ) -> Sums
-    requires room { ⌜ (from + 48 * round ≤ length (now proof)) × (4 * round + 4 ≤ length (now point)) × (first .pos .put + 16 * round ≤ length (now log))
-        × Enough (now log) (now challenges) (first .pos) round ⌝ }
+    requires room { ⌜ (from + 48 * round ≤ length (now proof)) × (4 * round + 4 ≤ length (now point))
+        × (first .pos .put + 16 * round ≤ length (now log)) × Enough (now log) (now challenges) (first .pos) round ⌝ }
     requires clean { ⌜ Clean (now point) × CanonSums first × (allCanonical (cubicsWords (cubicsFrom round (drop from (now proof)))) ≡ true) ⌝ }
     ensures { λ r. ⌜ Summed (now (proof .entry)) (now (point .entry)) (now (point .exit)) (now (log .entry)) (now (log .exit))
         (source (first .pos .drawn) (now (challenges .entry))) from round first r ⌝ }

@@ -16,10 +16,11 @@ pub struct Lent {
 impl Lent {
     /// Buffers of exactly the room that is asked for.
     pub fn exact(rounds: usize, assert_zero: bool) -> Self {
+        let sum = if assert_zero { Sum::AssertZero } else { Sum::Observe };
         Self {
             proof: vec![BYTE; rooms::proof_bytes(rounds)],
             point: vec![WORD; rooms::point_words(rounds)],
-            log: vec![WORD; rooms::log_words(rounds, assert_zero)],
+            log: vec![WORD; rooms::log_words(rounds, sum)],
             work: vec![WORD; rooms::workspace_words(rounds)],
         }
     }

@@ -1,18 +1,25 @@
-use mathlib.Core.Path.{ap, _∙_}
-use Rattle.prover.specs.Report.{answerReport}
-use Rattle.accudrina.proofs.Telling.{returned}
+use Rattle.accudrina.proofs.ModeLaws.{refused-modes, proved-in}
 use borrow.Author.Needs.{needs}
 use Rattle.accudrina.proofs.accudrina_prove.Statement.{statement}
 use Rattle.accudrina.proofs.accudrina_prove.Tie as tie
 
-fractional-sumcheck-requires : tie.Need-fractional-sumcheck-requires
-fractional-sumcheck-requires c κs = search needs
+untaken-by-prover-requires : tie.Need-untaken-by-prover-requires
+untaken-by-prover-requires c κs = search needs
 
-number-and-values-requires : tie.Need-number-and-values-requires
-number-and-values-requires c κs = search needs
+unknown-mode-requires : tie.Need-unknown-mode-requires
+unknown-mode-requires c κs = search needs
 
 tell-requires : tie.Need-tell-requires
 tell-requires c κs = search needs
+
+returns : tie.Need-returns
+returns c = refused-modes _ _ (c .before .before .before .before .untaken-by-prover .ensures) (c .before .before .before .if1 .taken) (c .before .before .unknown-mode .ensures) (c .tell .ensures)
+
+proving-requires : tie.Need-proving-requires
+proving-requires c κs = search needs
+
+prove-taken-requires : tie.Need-prove-taken-requires
+prove-taken-requires c κs = search needs
 
 same-length : tie.Need-same-length
 same-length c = search needs
@@ -26,20 +33,25 @@ same-length-3 c = search needs
 same-length-4 : tie.Need-same-length-4
 same-length-4 c = search needs
 
-returns : tie.Need-returns
-returns c =
-    let proved = c .before .before .before .before .before .before .before .before .before .before .before .fractional-sumcheck .ensures in
-    returned (c .tell .ensures) (c .before .before .number-and-values .ensures ∙ ap (λ e. answerReport (e .answer)) proved) (ap (λ e. e .buffers) proved)
+returns-2 : tie.Need-returns-2
+returns-2 c =
+    let run = c .before .before .before .before .before .before .before .before in
+    let modes = run .before .before .before .before .before .before in
+    let tested = modes .before in
+    proved-in _ _ _ _ (tested .before .untaken-by-prover .ensures) (tested .if1 .left) (modes .proving .ensures) (run .prove-taken .ensures)
 
 pub accudrina-prove-spec : {M : Type 1} → statement M
 accudrina-prove-spec =
     tie.close
     (tie.spec
-    fractional-sumcheck-requires
-    number-and-values-requires
+    untaken-by-prover-requires
+    unknown-mode-requires
     tell-requires
+    returns
+    proving-requires
+    prove-taken-requires
     same-length
     same-length-2
     same-length-3
     same-length-4
-    returns)
+    returns-2)

@@ -1,18 +1,20 @@
-use mathlib.Core.Path.{ap, _∙_}
-use Rattle.verifier_round.specs.Report.{verdictReport}
-use Rattle.accudrina.proofs.Telling.{returned}
+use mathlib.Core.Path.{refl}
+use Rattle.accudrina.proofs.ModeLaws.{refused-modes, taken-modes}
 use borrow.Author.Needs.{needs}
 use Rattle.accudrina.proofs.accudrina_verify.Statement.{statement}
 use Rattle.accudrina.proofs.accudrina_verify.Tie as tie
 
-verify-gkr-requires : tie.Need-verify-gkr-requires
-verify-gkr-requires c κs = search needs
-
-number-and-values-requires : tie.Need-number-and-values-requires
-number-and-values-requires c κs = search needs
+unknown-mode-requires : tie.Need-unknown-mode-requires
+unknown-mode-requires c κs = search needs
 
 tell-requires : tie.Need-tell-requires
 tell-requires c κs = search needs
+
+returns : tie.Need-returns
+returns c = refused-modes _ _ refl (c .before .before .before .if1 .taken) (c .before .before .unknown-mode .ensures) (c .tell .ensures)
+
+verify-taken-requires : tie.Need-verify-taken-requires
+verify-taken-requires c κs = search needs
 
 same-length : tie.Need-same-length
 same-length c = search needs
@@ -20,18 +22,17 @@ same-length c = search needs
 same-length-2 : tie.Need-same-length-2
 same-length-2 c = search needs
 
-returns : tie.Need-returns
-returns c =
-    let verdict = c .before .before .before .before .before .before .before .verify-gkr .ensures in
-    returned (c .tell .ensures) (c .before .before .number-and-values .ensures ∙ ap (λ e. verdictReport (e .answer)) verdict) (ap (λ e. e .buffers) verdict)
+returns-2 : tie.Need-returns-2
+returns-2 c = taken-modes _ refl (c .before .before .before .before .before .before .before .before .if1 .left) (c .before .before .before .before .verify-taken .ensures)
 
 pub accudrina-verify-spec : {M : Type 1} → statement M
 accudrina-verify-spec =
     tie.close
     (tie.spec
-    verify-gkr-requires
-    number-and-values-requires
+    unknown-mode-requires
     tell-requires
+    returns
+    verify-taken-requires
     same-length
     same-length-2
-    returns)
+    returns-2)

@@ -15,11 +15,11 @@ proof-bytes-requires : tie.Need-proof-bytes-requires
 proof-bytes-requires c κs = done-few _ _ (c .before .before .before .before .before .before .before .before .before .before .before .fractional-sumcheck .ensures) (c .before .rounds .given .1)
 
 slice-reshare-prefix-verify-gkr : tie.Need-slice-reshare-prefix-verify-gkr
-slice-reshare-prefix-verify-gkr c = done-there _ _ (c .before .before .before .before .before .before .before .before .before .before .before .before .fractional-sumcheck .ensures) (c .before .before .rounds .given .1) (c .proof-bytes .ensures) (c .before .before .before .before .before .before .before .before .before .before .before .before .fractional-sumcheck .kept .1 .1 .1 .1 .0)
+slice-reshare-prefix-verify-gkr c = done-there _ _ (c .before .before .before .before .before .before .before .before .before .before .before .before .fractional-sumcheck .ensures) (c .before .before .rounds .given .1) (c .proof-bytes .ensures) (c .before .before .before .before .before .before .before .before .before .before .before .before .fractional-sumcheck .kept .1 .1 .1 .0)
 
 slice-aggregate-verify-gkr : tie.Need-slice-aggregate-verify-gkr
 slice-aggregate-verify-gkr c =
-    let h = done-there _ _ (c .before .before .before .before .before .before .before .before .before .before .before .before .before .fractional-sumcheck .ensures) (c .before .before .before .rounds .given .1) (c .before .proof-bytes .ensures) (c .before .before .before .before .before .before .before .before .before .before .before .before .before .fractional-sumcheck .kept .1 .1 .1 .1 .0) in
+    let h = done-there _ _ (c .before .before .before .before .before .before .before .before .before .before .before .before .before .fractional-sumcheck .ensures) (c .before .before .before .rounds .given .1) (c .before .proof-bytes .ensures) (c .before .before .before .before .before .before .before .before .before .before .before .before .before .fractional-sumcheck .kept .1 .1 .1 .0) in
     all-taken _ _ h
 
 verify-gkr-requires : tie.Need-verify-gkr-requires

@@ -5,19 +5,19 @@ use Rattle.keccak.proofs.mix_columns.Statement.{statement}
 use Rattle.keccak.proofs.mix_columns.Tie as tie
 
 rotated-requires : tie.Need-rotated-requires
-rotated-requires c κs = search needs
+rotated-requires c κs = (omega arith, omega arith)
 
 rotated-requires-2 : tie.Need-rotated-requires-2
-rotated-requires-2 c κs = search needs
+rotated-requires-2 c κs = (omega arith, omega arith)
 
 rotated-requires-3 : tie.Need-rotated-requires-3
-rotated-requires-3 c κs = search needs
+rotated-requires-3 c κs = (omega arith, omega arith)
 
 rotated-requires-4 : tie.Need-rotated-requires-4
-rotated-requires-4 c κs = search needs
+rotated-requires-4 c κs = (omega arith, omega arith)
 
 rotated-requires-5 : tie.Need-rotated-requires-5
-rotated-requires-5 c κs = search needs
+rotated-requires-5 c κs = (omega arith, omega arith)
 
 spread-columns-requires : tie.Need-spread-columns-requires
 spread-columns-requires c κs = search needs

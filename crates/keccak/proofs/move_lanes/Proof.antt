@@ -1,81 +1,80 @@
 use Rattle.keccak.specs.State.{asList}
 use Rattle.keccak.proofs.Steps.{moved-with}
 use native.Mathlib.Omega.{arith}
-use borrow.Author.Needs.{needs}
 use Rattle.keccak.proofs.move_lanes.Statement.{statement}
 use Rattle.keccak.proofs.move_lanes.Tie as tie
 
 rotated-requires : tie.Need-rotated-requires
-rotated-requires c κs = search needs
+rotated-requires c κs = (omega arith, omega arith)
 
 rotated-requires-2 : tie.Need-rotated-requires-2
-rotated-requires-2 c κs = search needs
+rotated-requires-2 c κs = (omega arith, omega arith)
 
 rotated-requires-3 : tie.Need-rotated-requires-3
-rotated-requires-3 c κs = search needs
+rotated-requires-3 c κs = (omega arith, omega arith)
 
 rotated-requires-4 : tie.Need-rotated-requires-4
-rotated-requires-4 c κs = search needs
+rotated-requires-4 c κs = (omega arith, omega arith)
 
 rotated-requires-5 : tie.Need-rotated-requires-5
-rotated-requires-5 c κs = search needs
+rotated-requires-5 c κs = (omega arith, omega arith)
 
 rotated-requires-6 : tie.Need-rotated-requires-6
-rotated-requires-6 c κs = search needs
+rotated-requires-6 c κs = (omega arith, omega arith)
 
 rotated-requires-7 : tie.Need-rotated-requires-7
-rotated-requires-7 c κs = search needs
+rotated-requires-7 c κs = (omega arith, omega arith)
 
 rotated-requires-8 : tie.Need-rotated-requires-8
-rotated-requires-8 c κs = search needs
+rotated-requires-8 c κs = (omega arith, omega arith)
 
 rotated-requires-9 : tie.Need-rotated-requires-9
-rotated-requires-9 c κs = search needs
+rotated-requires-9 c κs = (omega arith, omega arith)
 
 rotated-requires-10 : tie.Need-rotated-requires-10
-rotated-requires-10 c κs = search needs
+rotated-requires-10 c κs = (omega arith, omega arith)
 
 rotated-requires-11 : tie.Need-rotated-requires-11
-rotated-requires-11 c κs = search needs
+rotated-requires-11 c κs = (omega arith, omega arith)
 
 rotated-requires-12 : tie.Need-rotated-requires-12
-rotated-requires-12 c κs = search needs
+rotated-requires-12 c κs = (omega arith, omega arith)
 
 rotated-requires-13 : tie.Need-rotated-requires-13
-rotated-requires-13 c κs = search needs
+rotated-requires-13 c κs = (omega arith, omega arith)
 
 rotated-requires-14 : tie.Need-rotated-requires-14
-rotated-requires-14 c κs = search needs
+rotated-requires-14 c κs = (omega arith, omega arith)
 
 rotated-requires-15 : tie.Need-rotated-requires-15
-rotated-requires-15 c κs = search needs
+rotated-requires-15 c κs = (omega arith, omega arith)
 
 rotated-requires-16 : tie.Need-rotated-requires-16
-rotated-requires-16 c κs = search needs
+rotated-requires-16 c κs = (omega arith, omega arith)
 
 rotated-requires-17 : tie.Need-rotated-requires-17
-rotated-requires-17 c κs = search needs
+rotated-requires-17 c κs = (omega arith, omega arith)
 
 rotated-requires-18 : tie.Need-rotated-requires-18
-rotated-requires-18 c κs = search needs
+rotated-requires-18 c κs = (omega arith, omega arith)
 
 rotated-requires-19 : tie.Need-rotated-requires-19
-rotated-requires-19 c κs = search needs
+rotated-requires-19 c κs = (omega arith, omega arith)
 
 rotated-requires-20 : tie.Need-rotated-requires-20
-rotated-requires-20 c κs = search needs
+rotated-requires-20 c κs = (omega arith, omega arith)
 
 rotated-requires-21 : tie.Need-rotated-requires-21
-rotated-requires-21 c κs = search needs
+rotated-requires-21 c κs = (omega arith, omega arith)
 
 rotated-requires-22 : tie.Need-rotated-requires-22
-rotated-requires-22 c κs = search needs
+rotated-requires-22 c κs = (omega arith, omega arith)
 
 rotated-requires-23 : tie.Need-rotated-requires-23
-rotated-requires-23 c κs = search needs
+rotated-requires-23 c κs = (omega arith, omega arith)
 
 rotated-requires-24 : tie.Need-rotated-requires-24
-rotated-requires-24 c κs = search needs
+rotated-requires-24 c κs = (omega arith, omega arith)
 
 returns : tie.Need-returns
 returns c =

@@ -1,17 +1,16 @@
 use Rattle.keccak.proofs.Words.{rot-or}
 use native.Mathlib.Omega.{arith}
-use borrow.Author.Needs.{needs}
 use Rattle.keccak.proofs.rotated.Statement.{statement}
 use Rattle.keccak.proofs.rotated.Tie as tie
 
 shl-result : tie.Need-shl-result
-shl-result c = search needs
+shl-result c = omega arith
 
 sub-result : tie.Need-sub-result
-sub-result c = search needs
+sub-result c = omega arith
 
 shr-result : tie.Need-shr-result
-shr-result c = search needs
+shr-result c = omega arith
 
 returns : tie.Need-returns
 returns c = rot-or (c .args .a) (c .args .n) (c .fits .a .fits) (omega arith)

@@ -1,13 +1,7 @@
-use mathlib.Core.Path.{sym, _∙_}
-use Rattle.prover.proofs.Opening.{gate-opens}
-use Rattle.prover.proofs.Answering.{told-open, proved-shut, proved-open}
+use Rattle.prover.proofs.Answering.{proved-shut, gate-told, proved-open}
 use borrow.Author.Needs.{needs}
 use Rattle.prover.proofs.fractional_sumcheck.Statement.{statement}
 use Rattle.prover.proofs.fractional_sumcheck.Tie as tie
-use Rattle.prover.proofs.fractional_sumcheck.Reads as reads
-use Rattle.prover.proofs.fractional_sumcheck.Lts as lts
-use Rattle.prover_gate.proofs.first_refusal.Reads as first-refusal-reads
-use Rattle.prover.proofs.admitted.Reads as admitted-reads
 
 first-refusal-requires : tie.Need-first-refusal-requires
 first-refusal-requires c κs = search needs
@@ -15,11 +9,11 @@ first-refusal-requires c κs = search needs
 enum-known-gate : tie.Need-enum-known-gate
 enum-known-gate c = search needs
 
-enum-told : tie.Need-enum-told
-enum-told c = search needs
+enum-known-gate-2 : tie.Need-enum-known-gate-2
+enum-known-gate-2 c = search needs
 
 admitted-requires : tie.Need-admitted-requires
-admitted-requires c κs = gate-opens _ _ (told-open _ (sym (c .before .before .before .before .enum-told .given .1) ∙ c .before .before .before .before .before .before .first-refusal .ensures))
+admitted-requires c κs = gate-told _ _ (c .before .before .before .before .before .before .before .first-refusal .ensures) (c .before .before .before .before .before .gate2 .given .1)
 
 returns : tie.Need-returns
 returns c = proved-shut _ _ (c .before .before .before .first-refusal .ensures) (c .before .gate .given .1)
@@ -37,7 +31,10 @@ same-length-4 : tie.Need-same-length-4
 same-length-4 c = search needs
 
 returns-2 : tie.Need-returns-2
-returns-2 c = proved-open _ _ (c .before .before .before .before .before .before .before .before .before .before .before .before .before .before .before .first-refusal .ensures) (c .before .before .before .before .before .before .before .before .before .before .before .before .before .enum-told .given .1) (c .before .before .before .before .before .before .before .before .admitted .ensures)
+returns-2 c =
+    let a = c .before .before .before .before .before .before .before .before in
+    let g = a .before .before .before .before .before .before in
+    proved-open _ _ (g .before .before .first-refusal .ensures) (g .gate2 .given .1) (a .admitted .ensures)
 
 pub fractional-sumcheck-spec : {M : Type 1} → statement M
 fractional-sumcheck-spec =
@@ -45,7 +42,7 @@ fractional-sumcheck-spec =
     (tie.spec
     first-refusal-requires
     enum-known-gate
-    enum-told
+    enum-known-gate-2
     admitted-requires
     returns
     same-length

@@ -3,12 +3,12 @@ use Rattle.prover.specs.Report.{answerReport}
 use borrow.Author.Needs.{needs}
 use Rattle.prover.proofs.number_and_values.Statement.{statement}
 use Rattle.prover.proofs.number_and_values.Tie as tie
-use Rattle.prover.proofs.number_and_values.Reads as reads
-use Rattle.prover.proofs.number_and_values.Lts as lts
-use Rattle.refusal.proofs.number_and_fields.Reads as number-and-fields-reads
 
 enum-known-answer : tie.Need-enum-known-answer
 enum-known-answer c = search needs
+
+done-requires : tie.Need-done-requires
+done-requires c κs = search needs
 
 enum-known-answer-2 : tie.Need-enum-known-answer-2
 enum-known-answer-2 c = search needs
@@ -17,7 +17,7 @@ number-and-fields-requires : tie.Need-number-and-fields-requires
 number-and-fields-requires c κs = search needs
 
 returns : tie.Need-returns
-returns c = sym (ap answerReport (c .before .before .before .answer .given .1))
+returns c = c .done .ensures ∙ sym (ap answerReport (c .before .before .answer .given .1))
 
 returns-2 : tie.Need-returns-2
 returns-2 c = c .number-and-fields .ensures ∙ sym (ap answerReport (c .before .before .answer2 .given .1))
@@ -25,4 +25,10 @@ returns-2 c = c .number-and-fields .ensures ∙ sym (ap answerReport (c .before 
 pub number-and-values-spec : {M : Type 1} → statement M
 number-and-values-spec =
     tie.close
-    (tie.spec enum-known-answer enum-known-answer-2 number-and-fields-requires returns returns-2)
+    (tie.spec
+    enum-known-answer
+    done-requires
+    enum-known-answer-2
+    number-and-fields-requires
+    returns
+    returns-2)

@@ -2,6 +2,7 @@ use Prim.Native.Nat.{_^_}
 use mathlib.Core.Path.{_∙_, ap}
 use lib.Pow.{pow-pos}
 use Rattle.prover_tree.specs.Nodes.{node}
+use Rattle.prover.proofs.Opening.{work-enough}
 use Rattle.prover.proofs.Answering.{prove-refused, prove-done, rewritten, levels-at}
 use native.Mathlib.Omega.{arith}
 use borrow.Author.Needs.{needs}
@@ -17,7 +18,7 @@ use Rattle.prover_tree.proofs.clear.Reads as clear-reads
 sum-rows-requires : tie.Need-sum-rows-requires
 sum-rows-requires c κs =
     let p = c .before .before .before .before .before .before .before .pre .0 in
-    ((omega (arith, p .0 .pow, pow-pos (c .before .before .before .before .before .before .before .args .n)), p .1, omega (arith, p .0 .work)), c .before .before .before .before .before .before .before .pre .1 .0)
+    ((omega (arith, p .0 .pow, pow-pos (c .before .before .before .before .before .before .before .args .n)), p .1, omega (arith, work-enough (p .0 .some) (p .0 .pow) (p .0 .work))), c .before .before .before .before .before .before .before .pre .1 .0)
 
 contradicts-requires : tie.Need-contradicts-requires
 contradicts-requires c κs = search needs
@@ -32,7 +33,7 @@ returns : tie.Need-returns
 returns c =
     let p = c .before .before .before .before .before .before .before .before .before .before .before .before .before .before .before .before .pre .0 .0 in
     let s = c .before .before .before .before .before .before .before .before .sum-rows .ensures in
-    λ m e. prove-refused (c .before .before .before .before .before .before .before .before .before .before .before .before .before .before .before .before .args .rows .now) _ _ _ _ (c .before .before .before .before .before .before .before .before .before .before .before .before .before .before .before .before .args .work .now) _ m _ _ _ e (p .pow) (p .work) (s .sum m (p .pow ∙ ap (λ k. 2 ^ k) e)) (c .before .before .before .before .before .contradicts .ensures) (c .before .before .before .before .before .before .before .before .sum-rows .last .1 .1 .0) _ (c .before .before .before .before .if1 .taken) (omega (arith, c .before .before .before .before .before .before .before .before .sum-rows .kept)) (c .before .before .clear .ensures)
+    λ m e. prove-refused (c .before .before .before .before .before .before .before .before .before .before .before .before .before .before .before .before .args .rows .now) _ _ _ _ (c .before .before .before .before .before .before .before .before .before .before .before .before .before .before .before .before .args .work .now) _ m _ _ e (p .work) (s .sum m (p .pow ∙ ap (λ k. 2 ^ k) e)) (c .before .before .before .before .before .contradicts .ensures) (c .before .before .before .before .before .before .before .before .sum-rows .last .1 .1 .0) _ (c .before .before .before .before .if1 .taken) (omega (arith, c .before .before .before .before .before .before .before .before .sum-rows .kept)) (c .before .before .clear .ensures)
 
 write-run-requires : tie.Need-write-run-requires
 write-run-requires c κs =
@@ -60,7 +61,7 @@ returns-2 c =
     let s = c .before .before .before .before .before .before .before .before .before .before .before .before .before .before .before .before .before .sum-rows .ensures in
     λ m e.
     let z = p .pow ∙ ap (λ k. 2 ^ k) e in
-    prove-done (c .before .before .before .before .before .before .before .before .before .before .before .before .before .before .before .before .before .before .before .before .before .before .before .before .before .args .rows .now) _ _ _ _ (c .before .before .before .before .before .before .before .before .before .before .before .before .before .before .before .before .before .before .before .before .before .before .before .before .before .args .work .now) _ m _ _ _ e (p .pow) (p .work) (s .sum m z) (c .before .before .before .before .before .before .before .before .before .before .before .before .before .before .contradicts .ensures) _ (c .before .before .before .before .before .before .before .before .before .before .before .before .before .if1 .left) (rewritten {ws = c .before .before .before .before .before .before .before .before .before .before .before .before .before .before .before .before .before .before .before .before .before .before .before .before .before .args .work .now} {ws₁ = c .before .before .before .before .before .before .before .before .before .before .before .before .before .before .before .before .before .sum-rows .last .1 .1 .0} (omega (arith, c .before .before .before .before .before .before .before .before .before .before .before .before .before .before .before .before .before .sum-rows .kept)) (c .before .before .before .before .before .before .before .before .write-run .ensures (node (c .before .before .before .before .before .before .before .before .before .before .before .before .before .before .before .before .before .before .before .before .before .before .before .before .before .args .rows .now)) m e (levels-at e (s .levels m z)) (s .sum m z)))
+    prove-done (c .before .before .before .before .before .before .before .before .before .before .before .before .before .before .before .before .before .before .before .before .before .before .before .before .before .args .rows .now) _ _ _ _ (c .before .before .before .before .before .before .before .before .before .before .before .before .before .before .before .before .before .before .before .before .before .before .before .before .before .args .work .now) _ m _ _ e (p .work) (s .sum m z) (c .before .before .before .before .before .before .before .before .before .before .before .before .before .before .contradicts .ensures) _ (c .before .before .before .before .before .before .before .before .before .before .before .before .before .if1 .left) (rewritten {ws = c .before .before .before .before .before .before .before .before .before .before .before .before .before .before .before .before .before .before .before .before .before .before .before .before .before .args .work .now} {ws₁ = c .before .before .before .before .before .before .before .before .before .before .before .before .before .before .before .before .before .sum-rows .last .1 .1 .0} (omega (arith, c .before .before .before .before .before .before .before .before .before .before .before .before .before .before .before .before .before .sum-rows .kept)) (c .before .before .before .before .before .before .before .before .write-run .ensures (node (c .before .before .before .before .before .before .before .before .before .before .before .before .before .before .before .before .before .before .before .before .before .before .before .before .before .args .rows .now)) m e (levels-at e (s .levels m z)) (s .sum m z)))
 
 pub prove-spec : {M : Type 1} → statement M
 prove-spec =

@@ -1,4 +1,4 @@
-use Rattle.prover.proofs.Opening.{log-sum}
+use Rattle.prover.proofs.Opening.{log-sum, work-enough}
 use Rattle.prover.proofs.Writing.{quarter, written}
 use native.Mathlib.Omega.{arith}
 use borrow.Author.Needs.{needs}
@@ -20,7 +20,7 @@ run-rounds-requires c κs =
     let q = c .before .before .before .before .before .before .before .before .before .before .before .before .pre .1 in
     let s = c .before .before .before .before .before .begin .ensures in
     let k = c .before .before .before .before .before .begin .kept in (
-      (p .some, p .pow, omega (arith, p .work)),
+      (p .some, p .pow, omega (arith, work-enough (p .some) (p .pow) (p .work))),
       ((omega (arith, p .point), omega (arith, p .log, s .put, k), record { room = omega (arith, p .used, s .used); clean = q .1 }), (q .0, q .2 .q)),
     )
 

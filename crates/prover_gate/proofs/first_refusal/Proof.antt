@@ -7,14 +7,6 @@ use native.Mathlib.Omega.{arith}
 use borrow.Author.Needs.{needs}
 use Rattle.prover_gate.proofs.first_refusal.Statement.{statement}
 use Rattle.prover_gate.proofs.first_refusal.Tie as tie
-use Rattle.prover_gate.proofs.first_refusal.Reads as reads
-use Rattle.prover_gate.proofs.first_refusal.Lts as lts
-use Rattle.prover_gate.proofs.challenge_words.Reads as challenge-words-reads
-use Rattle.prover_gate.proofs.lowest_row.Reads as lowest-row-reads
-use Rattle.prover_gate.proofs.is_size.Reads as is-size-reads
-use Rattle.prover_gate.proofs.least_size.Reads as least-size-reads
-use Rattle.prover_gate.proofs.short_room.Reads as short-room-reads
-use Rattle.wire.proofs.canonical_words.Reads as canonical-words-reads
 
 returns : tie.Need-returns
 returns c = refuse-1 _ _ (c .if1 .taken)
@@ -22,67 +14,73 @@ returns c = refuse-1 _ _ (c .if1 .taken)
 returns-2 : tie.Need-returns-2
 returns-2 c = refuse-2 _ _ (c .before .if1 .left) (c .if2 .taken)
 
-is-size-requires : tie.Need-is-size-requires
-is-size-requires c κs = search needs
-
-returns-3 : tie.Need-returns-3
-returns-3 c = refuse-3 _ _ (c .before .before .before .if1 .left) (c .before .before .if2 .left) (c .before .is-size .ensures) (not-true _ (c .if3 .taken))
-
 least-size-requires : tie.Need-least-size-requires
 least-size-requires c κs = search needs
+
+fills-requires : tie.Need-fills-requires
+fills-requires c κs = (c .least-size .ensures .0, c .least-size .ensures .1)
+
+returns-3 : tie.Need-returns-3
+returns-3 c =
+    let s = c .before in let z = s .before in
+    refuse-3 _ _ (z .before .before .if1 .left) (z .before .if2 .left) (s .fills .ensures) (not-true _ (c .if3 .taken))
 
 challenge-words-requires : tie.Need-challenge-words-requires
 challenge-words-requires c κs = search needs
 
 returns-4 : tie.Need-returns-4
 returns-4 c =
-    let s = c .before .before .least-size .ensures in
-    refuse-4 _ _ (c .before .before .before .before .before .before .if1 .left) (c .before .before .before .before .before .if2 .left) (c .before .before .before .before .is-size .ensures) (not-false _ (c .before .before .before .if3 .left)) (s .0) (c .before .challenge-words .ensures) (c .if4 .taken)
+    let k = c .before in let s = k .before .before in let z = s .before in
+    refuse-4 _ _ (z .before .before .if1 .left) (z .before .if2 .left) (s .fills .ensures) (not-false _ (k .before .if3 .left)) (z .least-size .ensures) (k .challenge-words .ensures) (c .if4 .taken)
 
 short-room-requires : tie.Need-short-room-requires
 short-room-requires c κs = search needs
 
 returns-5 : tie.Need-returns-5
 returns-5 c =
-    let s = c .before .before .before .before .least-size .ensures in
-    refuse-5 _ _ (c .before .before .before .before .before .before .before .before .if1 .left) (c .before .before .before .before .before .before .before .if2 .left) (c .before .before .before .before .before .before .is-size .ensures) (not-false _ (c .before .before .before .before .before .if3 .left)) (s .0) (c .before .before .before .challenge-words .ensures) (c .before .before .if4 .left) (c .before .short-room .ensures) (c .if5 .taken)
+    let t = c .before in let k = t .before .before in let s = k .before .before in let z = s .before in
+    refuse-5 _ _ (z .before .before .if1 .left) (z .before .if2 .left) (s .fills .ensures) (not-false _ (k .before .if3 .left)) (z .least-size .ensures) (k .challenge-words .ensures) (t .before .if4 .left) (t .short-room .ensures) (c .if5 .taken)
 
 canonical-words-requires : tie.Need-canonical-words-requires
 canonical-words-requires c κs = search needs
 
 returns-6 : tie.Need-returns-6
 returns-6 c =
-    let s = c .before .before .before .before .before .before .least-size .ensures in
-    refuse-6 _ _ (c .before .before .before .before .before .before .before .before .before .before .if1 .left) (c .before .before .before .before .before .before .before .before .before .if2 .left) (c .before .before .before .before .before .before .before .before .is-size .ensures) (not-false _ (c .before .before .before .before .before .before .before .if3 .left)) (s .0) (c .before .before .before .before .before .challenge-words .ensures) (c .before .before .before .before .if4 .left) (c .before .before .before .short-room .ensures) (c .before .before .if5 .left) (c .before .canonical-words .ensures) (not-true _ (c .if6 .taken))
+    let u = c .before in let t = u .before .before in let k = t .before .before in let s = k .before .before in let z = s .before in
+    refuse-6 _ _ (z .before .before .if1 .left) (z .before .if2 .left) (s .fills .ensures) (not-false _ (k .before .if3 .left)) (z .least-size .ensures) (k .challenge-words .ensures) (t .before .if4 .left) (t .short-room .ensures) (u .before .if5 .left) (u .canonical-words .ensures) (not-true _ (c .if6 .taken))
 
 slice-aggregate-canonical-words : tie.Need-slice-aggregate-canonical-words
-slice-aggregate-canonical-words c = sym (length-take-le (c .before .before .before .before .before .before .challenge-words .result) (c .before .before .before .before .before .before .before .before .before .before .before .before .before .before .args .challenges .now) (c .before .before .before .before .before .if4 .left))
+slice-aggregate-canonical-words c =
+    let t = c .before .before .before .before in let k = t .before .before in
+    sym (length-take-le (k .challenge-words .result) (k .before .before .before .before .before .before .before .before .args .challenges .now) (t .before .if4 .left))
 
 canonical-words-requires-2 : tie.Need-canonical-words-requires-2
 canonical-words-requires-2 c κs = search needs
 
 returns-7 : tie.Need-returns-7
 returns-7 c =
-    let s = c .before .before .before .before .before .before .before .before .before .least-size .ensures in
-    refuse-6' _ _ (c .before .before .before .before .before .before .before .before .before .before .before .before .before .if1 .left) (c .before .before .before .before .before .before .before .before .before .before .before .before .if2 .left) (c .before .before .before .before .before .before .before .before .before .before .before .is-size .ensures) (not-false _ (c .before .before .before .before .before .before .before .before .before .before .if3 .left)) (s .0) (c .before .before .before .before .before .before .before .before .challenge-words .ensures) (c .before .before .before .before .before .before .before .if4 .left) (c .before .before .before .before .before .before .short-room .ensures) (c .before .before .before .before .before .if5 .left) (c .before .before .before .before .canonical-words .ensures) (not-false _ (c .before .before .before .if6 .left)) (c .before .canonical-words2 .ensures) (not-true _ (c .if7 .taken))
+    let w = c .before in let u = w .before .before .before in let t = u .before .before in let k = t .before .before in let s = k .before .before in let z = s .before in
+    refuse-6' _ _ (z .before .before .if1 .left) (z .before .if2 .left) (s .fills .ensures) (not-false _ (k .before .if3 .left)) (z .least-size .ensures) (k .challenge-words .ensures) (t .before .if4 .left) (t .short-room .ensures) (u .before .if5 .left) (u .canonical-words .ensures) (not-false _ (w .before .before .if6 .left)) (w .canonical-words2 .ensures) (not-true _ (c .if7 .taken))
 
 returns-8 : tie.Need-returns-8
 returns-8 c =
-    let s = c .before .before .before .before .before .before .before .before .before .before .least-size .ensures in
-    sandbox-passes _ _ (c .before .before .before .before .before .before .before .before .before .before .before .before .before .before .if1 .left) (c .before .before .before .before .before .before .before .before .before .before .before .before .before .if2 .left) (c .before .before .before .before .before .before .before .before .before .before .before .before .is-size .ensures) (not-false _ (c .before .before .before .before .before .before .before .before .before .before .before .if3 .left)) (s .0) (c .before .before .before .before .before .before .before .before .before .challenge-words .ensures) (c .before .before .before .before .before .before .before .before .if4 .left) (c .before .before .before .before .before .before .before .short-room .ensures) (c .before .before .before .before .before .before .if5 .left) (c .before .before .before .before .before .canonical-words .ensures) (not-false _ (c .before .before .before .before .if6 .left)) (c .before .before .canonical-words2 .ensures) (not-false _ (c .before .if7 .left)) (not-true _ (c .if8 .taken))
+    let w = c .before .before .before in let u = w .before .before .before in let t = u .before .before in let k = t .before .before in let s = k .before .before in let z = s .before in
+    sandbox-passes _ _ (z .before .before .if1 .left) (z .before .if2 .left) (s .fills .ensures) (not-false _ (k .before .if3 .left)) (z .least-size .ensures) (k .challenge-words .ensures) (t .before .if4 .left) (t .short-room .ensures) (u .before .if5 .left) (u .canonical-words .ensures) (not-false _ (w .before .before .if6 .left)) (w .canonical-words2 .ensures) (not-false _ (c .before .before .if7 .left)) (not-true _ (c .if8 .taken))
 
 lowest-row-requires : tie.Need-lowest-row-requires
-lowest-row-requires c κs = (omega arith, record { below = canonical-below _ (sym (c .before .before .before .before .before .canonical-words .ensures) ∙ not-false _ (c .before .before .before .before .if6 .left)) })
+lowest-row-requires c κs =
+    let u = c .before .before .before .before .before .before in
+    (omega arith, record { below = canonical-below _ (sym (u .canonical-words .ensures) ∙ not-false _ (c .before .before .before .before .before .if6 .left)) })
 
 returns-9 : tie.Need-returns-9
 returns-9 c =
-    let s = c .before .before .before .before .before .before .before .before .before .before .before .before .least-size .ensures in
-    refuse-7 _ _ (c .before .before .before .before .before .before .before .before .before .before .before .before .before .before .before .before .if1 .left) (c .before .before .before .before .before .before .before .before .before .before .before .before .before .before .before .if2 .left) (c .before .before .before .before .before .before .before .before .before .before .before .before .before .before .is-size .ensures) (not-false _ (c .before .before .before .before .before .before .before .before .before .before .before .before .before .if3 .left)) (s .0) (c .before .before .before .before .before .before .before .before .before .before .before .challenge-words .ensures) (c .before .before .before .before .before .before .before .before .before .before .if4 .left) (c .before .before .before .before .before .before .before .before .before .short-room .ensures) (c .before .before .before .before .before .before .before .before .if5 .left) (c .before .before .before .before .before .before .before .canonical-words .ensures) (not-false _ (c .before .before .before .before .before .before .if6 .left)) (c .before .before .before .before .canonical-words2 .ensures) (not-false _ (c .before .before .before .if7 .left)) (not-false _ (c .before .before .if8 .left)) (c .before .lowest-row .ensures) (c .if9 .taken)
+    let l = c .before in let v = l .before in let w = v .before .before .before in let u = w .before .before .before in let t = u .before .before in let k = t .before .before in let s = k .before .before in let z = s .before in
+    refuse-7 _ _ (z .before .before .if1 .left) (z .before .if2 .left) (s .fills .ensures) (not-false _ (k .before .if3 .left)) (z .least-size .ensures) (k .challenge-words .ensures) (t .before .if4 .left) (t .short-room .ensures) (u .before .if5 .left) (u .canonical-words .ensures) (not-false _ (w .before .before .if6 .left)) (w .canonical-words2 .ensures) (not-false _ (v .before .before .if7 .left)) (not-false _ (v .if8 .left)) (l .lowest-row .ensures) (c .if9 .taken)
 
 returns-10 : tie.Need-returns-10
 returns-10 c =
-    let s = c .before .before .before .before .before .before .before .before .before .before .before .before .least-size .ensures in
-    live-passes _ _ (c .before .before .before .before .before .before .before .before .before .before .before .before .before .before .before .before .if1 .left) (c .before .before .before .before .before .before .before .before .before .before .before .before .before .before .before .if2 .left) (c .before .before .before .before .before .before .before .before .before .before .before .before .before .before .is-size .ensures) (not-false _ (c .before .before .before .before .before .before .before .before .before .before .before .before .before .if3 .left)) (s .0) (c .before .before .before .before .before .before .before .before .before .before .before .challenge-words .ensures) (c .before .before .before .before .before .before .before .before .before .before .if4 .left) (c .before .before .before .before .before .before .before .before .before .short-room .ensures) (c .before .before .before .before .before .before .before .before .if5 .left) (c .before .before .before .before .before .before .before .canonical-words .ensures) (not-false _ (c .before .before .before .before .before .before .if6 .left)) (c .before .before .before .before .canonical-words2 .ensures) (not-false _ (c .before .before .before .if7 .left)) (not-false _ (c .before .before .if8 .left)) (c .before .lowest-row .ensures) (c .if9 .left)
+    let l = c .before in let v = l .before in let w = v .before .before .before in let u = w .before .before .before in let t = u .before .before in let k = t .before .before in let s = k .before .before in let z = s .before in
+    live-passes _ _ (z .before .before .if1 .left) (z .before .if2 .left) (s .fills .ensures) (not-false _ (k .before .if3 .left)) (z .least-size .ensures) (k .challenge-words .ensures) (t .before .if4 .left) (t .short-room .ensures) (u .before .if5 .left) (u .canonical-words .ensures) (not-false _ (w .before .before .if6 .left)) (w .canonical-words2 .ensures) (not-false _ (v .before .before .if7 .left)) (not-false _ (v .if8 .left)) (l .lowest-row .ensures) (c .if9 .left)
 
 pub first-refusal-spec : {M : Type 1} → statement M
 first-refusal-spec =
@@ -90,9 +88,9 @@ first-refusal-spec =
     (tie.spec
     returns
     returns-2
-    is-size-requires
-    returns-3
     least-size-requires
+    fills-requires
+    returns-3
     challenge-words-requires
     returns-4
     short-room-requires

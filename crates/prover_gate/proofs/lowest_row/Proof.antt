@@ -6,10 +6,6 @@ use borrow.Author.Needs.{needs}
 use native.Mathlib.Omega.{arith}
 use Rattle.prover_gate.proofs.lowest_row.Statement.{statement}
 use Rattle.prover_gate.proofs.lowest_row.Tie as tie
-use Rattle.prover_gate.proofs.lowest_row.Reads as reads
-use Rattle.prover_gate.proofs.lowest_row.Lts as lts
-use Rattle.prover_gate.proofs.is_degenerate.Reads as is-degenerate-reads
-use Rattle.prover_tree.proofs.load_node.Reads as load-node-reads
 
 abbrev Inv-loop : tie.InvT-loop
 Inv-loop rows count row₀ row = (row ≤ count) × (lowest rows count 0 ≡ lowest rows (count - row) row)

@@ -1,13 +1,8 @@
-use Rattle.prover_gate.proofs.Sizing.{short-proof, short-point, short-log, short-work}
+use Rattle.prover_gate.proofs.RoomLaws.{short-proof, short-point, short-log, short-work}
 use native.Mathlib.Omega.{arith}
 use borrow.Author.Needs.{needs}
 use Rattle.prover_gate.proofs.short_room.Statement.{statement}
 use Rattle.prover_gate.proofs.short_room.Tie as tie
-use Rattle.prover_gate.proofs.short_room.Reads as reads
-use Rattle.prover_gate.proofs.short_room.Lts as lts
-use Rattle.prover_gate.proofs.log_words.Reads as log-words-reads
-use Rattle.prover_gate.proofs.proof_bytes.Reads as proof-bytes-reads
-use Rattle.prover_gate.proofs.work_words.Reads as work-words-reads
 
 proof-bytes-requires : tie.Need-proof-bytes-requires
 proof-bytes-requires c κs = search needs

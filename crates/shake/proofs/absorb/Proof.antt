@@ -17,10 +17,10 @@ abbrev μ-loop : tie.MeasureT-loop
 μ-loop label words end t₀ k₀ t k = end - k
 
 mul-end : tie.Need-mul-end Inv-loop μ-loop
-mul-end c = search needs
+mul-end c = omega arith
 
 add-end : tie.Need-add-end Inv-loop μ-loop
-add-end c = search needs
+add-end c = omega arith
 
 loop-holds : tie.Need-loop-holds Inv-loop μ-loop
 loop-holds c = (holds-end _ _ (c .before .before .before .pre .1), c .before .before .before .pre .1 .state)
@@ -29,10 +29,10 @@ absorb-block-requires : tie.Need-absorb-block-requires Inv-loop μ-loop
 absorb-block-requires c κs = search needs
 
 add-k : tie.Need-add-k Inv-loop μ-loop
-add-k c = search needs
+add-k c = omega arith
 
 loop-less : tie.Need-loop-less Inv-loop μ-loop
-loop-less c = search needs
+loop-less c = omega arith
 
 loop-again : tie.Need-loop-again Inv-loop μ-loop
 loop-again c = (omega arith, absorb-more _ _ _ (c .before .loop-test .taken) (c .before .before .loop .inv .1) (c .absorb-block .ensures))

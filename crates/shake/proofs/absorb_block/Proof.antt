@@ -1,5 +1,4 @@
 use Rattle.shake.proofs.BlockLaws.{block-absorbed}
-use native.Mathlib.Omega.{arith}
 use borrow.Author.Needs.{needs}
 use Rattle.shake.proofs.absorb_block.Statement.{statement}
 use Rattle.shake.proofs.absorb_block.Tie as tie

@@ -11,7 +11,7 @@ turned-requires : tie.Need-turned-requires
 turned-requires c κs = search needs
 
 cast-result : tie.Need-cast-result
-cast-result c = search needs
+cast-result c = omega arith
 
 returns : tie.Need-returns
 returns c = (drawn-is _ _ (omega arith) (c .before .finish .ensures) (c .turned .ensures), omega arith)

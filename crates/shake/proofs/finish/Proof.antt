@@ -1,5 +1,4 @@
 use Rattle.shake.proofs.SpongeLaws.{absorb-last}
-use native.Mathlib.Omega.{arith}
 use borrow.Author.Needs.{needs}
 use Rattle.shake.proofs.finish.Statement.{statement}
 use Rattle.shake.proofs.finish.Tie as tie

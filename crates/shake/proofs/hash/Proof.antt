@@ -25,19 +25,19 @@ loop-holds : tie.Need-loop-holds Inv-loop μ-loop
 loop-holds c = squeezing-none (c .squeezed-lanes .ensures)
 
 mul-lane-byte : tie.Need-mul-lane-byte Inv-loop μ-loop
-mul-lane-byte c = search needs
+mul-lane-byte c = omega arith
 
 array-read-lane-byte : tie.Need-array-read-lane-byte Inv-loop μ-loop
-array-read-lane-byte c = search needs
+array-read-lane-byte c = omega arith
 
 lane-byte-requires : tie.Need-lane-byte-requires Inv-loop μ-loop
 lane-byte-requires c κs = search needs
 
 slice-write-out : tie.Need-slice-write-out Inv-loop μ-loop
-slice-write-out c = search needs
+slice-write-out c = omega arith
 
 add-i : tie.Need-add-i Inv-loop μ-loop
-add-i c = search needs
+add-i c = omega arith
 
 permute-requires : tie.Need-permute-requires Inv-loop μ-loop
 permute-requires c κs = search needs
@@ -46,7 +46,7 @@ squeezed-lanes-requires-2 : tie.Need-squeezed-lanes-requires-2 Inv-loop μ-loop
 squeezed-lanes-requires-2 c κs = search needs
 
 loop-less : tie.Need-loop-less Inv-loop μ-loop
-loop-less c = search needs
+loop-less c = omega arith
 
 loop-again : tie.Need-loop-again Inv-loop μ-loop
 loop-again c =
@@ -54,7 +54,7 @@ loop-again c =
     (c .before .before .if1 .taken) (c .before .permute .ensures) (c .squeezed-lanes2 .ensures)
 
 loop-less-2 : tie.Need-loop-less-2 Inv-loop μ-loop
-loop-less-2 c = search needs
+loop-less-2 c = omega arith
 
 loop-again-2 : tie.Need-loop-again-2 Inv-loop μ-loop
 loop-again-2 c =

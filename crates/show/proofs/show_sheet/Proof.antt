@@ -4,7 +4,7 @@ use native.Mathlib.Omega.{arith}
 use denote.Ref.{now}
 use borrow.Author.Needs.{needs}
 use Rattle.agreement.proofs.Joining.{all-taken}
-use Rattle.show.proofs.Reading.{read-most, read-room}
+use Rattle.stored_sheet.specs.SheetLaws.{read-most, read-fits}
 use Rattle.show.proofs.show_sheet.Statement.{statement}
 use Rattle.show.proofs.show_sheet.Tie as tie
 
@@ -20,10 +20,10 @@ mul-k c =
     record { fits = omega arith }
 
 slice-reshare-prefix-show-rows : tie.Need-slice-reshare-prefix-show-rows
-slice-reshare-prefix-show-rows c = read-room _ (now (c .before .before .before .before .before .before .before .before .before .before .args .rows)) _ _ (c .before .before .before .before .before .read-sheet .ensures) (c .before .count .given .1)
+slice-reshare-prefix-show-rows c = read-fits _ (now (c .before .before .before .before .before .before .before .before .before .before .args .rows)) _ _ (c .before .before .before .before .before .read-sheet .ensures) (c .before .count .given .1)
 
 slice-aggregate-show-rows : tie.Need-slice-aggregate-show-rows
-slice-aggregate-show-rows c = all-taken _ _ (read-room _ (now (c .before .before .before .before .before .before .before .before .before .before .before .args .rows)) _ _ (c .before .before .before .before .before .before .read-sheet .ensures) (c .before .before .count .given .1))
+slice-aggregate-show-rows c = all-taken _ _ (read-fits _ (now (c .before .before .before .before .before .before .before .before .before .before .before .args .rows)) _ _ (c .before .before .before .before .before .before .read-sheet .ensures) (c .before .before .count .given .1))
 
 show-rows-requires : tie.Need-show-rows-requires
 show-rows-requires c κs = search needs

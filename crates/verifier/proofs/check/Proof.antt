@@ -5,12 +5,6 @@ use Rattle.verifier.proofs.GateLaws.{way-10, way-11, way-4, way-5, way-
 use borrow.Author.Needs.{needs}
 use Rattle.verifier.proofs.check.Statement.{statement}
 use Rattle.verifier.proofs.check.Tie as tie
-use Rattle.verifier.proofs.check.Reads as reads
-use Rattle.verifier.proofs.check.Lts as lts
-use Rattle.stored.proofs.read_shape.Reads as read-shape-reads
-use Rattle.verifier.proofs.challenge_words.Reads as challenge-words-reads
-use Rattle.verifier.proofs.check_words.Reads as check-words-reads
-use Rattle.verifier.proofs.log_words.Reads as log-words-reads
 
 returns : tie.Need-returns
 returns c = way-10 (asked (c .before .before .before .args .proof .now) (c .before .before .before .args .rounds) (c .before .before .before .args .challenges .now)) (c .before .before .before .args .points) (c .before .before .before .args .logs) (c .if1 .taken)

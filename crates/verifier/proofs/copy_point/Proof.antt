@@ -1,4 +1,4 @@
-use Rattle.verifier.proofs.SizeLaws.{copy-next}
+use Rattle.verifier.proofs.Copying.{copy-next}
 use Prim.Native.Nat.{_≤_, _-_}
 use mathlib.Core.Path.{_≡_, refl, _∙_, ap}
 use mathlib.Core.List.{_++_}

@@ -1,6 +1,8 @@
 use mathlib.Core.Path.{sym}
 use lib.Seq.{length-take-le}
+use Prim.Native.Nat.{_*_}
 use Rattle.field.specs.CellLaws.{clean-zeros}
+use Rattle.refusal.specs.Limits.{maxRounds}
 use Rattle.verifier.specs.Verified.{asked, lent}
 use Rattle.verifier.proofs.GateLaws.{passes}
 use Rattle.verifier.proofs.EndLaws.{ready-of, point-fits, ended-is, run-is}
@@ -8,15 +10,9 @@ use native.Mathlib.Omega.{arith}
 use borrow.Author.Needs.{needs}
 use Rattle.verifier.proofs.run.Statement.{statement}
 use Rattle.verifier.proofs.run.Tie as tie
-use Rattle.verifier.proofs.run.Reads as reads
-use Rattle.verifier.proofs.run.Lts as lts
-use Rattle.verifier.proofs.answer.Reads as answer-reads
-use Rattle.verifier.proofs.challenge_words.Reads as challenge-words-reads
-use Rattle.verifier.proofs.leave_point.Reads as leave-point-reads
-use Rattle.verifier.proofs.verify_counted.Reads as verify-counted-reads
 
 challenge-words-requires : tie.Need-challenge-words-requires
-challenge-words-requires c κs = (passes (c .before .before .before .before .pre) .some, passes (c .before .before .before .before .pre) .few)
+challenge-words-requires c κs = passes (c .before .before .before .before .pre) .few
 
 slice-aggregate-verify-counted : tie.Need-slice-aggregate-verify-counted
 slice-aggregate-verify-counted c = search needs
@@ -25,7 +21,7 @@ slice-aggregate-verify-counted-2 : tie.Need-slice-aggregate-verify-counted-2
 slice-aggregate-verify-counted-2 c = sym (length-take-le _ (c .before .before .before .before .before .before .before .before .args .challenges .now) (omega (arith, passes (c .before .before .before .before .before .before .before .before .pre) .chals, c .before .before .before .challenge-words .ensures)))
 
 verify-counted-requires : tie.Need-verify-counted-requires
-verify-counted-requires c κs = ready-of _ _ _ _ _ _ (c .before .before .before .before .before .before .before .before .pre) (c .before .before .before .challenge-words .ensures) (omega arith) (clean-zeros 40)
+verify-counted-requires c κs = ready-of _ _ _ _ _ _ (c .before .before .before .before .before .before .before .before .pre) (c .before .before .before .challenge-words .ensures) (omega arith) (clean-zeros (4 * maxRounds))
 
 slice-aggregate-leave-point : tie.Need-slice-aggregate-leave-point
 slice-aggregate-leave-point c = search needs

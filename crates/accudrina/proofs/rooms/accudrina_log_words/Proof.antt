@@ -1,5 +1,6 @@
 use Rattle.accudrina.proofs.RoomLaws.{over, within}
-use mathlib.Core.Path.{sym, _∙_}
+use Rattle.sizes.specs.Sizes.{logRoom}
+use mathlib.Core.Path.{sym, _∙_, ap}
 use borrow.Author.Needs.{needs}
 use Rattle.accudrina.proofs.rooms.accudrina_log_words.Statement.{statement}
 use Rattle.accudrina.proofs.rooms.accudrina_log_words.Tie as tie
@@ -7,11 +8,14 @@ use Rattle.accudrina.proofs.rooms.accudrina_log_words.Tie as tie
 returns : tie.Need-returns
 returns c = sym (over _ _ (c .if1 .taken))
 
+has-requires : tie.Need-has-requires
+has-requires c κs = search needs
+
 log-words-requires : tie.Need-log-words-requires
 log-words-requires c κs = search needs
 
 returns-2 : tie.Need-returns-2
-returns-2 c = c .log-words .ensures ∙ sym (within _ _ (c .before .if1 .left))
+returns-2 c = c .log-words .ensures ∙ ap (λ a. logRoom a (c .before .before .before .args .rounds)) (c .before .has .ensures) ∙ sym (within _ _ (c .before .before .if1 .left))
 
 pub accudrina-log-words-spec : {M : Type 1} → statement M
-accudrina-log-words-spec = tie.close (tie.spec returns log-words-requires returns-2)
+accudrina-log-words-spec = tie.close (tie.spec returns has-requires log-words-requires returns-2)

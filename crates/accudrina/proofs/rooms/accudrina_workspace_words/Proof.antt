@@ -1,4 +1,6 @@
-use Rattle.accudrina.proofs.RoomLaws.{over, within, shifted}
+use Rattle.accudrina.proofs.RoomLaws.{over, within}
+use Rattle.refusal.specs.PowerLaws.{shifted}
+use Rattle.sizes.specs.LimitLaws.{rounds-small}
 use mathlib.Core.Path.{sym, _∙_}
 use borrow.Author.Needs.{needs}
 use Rattle.accudrina.proofs.rooms.accudrina_workspace_words.Statement.{statement}
@@ -11,7 +13,7 @@ shl-work-words : tie.Need-shl-work-words
 shl-work-words c = search needs
 
 work-words-requires : tie.Need-work-words-requires
-work-words-requires c κs = (c .if1 .left, shifted _ (c .if1 .left))
+work-words-requires c κs = (c .if1 .left, shifted _ (rounds-small _ (c .if1 .left)))
 
 returns-2 : tie.Need-returns-2
 returns-2 c = c .work-words .ensures ∙ sym (within _ _ (c .before .if1 .left))

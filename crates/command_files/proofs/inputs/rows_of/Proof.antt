@@ -1,6 +1,7 @@
 -- `command_files::inputs::rows_of` meets its contract.
 -- Assumes nothing.
-use Rattle.command_files.proofs.Parts.{read-few, read-rows, no-rows, rows-given, rows-refused}
+use Rattle.command_files.proofs.Parts.{read-rows, no-rows, rows-given, rows-refused}
+use Rattle.stored_sheet.specs.SheetLaws.{read-most}
 use native.Mathlib.Omega.{arith}
 use borrow.Author.Needs.{needs}
 use Rattle.command_files.proofs.inputs.rows_of.Statement.{statement}
@@ -14,7 +15,7 @@ enum-known-count c = search needs
 
 mul-t9 : tie.Need-mul-t9
 mul-t9 c =
-    let h = read-few _ (c .before .before .before .before .before .before .before .before .before .args .rows .now) _ _ (c .before .before .before .before .before .read-sheet .ensures) (c .before .count .given .1) in
+    let h = read-most _ (c .before .before .before .before .before .before .before .before .before .args .rows .now) _ _ (c .before .before .before .before .before .read-sheet .ensures) (c .before .count .given .1) in
     record { fits = omega arith }
 
 enum-known-refusal : tie.Need-enum-known-refusal

@@ -17,25 +17,25 @@ loop-holds : tie.Need-loop-holds Inv-loop μ-loop
 loop-holds c = none-filled _ _
 
 mul-padded-lane : tie.Need-mul-padded-lane Inv-loop μ-loop
-mul-padded-lane c = search needs
+mul-padded-lane c = omega arith
 
 add-padded-lane : tie.Need-add-padded-lane Inv-loop μ-loop
-add-padded-lane c = search needs
+add-padded-lane c = omega arith
 
 padded-lane-requires : tie.Need-padded-lane-requires Inv-loop μ-loop
 padded-lane-requires c κs = search needs
 
 mul-b : tie.Need-mul-b Inv-loop μ-loop
-mul-b c = search needs
+mul-b c = omega arith
 
 array-write-b : tie.Need-array-write-b Inv-loop μ-loop
-array-write-b c = search needs
+array-write-b c = omega arith
 
 add-n : tie.Need-add-n Inv-loop μ-loop
-add-n c = search needs
+add-n c = omega arith
 
 loop-less : tie.Need-loop-less Inv-loop μ-loop
-loop-less c = search needs
+loop-less c = omega arith
 
 loop-again : tie.Need-loop-again Inv-loop μ-loop
 loop-again c = one-filled _ _ (c .before .before .loop .inv) (c .before .loop-test .taken) (c .padded-lane .ensures)

@@ -6,13 +6,13 @@ use Rattle.shake.proofs.padded.padded_byte.Statement.{statement}
 use Rattle.shake.proofs.padded.padded_byte.Tie as tie
 
 mul-size : tie.Need-mul-size
-mul-size c = search needs
+mul-size c = omega arith
 
 add-size : tie.Need-add-size
-add-size c = search needs
+add-size c = omega arith
 
 shared-slice-read-wide : tie.Need-shared-slice-read-wide
-shared-slice-read-wide c = search needs
+shared-slice-read-wide c = omega arith
 
 wide-requires : tie.Need-wide-requires
 wide-requires c κs = search needs
@@ -23,13 +23,13 @@ returns c =
     (byte-label (now (a .label)) (now (a .words)) (a .i) (omega arith) (c .wide .ensures .0), c .wide .ensures .1)
 
 sub-j : tie.Need-sub-j
-sub-j c = search needs
+sub-j c = omega arith
 
 mul-word-byte : tie.Need-mul-word-byte
-mul-word-byte c = search needs
+mul-word-byte c = omega arith
 
 shared-slice-read-word-byte : tie.Need-shared-slice-read-word-byte
-shared-slice-read-word-byte c = search needs
+shared-slice-read-word-byte c = omega arith
 
 word-byte-requires : tie.Need-word-byte-requires
 word-byte-requires c κs = search needs
@@ -40,10 +40,10 @@ returns-2 c =
     (byte-word (now (a .label)) (now (a .words)) (a .i) (omega arith) (omega arith) (c .word-byte .ensures .0), c .word-byte .ensures .1)
 
 mul-last : tie.Need-mul-last
-mul-last c = search needs
+mul-last c = omega arith
 
 add-last : tie.Need-add-last
-add-last c = search needs
+add-last c = omega arith
 
 returns-3 : tie.Need-returns-3
 returns-3 c =

@@ -6,13 +6,13 @@ use Rattle.shake.proofs.padded.padded_quad.Statement.{statement}
 use Rattle.shake.proofs.padded.padded_quad.Tie as tie
 
 sub-j : tie.Need-sub-j
-sub-j c = search needs
+sub-j c = omega arith
 
 add-if2 : tie.Need-add-if2
-add-if2 c = search needs
+add-if2 c = omega arith
 
 mul-if2 : tie.Need-mul-if2
-mul-if2 c = search needs
+mul-if2 c = omega arith
 
 quad-of-words-requires : tie.Need-quad-of-words-requires
 quad-of-words-requires c κs = search needs
@@ -23,19 +23,19 @@ returns c =
     (quad-inside (now (a .label)) (now (a .words)) (a .i) (omega arith) (omega arith) (c .quad-of-words .ensures .0), c .quad-of-words .ensures .1)
 
 mul-size : tie.Need-mul-size
-mul-size c = search needs
+mul-size c = omega arith
 
 add-size : tie.Need-add-size
-add-size c = search needs
+add-size c = omega arith
 
 add-if4 : tie.Need-add-if4
-add-if4 c = search needs
+add-if4 c = omega arith
 
 mul-if4 : tie.Need-mul-if4
-mul-if4 c = search needs
+mul-if4 c = omega arith
 
 add-if4-2 : tie.Need-add-if4-2
-add-if4-2 c = search needs
+add-if4-2 c = omega arith
 
 returns-2 : tie.Need-returns-2
 returns-2 c =

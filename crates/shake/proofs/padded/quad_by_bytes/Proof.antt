@@ -9,40 +9,40 @@ padded-byte-requires : tie.Need-padded-byte-requires
 padded-byte-requires c κs = search needs
 
 add-padded-byte : tie.Need-add-padded-byte
-add-padded-byte c = search needs
+add-padded-byte c = omega arith
 
 padded-byte-requires-2 : tie.Need-padded-byte-requires-2
 padded-byte-requires-2 c κs = search needs
 
 add-padded-byte-2 : tie.Need-add-padded-byte-2
-add-padded-byte-2 c = search needs
+add-padded-byte-2 c = omega arith
 
 padded-byte-requires-3 : tie.Need-padded-byte-requires-3
 padded-byte-requires-3 c κs = search needs
 
 add-padded-byte-3 : tie.Need-add-padded-byte-3
-add-padded-byte-3 c = search needs
+add-padded-byte-3 c = omega arith
 
 padded-byte-requires-4 : tie.Need-padded-byte-requires-4
 padded-byte-requires-4 c κs = search needs
 
 mul-result : tie.Need-mul-result
-mul-result c = search needs
+mul-result c = omega arith
 
 add-result : tie.Need-add-result
-add-result c = search needs
+add-result c = omega arith
 
 mul-result-2 : tie.Need-mul-result-2
-mul-result-2 c = search needs
+mul-result-2 c = omega arith
 
 add-result-2 : tie.Need-add-result-2
-add-result-2 c = search needs
+add-result-2 c = omega arith
 
 mul-result-3 : tie.Need-mul-result-3
-mul-result-3 c = search needs
+mul-result-3 c = omega arith
 
 add-result-3 : tie.Need-add-result-3
-add-result-3 c = search needs
+add-result-3 c = omega arith
 
 returns : tie.Need-returns
 unfolding quadAt

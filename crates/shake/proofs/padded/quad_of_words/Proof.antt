@@ -7,58 +7,58 @@ use Rattle.shake.proofs.padded.quad_of_words.Statement.{statement}
 use Rattle.shake.proofs.padded.quad_of_words.Tie as tie
 
 mul-wide-word : tie.Need-mul-wide-word
-mul-wide-word c = search needs
+mul-wide-word c = omega arith
 
 shared-slice-read-wide-word : tie.Need-shared-slice-read-wide-word
-shared-slice-read-wide-word c = search needs
+shared-slice-read-wide-word c = omega arith
 
 wide-word-requires : tie.Need-wide-word-requires
 wide-word-requires c κs = search needs
 
 add-wide-word : tie.Need-add-wide-word
-add-wide-word c = search needs
+add-wide-word c = omega arith
 
 mul-wide-word-2 : tie.Need-mul-wide-word-2
-mul-wide-word-2 c = search needs
+mul-wide-word-2 c = omega arith
 
 shared-slice-read-wide-word-2 : tie.Need-shared-slice-read-wide-word-2
-shared-slice-read-wide-word-2 c = search needs
+shared-slice-read-wide-word-2 c = omega arith
 
 wide-word-requires-2 : tie.Need-wide-word-requires-2
 wide-word-requires-2 c κs = search needs
 
 mul-x : tie.Need-mul-x
-mul-x c = search needs
+mul-x c = omega arith
 
 add-x : tie.Need-add-x
-add-x c = search needs
+add-x c = omega arith
 
 mul-y : tie.Need-mul-y
-mul-y c = search needs
+mul-y c = omega arith
 
 sub-y : tie.Need-sub-y
-sub-y c = search needs
+sub-y c = omega arith
 
 shr-y : tie.Need-shr-y
-shr-y c = search needs
+shr-y c = omega arith
 
 mul-result : tie.Need-mul-result
-mul-result c = search needs
+mul-result c = omega arith
 
 add-result : tie.Need-add-result
-add-result c = search needs
+add-result c = omega arith
 
 mul-result-2 : tie.Need-mul-result-2
-mul-result-2 c = search needs
+mul-result-2 c = omega arith
 
 add-result-2 : tie.Need-add-result-2
-add-result-2 c = search needs
+add-result-2 c = omega arith
 
 mul-result-3 : tie.Need-mul-result-3
-mul-result-3 c = search needs
+mul-result-3 c = omega arith
 
 add-result-3 : tie.Need-add-result-3
-add-result-3 c = search needs
+add-result-3 c = omega arith
 
 returns : tie.Need-returns
 returns c =

@@ -1,23 +1,22 @@
 use Rattle.shake.proofs.PadLaws.{shifted-byte}
 use native.Mathlib.Omega.{arith}
-use borrow.Author.Needs.{needs}
 use Rattle.shake.proofs.padded.word_byte.Statement.{statement}
 use Rattle.shake.proofs.padded.word_byte.Tie as tie
 
 mul-result : tie.Need-mul-result
-mul-result c = search needs
+mul-result c = omega arith
 
 sub-result : tie.Need-sub-result
-sub-result c = search needs
+sub-result c = omega arith
 
 cast-result : tie.Need-cast-result
-cast-result c = search needs
+cast-result c = omega arith
 
 shr-result : tie.Need-shr-result
-shr-result c = search needs
+shr-result c = omega arith
 
 cast-result-2 : tie.Need-cast-result-2
-cast-result-2 c = search needs
+cast-result-2 c = omega arith
 
 returns : tie.Need-returns
 returns c = (shifted-byte (c .args .w) (c .args .j) (c .fits .w .fits) (omega arith), omega arith)

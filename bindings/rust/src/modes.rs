@@ -1,0 +1,131 @@
+//! The modes of a call: types here, bits of one word in C.
+
+/// Which rows are taken.
+#[derive(Clone, Copy, Debug, PartialEq, Eq)]
+pub enum Mode {
+    /// All.
+    Sandbox,
+    /// None with q zero; an unused row is 0/1.
+    Live,
+}
+
+/// What is said of the sum.
+#[derive(Clone, Copy, Debug, PartialEq, Eq)]
+pub enum Sum {
+    /// Its p is zero, or the run is refused.
+    AssertZero,
+    /// Its p is put into the log.
+    Observe,
+}
+
+const LIVE: u32 = 1;
+const ASSERT_ZERO: u32 = 2;
+
+/// The verifier takes no modes yet.
+pub(crate) const NONE: u32 = 0;
+
+/// The word of the prover's modes.
+pub(crate) fn word(mode: Mode, sum: Sum) -> u32 {
+    let live = if mode == Mode::Live { LIVE } else { NONE };
+    let assert_zero = if sum == Sum::AssertZero { ASSERT_ZERO } else { NONE };
+    live | assert_zero
+}
+
+#[cfg(test)]
+mod tests {
+    use super::*;
+    use crate::{ffi, Refusal};
+
+    const UNKNOWN: [u32; 9] = [4, 8, 16, 32, 1 << 30, 1 << 31, 5, 6, u32::MAX];
+
+    /// The call's number and answer over four marked buffers, which are as before; the answer was marked too.
+    fn prove(rows: &[u32], modes: u32) -> (u32, ffi::Answer) {
+        let (mut proof, mut words, mut answer) = ([0xa5; 100], [[9; 100]; 3], [9; 16]);
+        let [point, log, work] = &mut words;
+        let challenges = [5, 0, 0, 0];
+        let number = unsafe {
+            ffi::accudrina_prove(
+                rows.as_ptr(),
+                rows.len(),
+                modes,
+                challenges.as_ptr(),
+                4,
+                proof.as_mut_ptr(),
+                100,
+                point.as_mut_ptr(),
+                100,
+                log.as_mut_ptr(),
+                100,
+                work.as_mut_ptr(),
+                100,
+                &mut answer,
+            )
+        };
+        assert!(number == 0 || (proof, words) == ([0xa5; 100], [[9; 100]; 3]));
+        (number, answer)
+    }
+
+    /// The same, over two buffers.
+    fn verify(proof: &[u8], rounds: usize, modes: u32) -> (u32, ffi::Answer) {
+        let (mut words, mut answer) = ([[9; 100]; 2], [9; 16]);
+        let [point, log] = &mut words;
+        let challenges = [5, 0, 0, 0];
+        let number = unsafe {
+            ffi::accudrina_verify(
+                proof.as_ptr(),
+                proof.len(),
+                rounds,
+                modes,
+                challenges.as_ptr(),
+                4,
+                point.as_mut_ptr(),
+                100,
+                log.as_mut_ptr(),
+                100,
+                &mut answer,
+            )
+        };
+        assert!(number == 0 || words == [[9; 100]; 2]);
+        (number, answer)
+    }
+
+    fn told(bits: u32) -> (u32, ffi::Answer) {
+        let mut answer = [0; 16];
+        answer[..2].copy_from_slice(&[28, bits]);
+        assert_eq!(Refusal::told(&answer), Refusal::UnknownMode { bits });
+        assert_eq!(Refusal::told(&answer).number(), 28);
+        (28, answer)
+    }
+
+    #[test]
+    fn unknown_bits_are_refused_first_of_all() {
+        let zero_sum = [1, 0, 0, 0, 2, 0, 0, 0, crate::PRIME - 1, 0, 0, 0, 2, 0, 0, 0];
+        for modes in UNKNOWN {
+            for rows in [&zero_sum[..], &zero_sum[..7], &[]] {
+                assert_eq!(prove(rows, modes), told(modes & !3));
+            }
+        }
+        assert_eq!([0, 1, 2, 3].map(|modes| prove(&zero_sum, modes).0), [0; 4]);
+    }
+
+    #[test]
+    fn the_verifier_takes_no_bit() {
+        let half = |p| crate::Fraction::new(crate::Element::new(p), crate::Element::new(2));
+        let rows = [half(1), half(crate::PRIME - 1)];
+        let proof = crate::prove(&rows, Mode::Live, Sum::AssertZero, &[crate::Element::new(5)]).unwrap().proof;
+        for modes in [1, 2, 3].into_iter().chain(UNKNOWN) {
+            for (bytes, rounds) in [(&proof[..], 1), (&[], 1), (&proof[..], 0), (&proof[..], 11)] {
+                assert_eq!(verify(bytes, rounds, modes), told(modes));
+            }
+        }
+        assert_eq!(verify(&proof, 1, NONE).0, 0);
+    }
+
+    #[test]
+    fn room_for_the_log_looks_at_one_bit() {
+        for modes in [0, 1, 2, 3].into_iter().chain(UNKNOWN) {
+            let asked = [0, 1, 2, 10, 11].map(|n| unsafe { ffi::accudrina_log_words(n, modes) });
+            assert_eq!(asked, if modes & 2 == 2 { [0, 24, 64, 960, 0] } else { [0, 28, 68, 964, 0] });
+        }
+    }
+}

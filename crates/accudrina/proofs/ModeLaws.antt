@@ -1,0 +1,51 @@
+-- A bit taken away; a word of bits that are taken, and of such that are not.
+-- Assumes nothing.
+use mathlib.Core.Path.{_≡_, refl, sym, _∙_, ap}
+use mathlib.Core.Bool.{Bool, true, false}
+use mathlib.Core.List.{List, [], _∷_}
+use Prim.Native.Nat.{ℕ, _-_, _/_, _%_, _≤_}
+use native.Mathlib.Nat.{div-eq-of-lt}
+use native.Mathlib.Omega.{arith}
+use borrow.Author.Tests.{eqb-true, eq-eqb, ne-eqb, leb-true, leb-false}
+use lib.Dec.{leb}
+use Rattle.refusal.specs.declared.Report.{Report}
+use Rattle.refusal.specs.declared.Proving.{Proving}
+use Rattle.prover_gate.specs.Refusals.{call}
+use Rattle.prover.specs.Proved.{Buffers}
+use Rattle.accudrina.specs.Answer.{Told, tells}
+use Rattle.accudrina.specs.Modes.{LIVE, ASSERT-ZERO, has, without, untaken, provingOf, unknownMode}
+use Rattle.accudrina.specs.Calls.{Returned, taking, provingTaken, proving}
+use Rattle.accudrina.proofs.Telling.{returned}
+
+-- a bit that is set is at most the word
+pub set-within : (bit modes : ℕ) {t : Bool} → t ≡ has bit modes → t ≡ true → bit ≤ modes
+unfolding has
+set-within bit modes test is = go (leb bit modes) refl
+  where
+    odd : modes / bit % 2 ≡ 1
+    odd = eqb-true _ _ (sym test ∙ is)
+
+    go : (t : Bool) → leb bit modes ≡ t → bit ≤ modes
+    go true e = leb-true bit modes e
+    go false e = absurd (omega (arith, odd, div-eq-of-lt (leb-false bit modes e)))
+
+pub taken-away : (bit modes : ℕ) {t : Bool} → t ≡ has bit modes → t ≡ true → modes - bit ≡ without bit modes
+unfolding without
+taken-away bit modes test is = rw (sym test ∙ is)
+
+pub left-alone : (bit modes : ℕ) {t : Bool} → t ≡ has bit modes → t ≡ false → modes ≡ without bit modes
+unfolding without
+left-alone bit modes test is = rw (sym test ∙ is)
+
+-- a word u of bits that are not taken is refused; with none, the run is what is answered
+pub refused-modes : {B : Type 0} {t : Told} {r : Report} {bits u : ℕ} (lent : B) (run : Returned B) → u ≡ bits → (u ≡ 0 → ⊥) → r ≡ unknownMode u → t ≡ tells r
+    → _≡_ {A = Returned B} (record { told = t; buffers = lent }) (taking bits lent run)
+refused-modes {bits = bits} lent run e h r t = returned t (r ∙ ap unknownMode e) refl ∙ rw (ne-eqb bits 0 (λ z. h (e ∙ z)))
+
+pub taken-modes : {B : Type 0} {bits u : ℕ} (lent : B) {run answer : Returned B} → u ≡ bits → u ≡ 0 → answer ≡ run → answer ≡ taking bits lent run
+taken-modes {bits = bits} lent e h a = a ∙ rw (eq-eqb bits 0 (sym e ∙ h))
+
+-- the prover's run is that in the modes read from the word
+pub proved-in : {u : ℕ} (rows : List ℕ) (modes : ℕ) (ch : List ℕ) {m : Proving} (b : Buffers) {answer : Returned Buffers} → u ≡ untaken (LIVE ∷ ASSERT-ZERO ∷ []) modes → u ≡ 0
+    → m ≡ provingOf modes → answer ≡ provingTaken (call rows m ch) b → answer ≡ proving rows modes ch b
+proved-in rows modes ch b e h m r = taken-modes b e h (r ∙ ap (λ m. provingTaken (call rows m ch) b) m)

@@ -1,0 +1,15 @@
+use borrow.Author.Needs.{needs}
+use Rattle.accudrina.proofs.modes.proving.Statement.{statement}
+use Rattle.accudrina.proofs.modes.proving.Tie as tie
+
+has-requires : tie.Need-has-requires
+has-requires c κs = search needs
+
+has-requires-2 : tie.Need-has-requires-2
+has-requires-2 c κs = search needs
+
+returns : tie.Need-returns
+returns c = λ i. record { live = c .before .has .ensures i; «assert_zero» = c .has2 .ensures i }
+
+pub proving-spec : {M : Type 1} → statement M
+proving-spec = tie.close (tie.spec has-requires has-requires-2 returns)

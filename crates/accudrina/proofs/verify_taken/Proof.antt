@@ -1,0 +1,37 @@
+use mathlib.Core.Path.{ap, _∙_}
+use Rattle.verifier_round.specs.Report.{verdictReport}
+use Rattle.accudrina.proofs.Telling.{returned}
+use borrow.Author.Needs.{needs}
+use Rattle.accudrina.proofs.verify_taken.Statement.{statement}
+use Rattle.accudrina.proofs.verify_taken.Tie as tie
+
+verify-gkr-requires : tie.Need-verify-gkr-requires
+verify-gkr-requires c κs = search needs
+
+number-and-values-requires : tie.Need-number-and-values-requires
+number-and-values-requires c κs = search needs
+
+tell-requires : tie.Need-tell-requires
+tell-requires c κs = search needs
+
+same-length : tie.Need-same-length
+same-length c = search needs
+
+same-length-2 : tie.Need-same-length-2
+same-length-2 c = search needs
+
+returns : tie.Need-returns
+returns c =
+    let verdict = c .before .before .before .before .before .before .before .verify-gkr .ensures in
+    returned (c .tell .ensures) (c .before .before .number-and-values .ensures ∙ ap (λ e. verdictReport (e .answer)) verdict) (ap (λ e. e .buffers) verdict)
+
+pub verify-taken-spec : {M : Type 1} → statement M
+verify-taken-spec =
+    tie.close
+    (tie.spec
+    verify-gkr-requires
+    number-and-values-requires
+    tell-requires
+    same-length
+    same-length-2
+    returns)

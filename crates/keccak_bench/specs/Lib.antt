@@ -1,0 +1,2 @@
+-- What the timed loop does.
+pub mod Times

@@ -1,2 +1,0 @@
--- The laws of the text.
-pub mod Reading

@@ -1,0 +1,2 @@
+-- The laws of the sizes as the code finds them.
+pub mod Sizing
