@@ -57,7 +57,7 @@ def command(code, a):
     if code == 40:
         return f"prove {int(a[1])} {words(a[2])} {words(a[3])}"
     if code == 50:
-        return f"verify {a[0]} {bytes(a[1]).hex() or '-'} {words(a[2])}"
+        return f"verify {a[0]} {bytes(a[2]).hex() or '-'} {words(a[3])}"
     if code in (60, 70):
         return None
     if code in (20, 21, 22):
@@ -139,7 +139,7 @@ def comparable(code, a, refused):
         return True
     if code == 40:
         return refused.no in (3, 8, 9)
-    return code == 50 and refused.no in (6, 12, 13)
+    return code == 50 and refused.no in (6, 12, 13, 27)
 
 
 def check_refusal(code, a, refused, asked, rust):
@@ -149,8 +149,11 @@ def check_refusal(code, a, refused, asked, rust):
         good = rust is None
     elif code == 40:
         good = rust is not None and rust.no == 8
-    elif refused.no == 6 and m.bad(a[2][:m.challenge_words(a[0])]):
+    elif refused.no == 6 and m.bad(a[3][:m.challenge_words(a[0])]):
         good = rust is None or rust.no not in (12, 13)
+    elif refused.no == 27:
+        # the Rust has no live mode: it runs, so both counts are right
+        good = rust is not None and rust.no not in (14, 15)
     else:
         good = rust is not None and rust.no == refused.no
     if not good:

@@ -26,6 +26,7 @@ WORDS = {
     17: "RootConsistencyCheckFailed: the denominator of the sum, as stated and as layer 0 has it: expected %s, actual %s",
     18: "IncorrectSubroundCount: the number of sub-rounds in round %s: expected %s, actual %s",
     19: "LayerConsistencyCheckFailed: the claim of round %s, as its layer has it and as its sub-rounds reach it: expected %s, actual %s",
+    27: "ZeroRoot: the denominator of the sum is zero, so that the proof says nothing about the rows (live mode)",
 }
 SHEET, PROOF, TEXT = 3 + 32 * m.ROWS, 65536, 262144
 WORD = r"-?[0-9]+"
@@ -141,10 +142,10 @@ def compare(files, sheet, rounds, point, claims):
     return "claims match the sheet" if m.outcome(70, [rows, point]).elements == claims else "refused: the claims are not the sheet's"
 
 
-def verify(files, proof, rounds, challenges, sheet):
+def verify(files, proof, rounds, live, challenges, sheet):
     if len(files[proof]) > PROOF:
         raise Refused("refused: %s has more than %d bytes, and a proof of 10 rounds has 2832" % (proof, PROOF))
-    o = m.outcome(50, [rounds, files[proof], challenges_of(files, challenges), 40, 960, 0])
+    o = m.outcome(50, [rounds, live, files[proof], challenges_of(files, challenges), 40, 960, 0])
     if o.no:
         raise Refused(refusal(o))
     point = " ".join(long(e) for e in m.elements(o.fronts[0]))
@@ -166,6 +167,6 @@ def run(files, line):
             return show(files, *args)
         if name == "prove":
             return prove(files, args[0], args[1], "--live" in args, "--no-assert" not in args, challenges)
-        return verify(files, args[0], int(args[1]), challenges, sheet)
+        return verify(files, args[0], int(args[1]), "--live" in args, challenges, sheet)
     except Refused as said:
         return [str(said)]

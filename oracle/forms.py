@@ -15,7 +15,7 @@ FORMS = {
     28: ("poly", "horner_eval", "le"), 29: ("poly", "horner_eval_base", "le"),
     30: ("poly", "fold_mle_evals", "leww"), 31: ("poly", "round_poly", "elllll"),
     40: ("prover", "prove", "wwllwwwww"),
-    50: ("verifier", "verify", "wllwww"),
+    50: ("verifier", "verify", "wwllwww"),
     60: ("sheet", "read_sheet", "lww"),
     70: ("evaluation", "evaluate", "ll"),
 }
@@ -93,7 +93,7 @@ def write_answer(code, a, o):
              + buffer(work, a[7], a[8]))
     elif code == 50:
         point, log = fronts or [[]] * 2
-        v = fields(o) + buffer(point, a[3], a[5]) + buffer(log, a[4], a[5])
+        v = fields(o) + buffer(point, a[4], a[6]) + buffer(log, a[5], a[6])
     elif code == 70:
         v = fields(o)
     else:

@@ -9,7 +9,7 @@ TOP = (1 << 32) - 1
 EDGE = [0, 1, 2, P - 1]
 BAD = [P, P + 1, 1 << 31, TOP]
 # The longest lists and buffers of a case, by its arguments, for programs that read them into arrays (lists of poly: 8,200).
-LARGEST = {40: (1, 1, 16400, 320, 2900, 48, 1000, 32800), 50: ((1 << 64) - 1, 16400, 320, 48, 1000), 60: (65600, 16400), 70: (16400, 48)}
+LARGEST = {40: (1, 1, 16400, 320, 2900, 48, 1000, 32800), 50: ((1 << 64) - 1, 1, 16400, 320, 48, 1000), 60: (65600, 16400), 70: (16400, 48)}
 
 
 def within(code, a):
@@ -144,7 +144,11 @@ class Make:
             challenges = challenges[:self.near(len(challenges), 0.5)]
         challenges += [self.r.choice(BAD + EDGE) for _ in range(self.r.choice([0, 0, 1, 4]))]
         size = rounds if rounds <= m.ROUNDS else 1
-        return 50, [rounds, proof, challenges, self.near(4 * size, 0.02), self.near(m.log_words(size), 0.02), self.filler()]
+        rooms = [self.near(4 * size, 0.02), self.near(m.log_words(size), 0.02), self.filler()]
+        live = self.r.randrange(2)
+        if live and self.r.random() < 0.1:
+            proof[5:21] = [0] * len(proof[5:21])
+        return 50, [rounds, live, proof, challenges, *rooms]
 
     def damage(self, proof):
         """A proof that keeps the layout, with one to three things wrong."""

@@ -368,7 +368,7 @@ def prove_refusal(live, asserted, rows, challenges, proof, point, log, work):
     return None
 
 
-def verify_refusal(n, proof, challenges, point, log):
+def verify_refusal(n, live, proof, challenges, point, log):
     no = first((10, lambda: n == 0), (11, lambda: n > ROUNDS), (4, lambda: len(challenges) < challenge_words(n)),
                (5, lambda: point < 4 * n or log < log_words(n)))
     if no:
@@ -378,7 +378,10 @@ def verify_refusal(n, proof, challenges, point, log):
         return Outcome(read)
     q0, layers, polys = read
     words = [w for es in [[q0], *layers, *(s for entry in polys for s in entry)] for e in es for w in e]
-    return Outcome(6) if bad(words, challenges[:challenge_words(n)]) else None
+    if bad(words, challenges[:challenge_words(n)]):
+        return Outcome(6)
+    counted = len(layers) == n and len(polys) == n - 1
+    return Outcome(27) if live and counted and q0 == ZERO else None
 
 
 def read_sheet(data, room):
@@ -437,7 +440,7 @@ def refusal(code, a):
     if code == 40:
         return prove_refusal(*a[:8])
     if code == 50:
-        return verify_refusal(*a[:5])
+        return verify_refusal(*a[:6])
     if code == 60:
         return read_sheet(*a[:2])
     no = evaluate_refusal(*a) if code == 70 else helper_refusal(code, a)
@@ -486,7 +489,7 @@ def run(code, a):
         rows = elements(a[2])
         return fractional_sumcheck(list(zip(rows[::2], rows[1::2])), a[1], a[3])
     if code == 50:
-        return verify_gkr(read_proof(a[1]), a[0], a[2])
+        return verify_gkr(read_proof(a[2]), a[0], a[3])
     if code == 70:
         return evaluate(elements(a[0]), elements(a[1]))
     raise ValueError(code)

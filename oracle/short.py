@@ -66,17 +66,18 @@ def short_prover():
 
 def short_verifier():
     for proof in strings([0, 1, 2, 255], range(4)) + strings([0, 1], range(4, 8)):
-        yield 50, [1, proof, [5, 0, 0, 0], 4, 24, 7]
+        yield 50, [1, len(proof) & 1, proof, [5, 0, 0, 0], 4, 24, 7]
     for k in range(len(K2_PROOF) + 1):
-        yield 50, [1, K2_PROOF[:k], [5, 0, 0, 0], 4, 24, 7]
-        yield 50, [1, repaired(K2_PROOF[:k]), [5, 0, 0, 0], 4, 24, 7]
-        yield 50, [1, repaired(K2_PROOF + [0] * k), [5, 0, 0, 0], 4, 24, 7]
+        yield 50, [1, k & 1, K2_PROOF[:k], [5, 0, 0, 0], 4, 24, 7]
+        yield 50, [1, k & 1, repaired(K2_PROOF[:k]), [5, 0, 0, 0], 4, 24, 7]
+        yield 50, [1, k & 1, repaired(K2_PROOF + [0] * k), [5, 0, 0, 0], 4, 24, 7]
     for rounds, c, point, log in itertools.product([0, 1, 2, 10, 11], [0, 3, 4, 5, 15, 16, 17], [0, 3, 4, 7, 8, 9],
                                                    [0, 23, 24, 25, 63, 64, 65]):
-        yield 50, [rounds, K2_PROOF, [5] * c, point, log, 7]
+        yield 50, [rounds, c & 1, K2_PROOF, [5] * c, point, log, 7]
     small = [m.const(k) for k in (0, 1, -1)]
     for q0, *layer in itertools.product(small, repeat=5):
-        yield 50, [1, m.write_proof(q0, [layer], []), [5, 6, 7, 8], 5, 26, 9]
+        for live in (0, 1):
+            yield 50, [1, live, m.write_proof(q0, [layer], []), [5, 6, 7, 8], 5, 26, 9]
 
 
 def short_sheet():

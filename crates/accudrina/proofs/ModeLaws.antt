@@ -10,11 +10,13 @@ use borrow.Author.Tests.{eqb-true, eq-eqb, ne-eqb, leb-true, leb-false}
 use lib.Dec.{leb}
 use Rattle.refusal.specs.declared.Report.{Report}
 use Rattle.refusal.specs.declared.Proving.{Proving}
+use Rattle.refusal.specs.declared.Verifying.{Verifying}
 use Rattle.prover_gate.specs.Refusals.{call}
 use Rattle.prover.specs.Proved.{Buffers}
+use Rattle.verifier.specs.Verified.{Lent, asked}
 use Rattle.accudrina.specs.Answer.{Told, tells}
-use Rattle.accudrina.specs.Modes.{LIVE, ASSERT-ZERO, has, without, untaken, provingOf, unknownMode}
-use Rattle.accudrina.specs.Calls.{Returned, taking, provingTaken, proving}
+use Rattle.accudrina.specs.Modes.{LIVE, ASSERT-ZERO, has, without, untaken, provingOf, verifyingOf, unknownMode}
+use Rattle.accudrina.specs.Calls.{Returned, taking, provingTaken, proving, verifyingTaken, verifying}
 use Rattle.accudrina.proofs.Telling.{returned}
 
 -- a bit that is set is at most the word
@@ -49,3 +51,8 @@ taken-modes {bits = bits} lent e h a = a ∙ rw (eq-eqb bits 0 (sym e ∙ h))
 pub proved-in : {u : ℕ} (rows : List ℕ) (modes : ℕ) (ch : List ℕ) {m : Proving} (b : Buffers) {answer : Returned Buffers} → u ≡ untaken (LIVE ∷ ASSERT-ZERO ∷ []) modes → u ≡ 0
     → m ≡ provingOf modes → answer ≡ provingTaken (call rows m ch) b → answer ≡ proving rows modes ch b
 proved-in rows modes ch b e h m r = taken-modes b e h (r ∙ ap (λ m. provingTaken (call rows m ch) b) m)
+
+-- and so is the verifier's
+pub verified-in : {u : ℕ} (proof : List ℕ) (n modes : ℕ) (ch : List ℕ) {m : Verifying} (v : Lent) {answer : Returned Lent} → u ≡ untaken (LIVE ∷ []) modes → u ≡ 0
+    → m ≡ verifyingOf modes → answer ≡ verifyingTaken (asked proof n m ch) v → answer ≡ verifying proof n modes ch v
+verified-in proof n modes ch v e h m r = taken-modes v e h (r ∙ ap (λ m. verifyingTaken (asked proof n m ch) v) m)

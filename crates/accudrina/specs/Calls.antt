@@ -14,7 +14,7 @@ use Rattle.prover.specs.Report.{answerReport}
 use Rattle.verifier_round.specs.Report.{verdictReport}
 use Rattle.verifier.specs.Verified.{Asked, Lent, asked, verified}
 use Rattle.accudrina.specs.Answer.{Told, tells}
-use Rattle.accudrina.specs.Modes.{LIVE, ASSERT-ZERO, untaken, provingOf, unknownMode}
+use Rattle.accudrina.specs.Modes.{LIVE, ASSERT-ZERO, untaken, provingOf, verifyingOf, unknownMode}
 
 pub record Returned (B : Type 0) : Type 0 where
   pub told : Told
@@ -41,9 +41,9 @@ proving rows modes challenges b =
 abbrev pub verifyingTaken : Asked → Lent → Returned Lent
 verifyingTaken a v = record { told = tells (verdictReport (verified a v .answer)); buffers = verified a v .buffers }
 
--- of a proof's bytes, rounds, a word of modes, of which none is taken yet, and challenges
+-- of a proof's bytes, rounds, a word of modes and challenges
 abbrev pub verifying : (proof : List ℕ) (rounds modes : ℕ) (challenges : List ℕ) → Lent → Returned Lent
-verifying proof rounds modes challenges v = taking (untaken [] modes) v (verifyingTaken (asked proof rounds challenges) v)
+verifying proof rounds modes challenges v = taking (untaken (LIVE ∷ []) modes) v (verifyingTaken (asked proof rounds (verifyingOf modes) challenges) v)
 
 -- of rows and a point; no buffer is lent
 abbrev pub evaluating : (rows point : List ℕ) → Told

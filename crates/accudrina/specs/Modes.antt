@@ -5,6 +5,7 @@ use mathlib.Core.List.{List, [], _∷_}
 use Prim.Native.Nat.{ℕ, _-_, _/_, _%_}
 use lib.Dec.{eqb}
 use Rattle.refusal.specs.declared.Proving.{Proving}
+use Rattle.refusal.specs.declared.Verifying.{Verifying}
 use Rattle.refusal.specs.declared.Report.{Report}
 use Rattle.refusal.specs.Numbers.{plain}
 
@@ -29,6 +30,10 @@ untaken (bit ∷ bits) modes = untaken bits (without bit modes)
 -- the modes of proving that a word says
 abbrev pub provingOf : (modes : ℕ) → Proving
 provingOf modes = record { live = has LIVE modes; «assert_zero» = has ASSERT-ZERO modes }
+
+-- and of verifying
+abbrev pub verifyingOf : (modes : ℕ) → Verifying
+verifyingOf modes = record { live = has LIVE modes }
 
 -- 28, of the exported calls alone: the bits that are not taken
 abbrev pub unknownMode : (bits : ℕ) → Report

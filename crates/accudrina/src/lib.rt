@@ -5,6 +5,7 @@ ghost use Rattle.prover.specs.Proved.{lent};
 ghost use Rattle.verifier.specs.Verified.{asked, lent as again};
 ghost use Rattle.accudrina.specs.Calls.{reading, proving, provingTaken, verifying, verifyingTaken, evaluating};
 use refusal::Proving;
+use refusal::Verifying;
 
 mod answer; // the sixteen words
 mod modes; // the bits of a word
@@ -71,19 +72,20 @@ pub extern "C" fn accudrina_prove(
 fn verify_taken(
     proof: &[u8],
     rounds: usize,
+    modes: Verifying,
     challenges: &[u32],
     point: &mut [u32],
     log: &mut [u32],
     answer: &mut [u32; 16],
 ) -> u32
     ensures { λ r. ⌜ record { told = record { number = r; words = now (answer .exit) }; buffers = again (now (point .exit)) (now (log .exit)) }
-        ≡ verifyingTaken (asked (now (proof .entry)) rounds (now (challenges .entry))) (again (now (point .entry)) (now (log .entry))) ⌝ }
+        ≡ verifyingTaken (asked (now (proof .entry)) rounds modes (now (challenges .entry))) (again (now (point .entry)) (now (log .entry))) ⌝ }
 {
-    let verdict = verifier::verify_gkr(proof, rounds, challenges, point, log);
+    let verdict = verifier::verify_gkr(proof, rounds, modes, challenges, point, log);
     answer::tell(verifier_round::number_and_values(verdict), answer)
 }
 
-// What the verifier says of a proof: the number 0 and both claims at the point written, or the refusal with its fields; first of all 28, since it takes no modes.
+// What the verifier says of a proof: the number 0 and both claims at the point written, or the refusal with its fields; first of all 28, the bits of the modes that are not taken.
 #[no_mangle]
 pub extern "C" fn accudrina_verify(
     proof: &[u8],
@@ -97,10 +99,12 @@ pub extern "C" fn accudrina_verify(
     ensures { λ r. ⌜ record { told = record { number = r; words = now (answer .exit) }; buffers = again (now (point .exit)) (now (log .exit)) }
         ≡ verifying (now (proof .entry)) rounds modes (now (challenges .entry)) (again (now (point .entry)) (now (log .entry))) ⌝ }
 {
-    if modes != 0 {
-        return answer::tell(modes::unknown_mode(modes), answer);
+    let unknown = modes::untaken_by_verifier(modes);
+    if unknown != 0 {
+        return answer::tell(modes::unknown_mode(unknown), answer);
     }
-    verify_taken(proof, rounds, challenges, point, log, answer)
+    let verifying = modes::verifying(modes);
+    verify_taken(proof, rounds, verifying, challenges, point, log, answer)
 }
 
 // The values of both columns of a sheet at a point: the number 0, the rounds and both values, or the refusal; it only reads.

@@ -6,8 +6,9 @@ ghost use Rattle.accudrina.specs.Modes as Modes;
 use field::Ext;
 use refusal::Proving;
 use refusal::Report;
+use refusal::Verifying;
 
-// A row over zero is refused.
+// A row over zero is refused by the prover, a root over zero by the verifier.
 pub const LIVE: u32 = 1;
 
 // A sum that is not zero is refused; where this is not set, the sum is observed.
@@ -46,6 +47,22 @@ pub fn proving(modes: u32) -> Proving
     Proving {
         live: has(modes, LIVE),
         assert_zero: has(modes, ASSERT_ZERO),
+    }
+}
+
+// The bits of a word that the verifier does not take.
+pub fn untaken_by_verifier(modes: u32) -> u32
+    ensures { λ r. ⌜ r ≡ Modes.untaken (Modes.LIVE ∷ []) modes ⌝ }
+{
+    without(modes, LIVE)
+}
+
+// The mode of verifying that a word says.
+pub fn verifying(modes: u32) -> Verifying
+    ensures { λ r. ⌜ r ≡ Modes.verifyingOf modes ⌝ }
+{
+    Verifying {
+        live: has(modes, LIVE),
     }
 }
 

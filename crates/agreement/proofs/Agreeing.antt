@@ -1,7 +1,7 @@
--- Demand 3, proved: the prover's bytes are read back as the honest proof, which the model's verifier accepts.
+-- Demand 3, proved: the prover's bytes are read back as the honest proof, which passes the live verifier's root check and which the model's verifier accepts.
 -- Assumes nothing.
 use mathlib.Core.Path.{_≡_, refl, sym, _∙_, ap, ap₂, subst}
-use mathlib.Core.Bool.{Bool, true, false, cond, not, _||_}
+use mathlib.Core.Bool.{Bool, true, false, _&&_, and-eq-true-iff}
 use mathlib.Core.List.{List}
 use Prim.Native.Nat.{ℕ, zero, suc, _*_, _^_, _<_, _≤_}
 use native.Mathlib.Omega.{arith}
@@ -12,6 +12,7 @@ use Rattle.field.specs.Ext as E
 use Rattle.field.specs.ExtRing.{ExtRing, same-true}
 use Rattle.field.specs.Extension.{Extension}
 use Rattle.field.specs.Element.{words}
+use Rattle.field.specs.ElementLaws.{dec-enc}
 use Rattle.gkr.specs.Run.{Transcript, Frac, Proof}
 use Rattle.gkr.specs.Transcripts.{Words, empty, Source}
 use Rattle.gkr.specs.Sizes.{challenges, proof-bytes, log-words}
@@ -22,27 +23,32 @@ use Rattle.gkr.specs.Honest as Honest
 use Rattle.gkr.specs.Count as Count
 use Rattle.gkr.specs.TranscriptLaws as TranscriptLaws
 use Rattle.transcript.specs.Log.{Drawing, supplied}
+use Rattle.sizes.specs.SizeLaws.{counted}
 use Rattle.wire.specs.Words.{allCanonical}
 use Rattle.stored.specs.Layout.{layout, proofWords}
-use Rattle.stored.specs.ParseLaws.{parse-reads}
+use Rattle.stored.specs.ParseLaws.{Answered, parse-reads}
 use Rattle.stored.specs.RoundTrip.{write-read}
-use Rattle.stored.specs.Elements.{encoded, decoded}
+use Rattle.stored.specs.Elements.{encoded, decoded, overZero}
 use Rattle.prover_tree.specs.Nodes.{node}
 use Rattle.sizes.specs.Sizes.{rowCount, roundsOf}
+use Rattle.refusal.specs.declared.Verifying.{Verifying}
 use Rattle.prover_gate.specs.Refusals.{Call}
 use Rattle.prover.specs.Proved as Prover
+use Rattle.prover.specs.Companions.{in-mode, Sound}
 use Rattle.prover.specs.declared.Answer.the-variants.{Done}
 use Rattle.verifier.specs.Verified as Verifier
 use Rattle.verifier.specs.Verified.{Lent}
 use Rattle.verifier.proofs.GateLaws.{opens-all}
 use Rattle.agreement.specs.Demand3.{Taken, root, Room, verdict, Agreed, Demand3}
-use Rattle.agreement.specs.Companions.{OtherSum}
-use Rattle.stored.specs.ElementLaws.{decoded-encoded, encoded-canonical}
+use Rattle.agreement.specs.Companions.{OtherSum, ProvedLive}
+use Rattle.stored.specs.ElementLaws.{decoded-encoded, encoded-canonical, root-nil}
+use Rattle.roots.proofs.Rows.{rows-and-sum}
+use Rattle.roots.proofs.Live.{live-root}
 use Rattle.agreement.proofs.HonestSize.{honest-size}
 use Rattle.agreement.proofs.Opening.{opens, rounds-taken-are}
 
 -- The run over a sheet that is taken, zero asserted or not: t is the log before root q.
-module _ (c : Call) (m : ℕ) (b : Prover.Buffers) (v : Lent) (h : Taken c (suc m)) (r : Room (c .modes .«assert_zero») (suc m) b v) where
+module _ (c : Call) (how : Verifying) (m : ℕ) (b : Prover.Buffers) (v : Lent) (h : Taken c (suc m)) (r : Room (c .modes .«assert_zero») (suc m) b v) (sound : how .live ≡ true → Sound (c .rows)) where
   abbrev needed : List ℕ
   needed = take (4 * challenges (suc m)) (c .challenges)
 
@@ -79,21 +85,33 @@ module _ (c : Call) (m : ℕ) (b : Prover.Buffers) (v : Lent) (h : Taken c (suc 
         ap (λ o. take (proof-bytes (suc m)) (o .buffers .proof)) proved-run
         ∙ take-at bytes (drop (length bytes) (b .proof)) (proof-bytes (suc m)) (honest-size S m rows t)
 
+    back : Answered bytes (encoded (run .proof))
+    back = parse-reads bytes (encoded (run .proof)) (write-read (encoded (run .proof)))
+
+    -- no row is over zero where the verifier is live, and so the root is not
+    root-passes : (x : Bool) → (how .live && (Verifier.counted bytes (suc m) && overZero bytes)) ≡ x → x ≡ false
+    unfolding Gkr.run
+    root-passes true e =
+        let l = and-eq-true-iff (how .live) (Verifier.counted bytes (suc m) && overZero bytes) .0 e in
+        let z = and-eq-true-iff (Verifier.counted bytes (suc m)) (overZero bytes) .0 (l .1) .1 in
+        let q = ap (λ π. decoded π .q0) (back .proof) ∙ dec-enc (root c (suc m) .q) in
+        absurd (rows-and-sum (c .rows) (suc m) (counted (c .rows) (suc m) (h .rows)) .0 (sound (l .0)) (sym q ∙ root-nil bytes z))
+    root-passes false e = refl
+
     -- which the verifier reads as that proof
-    verified-run : Verifier.verified (Verifier.asked bytes (suc m) (c .challenges)) v ≡ ended v (Gkr.verify-gkr Extension S (suc m) (run .proof) empty)
+    verified-run : Verifier.verified (Verifier.asked bytes (suc m) how (c .challenges)) v ≡ ended v (Gkr.verify-gkr Extension S (suc m) (run .proof) empty)
     unfolding Verifier.verified
     verified-run =
-        let a = Verifier.asked bytes (suc m) (c .challenges) in
-        let back = parse-reads bytes (encoded (run .proof)) (write-read (encoded (run .proof))) in
+        let a = Verifier.asked bytes (suc m) how (c .challenges) in
         let canon = ap (λ π. allCanonical (proofWords π)) (back .proof) ∙ encoded-canonical (run .proof) in
         ap (λ w. Verifier.laid (Verifier.fronts a w) v)
         (opens-all a _ _ (back .reads)
-        (record { some = h .some; few = h .few; chals = h .enough; room = r .point-again; log-room = r .log-again; canon = canon; clean = h .valid-challenges }))
+        (record { some = h .some; few = h .few; chals = h .enough; room = r .point-again; log-room = r .log-again; canon = canon; clean = h .valid-challenges }) (root-passes _ refl))
         ∙ ap (λ π. ended v (Gkr.verify-gkr Extension S (suc m) (decoded π) empty)) (back .proof)
         ∙ ap (λ π. ended v (Gkr.verify-gkr Extension S (suc m) π empty)) (decoded-encoded (run .proof))
 
-    pub verdict-run : verdict c (suc m) (Prover.proved c b) v ≡ ended v (Gkr.verify-gkr Extension S (suc m) (run .proof) empty)
-    verdict-run = ap (λ bs. Verifier.verified (Verifier.asked bs (suc m) (c .challenges)) v) front ∙ verified-run
+    pub verdict-run : verdict c how (suc m) (Prover.proved c b) v ≡ ended v (Gkr.verify-gkr Extension S (suc m) (run .proof) empty)
+    verdict-run = ap (λ bs. Verifier.verified (Verifier.asked bs (suc m) how (c .challenges)) v) front ∙ verified-run
 
     pub sum-run : Prover.proved c b .answer ≡ Done (suc m) (Prover.encFrac (root c (suc m)))
     unfolding Gkr.run
@@ -101,7 +119,8 @@ module _ (c : Call) (m : ℕ) (b : Prover.Buffers) (v : Lent) (h : Taken c (suc 
 
 -- ZERO ASSERTED, AND THE ROOT NUMERATOR ZERO
 
-module _ (c : Call) (m : ℕ) (b : Prover.Buffers) (v : Lent) (h : Taken c (suc m)) (a : c .modes .«assert_zero» ≡ true) (z : root c (suc m) .p ≡ E.nil) (r : Room true (suc m) b v) where
+module _ (c : Call) (how : Verifying) (m : ℕ) (b : Prover.Buffers) (v : Lent) (h : Taken c (suc m)) (a : c .modes .«assert_zero» ≡ true) (z : root c (suc m) .p ≡ E.nil) (r : Room true (suc m) b v)
+    (sound : how .live ≡ true → Sound (c .rows)) where
   abbrev ch : Source E.Ext
   ch = supplied (take (4 * challenges (suc m)) (c .challenges))
 
@@ -119,17 +138,17 @@ module _ (c : Call) (m : ℕ) (b : Prover.Buffers) (v : Lent) (h : Taken c (suc 
   r′ = subst (λ s. Room s (suc m) b v) (sym a) r
 
   run-is : Prover.proved c b ≡ Prover.laid (Prover.finished ch (suc m) P) b
-  run-is = proved-run c m b v h r′ empty is-done
+  run-is = proved-run c how m b v h r′ sound empty is-done
 
-  verdict-is : verdict c (suc m) (Prover.proved c b) v ≡ Verifier.laid (Verifier.ended ch (accepted (Tree.value ExtRing (node (c .rows)) (P .point)) (P .point) (P .log))) v
-  verdict-is = verdict-run c m b v h r′ empty is-done ∙ ap (λ w. Verifier.laid (Verifier.ended ch w) v) (theorem .1)
+  verdict-is : verdict c how (suc m) (Prover.proved c b) v ≡ Verifier.laid (Verifier.ended ch (accepted (Tree.value ExtRing (node (c .rows)) (P .point)) (P .point) (P .log))) v
+  verdict-is = verdict-run c how m b v h r′ sound empty is-done ∙ ap (λ w. Verifier.laid (Verifier.ended ch w) v) (theorem .1)
 
-  pub agreed : Agreed c (suc m) b v (Prover.proved c b) (verdict c (suc m) (Prover.proved c b) v)
+  pub agreed : Agreed c (suc m) b v (Prover.proved c b) (verdict c how (suc m) (Prover.proved c b) v)
   agreed =
       record {
         point = P .point;
         logged = P .log .log;
-        done = sum-run c m b v h r′ empty is-done;
+        done = sum-run c how m b v h r′ sound empty is-done;
         accepted = ap (λ o. o .answer) verdict-is;
         coordinates = Count.point-length Extension (Drawing ch) m (node (c .rows)) empty;
         proved-point = ap (λ o. o .buffers .point) run-is;
@@ -144,8 +163,8 @@ none n e h = omega arith
 
 -- THE THEOREM
 pub demand-3 : Demand3
-demand-3 c zero b v h a z r = absurd (none 0 refl (h .some))
-demand-3 c (suc m) b v h a z r = agreed c m b v h a z r
+demand-3 c how zero b v h a z r sound = absurd (none 0 refl (h .some))
+demand-3 c how (suc m) b v h a z r sound = agreed c how m b v h a z r sound
 
 -- ANOTHER SUM, NOT ASSERTED
 
@@ -158,8 +177,8 @@ differs x h = go (E.same x E.nil) refl
 
 pub other-sum : OtherSum
 unfolding Gkr.fractional-sumcheck
-other-sum c zero b v h a z r = absurd (none 0 refl (h .some))
-other-sum c (suc m) b v h a z r =
+other-sum c how zero b v h a z r sound = absurd (none 0 refl (h .some))
+other-sum c how (suc m) b v h a z r sound =
     let ch = supplied (take (4 * challenges (suc m)) (c .challenges)) in
     let f = node (c .rows) in
     let t = Drawing ch .observe (root c (suc m) .p) empty in
@@ -167,4 +186,9 @@ other-sum c (suc m) b v h a z r =
     ap (λ s. Gkr.fractional-sumcheck Extension (Drawing ch) s m f empty) a in
     let r′ : Room (c .modes .«assert_zero») (suc m) b v = subst (λ s. Room s (suc m) b v) (sym a) r in
     let n = Honest.not-zero Extension (Drawing ch) m f t empty (differs (root c (suc m) .p) z) in
-    (sum-run c m b v h r′ t e, ap (λ o. o .answer) (verdict-run c m b v h r′ t e ∙ ap (λ w. Verifier.laid (Verifier.ended ch w) v) n))
+    (sum-run c how m b v h r′ sound t e, ap (λ o. o .answer) (verdict-run c how m b v h r′ sound t e ∙ ap (λ w. Verifier.laid (Verifier.ended ch w) v) n))
+
+-- PROVED LIVE
+
+pub proved-live : ProvedLive
+proved-live c b n s h d = live-root c b n s (subst (λ l. Prover.proved (in-mode l c) b .answer ≡ Done n s) h d) .0

@@ -13,8 +13,10 @@ use Rattle.refusal.specs.Tests.{Tested, passed, refused}
 use Rattle.refusal.specs.declared.Refusal.{Refusal}
 use Rattle.step.specs.declared.Frac.{Frac}
 use Rattle.sizes.specs.Sizes.{rowCount, roundsOf}
+use Rattle.refusal.specs.declared.Verifying.{Verifying}
 use Rattle.prover_gate.specs.Refusals.{Call, firstRefusal}
 use Rattle.prover.specs.Proved as Prover
+use Rattle.prover.specs.Companions.{Sound}
 use Rattle.prover.specs.Proved.{Buffers, roomsOf, entered, fronts, proved}
 use Rattle.prover.proofs.Theorems.{Ends, each-end, done-refused}
 use Rattle.prover.specs.declared.Answer.{Answer}
@@ -70,22 +72,22 @@ all-taken k l h = simp length-take (omega arith)
 
 -- EACH WAY THROUGH
 
-module _ (c : Call) (b : Buffers) (v : Lent) where
-  pub joined-refused : {e : Refusal} {pb : Buffers} {r : Answer} → _≡_ {A = Prover.Outcome} (record { answer = r; buffers = pb }) (proved c b) → r ≡ Denied e → joined (Refused e) pb v ≡ together c b v
+module _ (c : Call) (how : Verifying) (b : Buffers) (v : Lent) where
+  pub joined-refused : {e : Refusal} {pb : Buffers} {r : Answer} → _≡_ {A = Prover.Outcome} (record { answer = r; buffers = pb }) (proved c b) → r ≡ Denied e → joined (Refused e) pb v ≡ together c how b v
   unfolding together
-  joined-refused {e} {pb} h d = ap (λ a. follow c v (record { answer = a; buffers = pb }) a) (sym d) ∙ ap (λ o. follow c v o (o .answer)) h
+  joined-refused {e} {pb} h d = ap (λ a. follow c how v (record { answer = a; buffers = pb }) a) (sym d) ∙ ap (λ o. follow c how v o (o .answer)) h
 
   pub joined-proved : {n : ℕ} {s : Frac} {pb : Buffers} {r : Answer} {w : Verdict} {pt lg : List ℕ} {size : ℕ} → _≡_ {A = Prover.Outcome} (record { answer = r; buffers = pb }) (proved c b) → r ≡ Done n s
-      → size ≡ proof-bytes n → Verifier.outcome w pt lg ≡ Verifier.verified (Verifier.asked (take size (pb .proof)) n (c .challenges)) v → joined (Proved n s w) pb (Verifier.lent pt lg) ≡ together c b v
+      → size ≡ proof-bytes n → Verifier.outcome w pt lg ≡ Verifier.verified (Verifier.asked (take size (pb .proof)) n how (c .challenges)) v → joined (Proved n s w) pb (Verifier.lent pt lg) ≡ together c how b v
   unfolding together
   joined-proved {n} {s} {pb} h d k q =
-      ap (ended (record { answer = Done n s; buffers = pb })) (q ∙ ap (λ (j : ℕ). Verifier.verified (Verifier.asked (take j (pb .proof)) n (c .challenges)) v) k)
-      ∙ ap (λ a. follow c v (record { answer = a; buffers = pb }) a) (sym d)
-      ∙ ap (λ o. follow c v o (o .answer)) h
+      ap (ended (record { answer = Done n s; buffers = pb })) (q ∙ ap (λ (j : ℕ). Verifier.verified (Verifier.asked (take j (pb .proof)) n how (c .challenges)) v) k)
+      ∙ ap (λ a. follow c how v (record { answer = a; buffers = pb }) a) (sym d)
+      ∙ ap (λ o. follow c how v o (o .answer)) h
 
   -- DEMAND 3
-  pub agrees : (j : Joined) → j ≡ together c b v → (n : ℕ) → Taken c n → c .modes .«assert_zero» ≡ true → root c n .p ≡ E.nil → Room true n b v → Agrees c n b v j
+  pub agrees : (j : Joined) → j ≡ together c how b v → (n : ℕ) → Taken c n → c .modes .«assert_zero» ≡ true → root c n .p ≡ E.nil → Room true n b v → (how .live ≡ true → Sound (c .rows)) → Agrees c n b v j
   unfolding together
-  agrees j e n h a z r =
-      let A = demand-3 c n b v h a z r in
-      subst (Agrees c n b v) (sym e) (subst (λ w. Agrees c n b v (follow c v (proved c b) w)) (sym (A .done)) A)
+  agrees j e n h a z r s =
+      let A = demand-3 c how n b v h a z r s in
+      subst (Agrees c n b v) (sym e) (subst (λ w. Agrees c n b v (follow c how v (proved c b) w)) (sym (A .done)) A)

@@ -1,13 +1,16 @@
--- What stands beside demand 3: another sum.
+-- What stands beside demand 3: another sum, and the premise of a live verifier.
 -- Assumes nothing.
 use mathlib.Core.Path.{_≡_}
-use mathlib.Core.Bool.{false}
+use mathlib.Core.Bool.{true, false}
 use Prim.Native.Nat.{ℕ}
 use Rattle.field.specs.Ext as E
 use Rattle.field.specs.Element.{enc}
+use Rattle.refusal.specs.declared.Verifying.{Verifying}
 use Rattle.refusal.specs.declared.Refusal.the-variants.{ZeroCheckFailed}
+use Rattle.step.specs.declared.Frac.{Frac}
 use Rattle.prover_gate.specs.Refusals.{Call}
 use Rattle.prover.specs.Proved.{Buffers, encFrac, proved}
+use Rattle.prover.specs.Companions.{Sound}
 use Rattle.prover.specs.declared.Answer.the-variants.{Done}
 use Rattle.verifier_round.specs.declared.Verdict.the-variants.{Refused as TurnedAway}
 use Rattle.verifier.specs.Verified.{Lent}
@@ -16,5 +19,9 @@ use Rattle.agreement.specs.Demand3.{Taken, root, Room, verdict}
 -- ANOTHER SUM, not asserted: the prover is done, and the verifier answers 16 with that sum
 abbrev pub OtherSum : Type 0
 OtherSum =
-    (c : Call) (n : ℕ) (b : Buffers) (v : Lent) → Taken c n → c .modes .«assert_zero» ≡ false → (root c n .p ≡ E.nil → ⊥) → Room false n b v
-    → (proved c b .answer ≡ Done n (encFrac (root c n))) × (verdict c n (proved c b) v .answer ≡ TurnedAway (ZeroCheckFailed (enc (root c n .p))))
+    (c : Call) (how : Verifying) (n : ℕ) (b : Buffers) (v : Lent) → Taken c n → c .modes .«assert_zero» ≡ false → (root c n .p ≡ E.nil → ⊥) → Room false n b v → (how .live ≡ true → Sound (c .rows))
+    → (proved c b .answer ≡ Done n (encFrac (root c n))) × (verdict c how n (proved c b) v .answer ≡ TurnedAway (ZeroCheckFailed (enc (root c n .p))))
+
+-- PROVED LIVE: what a live verifier asks of the rows follows from done
+abbrev pub ProvedLive : Type 0
+ProvedLive = (c : Call) (b : Buffers) (n : ℕ) (s : Frac) → c .modes .live ≡ true → proved c b .answer ≡ Done n s → Sound (c .rows)

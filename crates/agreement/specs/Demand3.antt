@@ -1,9 +1,9 @@
--- Demand 3: what has to hold of a sheet, its challenges and the buffers, and how prover and verifier then agree.
+-- Demand 3: what has to hold of a sheet, its challenges and the buffers, and how prover and verifier then agree, in every mode of both.
 -- Assumes nothing.
 use mathlib.Core.Path.{_≡_}
 use mathlib.Core.Bool.{Bool, true, false}
 use mathlib.Core.List.{List}
-use Prim.Native.Nat.{ℕ, _*_, _^_, _<_, _≤_}
+use Prim.Native.Nat.{ℕ, _*_, _^_, _≤_}
 use lib.ListN.{length, take}
 use Rattle.field.specs.Ext as E
 use Rattle.field.specs.ExtRing.{ExtRing}
@@ -11,12 +11,14 @@ use Rattle.field.specs.Element.{enc, pointWords}
 use Rattle.gkr.specs.Run.{Frac}
 use Rattle.gkr.specs.Sizes.{challenges, proof-bytes, point-words, log-words}
 use Rattle.gkr.specs.Tree as Tree
+use Rattle.refusal.specs.declared.Verifying.{Verifying}
 use Rattle.refusal.specs.Limits.{maxRounds}
 use Rattle.refusal.specs.Fronts.{over}
 use Rattle.wire.specs.Words.{allCanonical}
 use Rattle.prover_tree.specs.Nodes.{node}
-use Rattle.prover_gate.specs.Refusals.{Call, shortRoom, degenerate}
+use Rattle.prover_gate.specs.Refusals.{Call, shortRoom}
 use Rattle.prover.specs.Proved as Prover
+use Rattle.prover.specs.Companions.{Sound}
 use Rattle.prover.specs.declared.Answer.the-variants.{Done}
 use Rattle.verifier.specs.Verified as Verifier
 use Rattle.verifier.specs.Verified.{Lent}
@@ -30,7 +32,7 @@ pub record Taken (c : Call) (n : ℕ) : Type 0 where
   pub enough : 4 * challenges n ≤ length (c .challenges)
   pub valid-rows : allCanonical (c .rows) ≡ true
   pub valid-challenges : allCanonical (take (4 * challenges n) (c .challenges)) ≡ true
-  pub checked : c .modes .live ≡ true → (i : ℕ) → i < 2 ^ n → degenerate (node (c .rows) i) ≡ false
+  pub checked : c .modes .live ≡ true → Sound (c .rows)
 
 -- the sum of all rows
 abbrev pub root : (c : Call) (n : ℕ) → Frac E.Ext
@@ -43,8 +45,8 @@ pub record Room (asserted : Bool) (n : ℕ) (b : Prover.Buffers) (v : Lent) : Ty
   pub log-again : log-words true n ≤ length (v .log)
 
 -- what the verifier makes of that proof's bytes, n and the same challenges
-abbrev pub verdict : (c : Call) (n : ℕ) (P : Prover.Outcome) (v : Lent) → Verifier.Outcome
-verdict c n P v = Verifier.verified (Verifier.asked (take (proof-bytes n) (P .buffers .proof)) n (c .challenges)) v
+abbrev pub verdict : (c : Call) (how : Verifying) (n : ℕ) (P : Prover.Outcome) (v : Lent) → Verifier.Outcome
+verdict c how n P v = Verifier.verified (Verifier.asked (take (proof-bytes n) (P .buffers .proof)) n how (c .challenges)) v
 
 -- THE AGREEMENT of a prover's outcome P over the buffers b and a verifier's outcome Q over the buffers v
 pub record Agreed (c : Call) (n : ℕ) (b : Prover.Buffers) (v : Lent) (P : Prover.Outcome) (Q : Verifier.Outcome) : Type 0 where
@@ -62,6 +64,8 @@ pub record Agreed (c : Call) (n : ℕ) (b : Prover.Buffers) (v : Lent) (P : Prov
   pub proved-log : P .buffers .log ≡ over logged (b .log)
   pub verified-log : Q .buffers .log ≡ over logged (v .log)
 
--- THE DEMAND: zero asserted, and the root numerator zero
+-- THE DEMAND: zero asserted, the root numerator zero, and where the verifier is live no row over zero
 abbrev pub Demand3 : Type 0
-Demand3 = (c : Call) (n : ℕ) (b : Prover.Buffers) (v : Lent) → Taken c n → c .modes .«assert_zero» ≡ true → root c n .p ≡ E.nil → Room true n b v → let P = Prover.proved c b in Agreed c n b v P (verdict c n P v)
+Demand3 =
+    (c : Call) (how : Verifying) (n : ℕ) (b : Prover.Buffers) (v : Lent) → Taken c n → c .modes .«assert_zero» ≡ true → root c n .p ≡ E.nil → Room true n b v → (how .live ≡ true → Sound (c .rows))
+    → let P = Prover.proved c b in Agreed c n b v P (verdict c how n P v)

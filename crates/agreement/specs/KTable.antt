@@ -13,7 +13,8 @@ use Rattle.multilinear.specs.Interpolate as Interpolate
 use Rattle.gkr.specs.Run.{Frac, Proof}
 use Rattle.gkr.specs.Compute.{el, minus, frac, claims, cubic}
 use Rattle.gkr.specs.Sizes.{proof-bytes, point-words, log-words, workspace-words}
-use Rattle.refusal.specs.declared.Refusal.the-variants.{ZeroDenominator, NonZeroRootSum, SingleRow, ZeroCheckFailed, RootConsistencyCheckFailed}
+use Rattle.refusal.specs.declared.Verifying.{Verifying}
+use Rattle.refusal.specs.declared.Refusal.the-variants.{ZeroDenominator, NonZeroRootSum, SingleRow, ZeroCheckFailed, RootConsistencyCheckFailed, ZeroRoot}
 use Rattle.wire.specs.Bytes.{bytesOf}
 use Rattle.stored.specs.Layout.{layout}
 use Rattle.stored.specs.Elements.{encoded}
@@ -64,8 +65,11 @@ bytes c n = take (proof-bytes n) (Prover.proved c (room n) .buffers .proof)
 abbrev pub point : Call → ℕ → List ℕ
 point c n = Prover.proved c (room n) .buffers .point
 
-abbrev pub verdictOf : Call → ℕ → Verdict
-verdictOf c n = verdict c n (Prover.proved c (room n)) (room-again n) .answer
+abbrev pub in-sandbox : Verifying
+in-sandbox = record { live = false }
+
+abbrev pub verdictOf : Verifying → Call → ℕ → Verdict
+verdictOf how c n = verdict c how n (Prover.proved c (room n)) (room-again n) .answer
 
 abbrev pub summed : ℕ → (p q : E.Ext) → Answer
 summed n p q = Done n (Prover.encFrac (frac p q))
@@ -77,7 +81,10 @@ abbrev pub proves : Call → ℕ → Answer → Case
 proves c n a = record { Answers = Answer; asked = answer c n; expected = a }
 
 abbrev pub verifies : Call → ℕ → Verdict → Case
-verifies c n a = record { Answers = Verdict; asked = verdictOf c n; expected = a }
+verifies c n a = record { Answers = Verdict; asked = verdictOf in-sandbox c n; expected = a }
+
+abbrev pub verifies-live : Call → ℕ → Verdict → Case
+verifies-live c n a = record { Answers = Verdict; asked = verdictOf (record { live = true }) c n; expected = a }
 
 abbrev pub ends-at : Call → ℕ → List E.Ext → Case
 ends-at c n z = record { Answers = List ℕ; asked = point c n; expected = pointWords z }
@@ -150,6 +157,8 @@ K1-K10 =
     ∷ ends-at K3 2 (el 4 ∷ el 3 ∷ [])
     ∷ proves K4 1 (summed 1 (el 0) (el 0))
     ∷ verifies K4 1 (accepts (el 0) (el 0))
+    ∷ verifies-live K2 1 (accepts (minus 9) (el 2))
+    ∷ verifies-live K4 1 (TurnedAway ZeroRoot)
     ∷ proves (one-row true (el 1)) 0 (Refused NonZeroRootSum)
     ∷ proves (one-row false (el 1)) 0 (Refused SingleRow)
     ∷ proves (one-row true (el 0)) 0 (Refused SingleRow)
@@ -161,5 +170,5 @@ K1-K10 =
     ∷ equals (E.mul x² x²) (el 11)
     ∷ equals (E.mul x³ x³) (ext 0 0 11 0)
     ∷ equals (Interpolate.cubic Extension (el 0) (el 1) (el 8) (el 27) (el 4)) (el 64)
-    ∷ record { Answers = Verdict; asked = Verifier.verified (Verifier.asked K10 1 (pointWords (el 5 ∷ []))) (room-again 1) .answer; expected = TurnedAway (RootConsistencyCheckFailed (enc (el 5)) (enc (el 4))) }
+    ∷ record { Answers = Verdict; asked = Verifier.verified (Verifier.asked K10 1 in-sandbox (pointWords (el 5 ∷ []))) (room-again 1) .answer; expected = TurnedAway (RootConsistencyCheckFailed (enc (el 5)) (enc (el 4))) }
     ∷ []

@@ -1,6 +1,7 @@
 -- Prover and verifier one after the other: what both leave, and when they agree.
 -- Assumes nothing.
 use Prim.Native.Nat.{ℕ}
+use Rattle.refusal.specs.declared.Verifying.{Verifying}
 use Rattle.prover_gate.specs.Refusals.{Call}
 use Rattle.prover.specs.Proved as Prover
 use Rattle.prover.specs.declared.Answer.{Answer}
@@ -18,12 +19,12 @@ pub data Joined : Type 0 where
   ended : Prover.Outcome → Verifier.Outcome → Joined
 
 -- where the prover is done, the verifier gets the proof's bytes, n and the same challenges
-abbrev pub follow : (c : Call) (v : Lent) (P : Prover.Outcome) → Answer → Joined
-follow c v P (Done n s) = ended P (verdict c n P v)
-follow c v P (Denied e) = stopped P v
+abbrev pub follow : (c : Call) (how : Verifying) (v : Lent) (P : Prover.Outcome) → Answer → Joined
+follow c how v P (Done n s) = ended P (verdict c how n P v)
+follow c how v P (Denied e) = stopped P v
 
-unfoldable pub together : (c : Call) (b : Prover.Buffers) (v : Lent) → Joined
-together c b v = follow c v (Prover.proved c b) (Prover.proved c b .answer)
+unfoldable pub together : (c : Call) (how : Verifying) (b : Prover.Buffers) (v : Lent) → Joined
+together c how b v = follow c how v (Prover.proved c b) (Prover.proved c b .answer)
 
 -- an answer and the buffers after it
 abbrev pub joined : Joint → Prover.Buffers → Lent → Joined

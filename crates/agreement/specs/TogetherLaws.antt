@@ -2,6 +2,7 @@
 -- Assumes nothing.
 use mathlib.Core.Path.{_≡_, refl, sym, _∙_, ap}
 use Rattle.refusal.specs.declared.Refusal.the-variants.{ShortRoom}
+use Rattle.refusal.specs.declared.Verifying.{Verifying}
 use Rattle.prover_gate.specs.Refusals.{Call}
 use Rattle.prover.specs.Proved as Prover
 use Rattle.prover.specs.declared.Answer.{Answer}
@@ -36,6 +37,6 @@ read-off : (a : Joint) (b : Prover.Buffers) (v : Lent) → readOff (joined a b v
 read-off (Proved n s w) b v = refl
 read-off (Refused e) b v = refl
 
-pub only-one : (c : Call) (b : Prover.Buffers) (v : Lent) (o o' : Outcome)
-    → joined (o .answer) (o .buffers) (o .again) ≡ together c b v → joined (o' .answer) (o' .buffers) (o' .again) ≡ together c b v → o ≡ o'
-only-one c b v o o' h h' = sym (read-off (o .answer) (o .buffers) (o .again)) ∙ ap readOff (h ∙ sym h') ∙ read-off (o' .answer) (o' .buffers) (o' .again)
+pub only-one : (c : Call) (how : Verifying) (b : Prover.Buffers) (v : Lent) (o o' : Outcome)
+    → joined (o .answer) (o .buffers) (o .again) ≡ together c how b v → joined (o' .answer) (o' .buffers) (o' .again) ≡ together c how b v → o ≡ o'
+only-one c how b v o o' h h' = sym (read-off (o .answer) (o .buffers) (o .again)) ∙ ap readOff (h ∙ sym h') ∙ read-off (o' .answer) (o' .buffers) (o' .again)

@@ -5,6 +5,7 @@ ghost use Prim.Native.Nat.{ℕ};
 ghost use Rattle.field.specs.Ext as E;
 ghost use Rattle.prover_gate.specs.Refusals.{call};
 ghost use Rattle.prover.specs.Proved.{lent};
+ghost use Rattle.prover.specs.Companions.{Sound};
 ghost use Rattle.verifier.specs.Verified.{lent as again};
 ghost use Rattle.agreement.specs.Demand3.{Taken, root, Room};
 ghost use Rattle.agreement.specs.Report.{jointReport};
@@ -14,6 +15,7 @@ use prover::Answer;
 use refusal::Proving;
 use refusal::Refusal;
 use refusal::Report;
+use refusal::Verifying;
 use step::Frac;
 use verifier_round::Verdict;
 
@@ -53,10 +55,11 @@ pub fn number_and_values(joint: Joint) -> JointReport
     }
 }
 
-// Proves a sheet, and hands the proof's bytes, n and the same challenges to the verifier, which has a point and a log of its own.
+// Proves a sheet, and hands the proof's bytes, n and the same challenges to the verifier, which has its own mode, point and log.
 pub fn prove_and_verify(
     rows: &[u32],
     modes: Proving,
+    how: Verifying,
     challenges: &[u32],
     proof: &mut [u8],
     point: &mut [u32],
@@ -66,11 +69,12 @@ pub fn prove_and_verify(
     log_again: &mut [u32],
 ) -> Joint
     ensures both { λ r. ⌜ joined r (lent (now (proof .exit)) (now (point .exit)) (now (log .exit)) (now (work .exit))) (again (now («point_again» .exit)) (now («log_again» .exit)))
-        ≡ together (call (now (rows .entry)) modes (now (challenges .entry)))
+        ≡ together (call (now (rows .entry)) modes (now (challenges .entry))) how
         (lent (now (proof .entry)) (now (point .entry)) (now (log .entry)) (now (work .entry))) (again (now («point_again» .entry)) (now («log_again» .entry))) ⌝ }
     ensures demand { λ r. ⌜ ((n : ℕ) → Taken (call (now (rows .entry)) modes (now (challenges .entry))) n → modes .«assert_zero» ≡ true
         → root (call (now (rows .entry)) modes (now (challenges .entry))) n .p ≡ E.nil
         → Room true n (lent (now (proof .entry)) (now (point .entry)) (now (log .entry)) (now (work .entry))) (again (now («point_again» .entry)) (now («log_again» .entry)))
+        → (how .live ≡ true → Sound (now (rows .entry)))
         → Agrees (call (now (rows .entry)) modes (now (challenges .entry))) n
         (lent (now (proof .entry)) (now (point .entry)) (now (log .entry)) (now (work .entry))) (again (now («point_again» .entry)) (now («log_again» .entry)))
         (joined r (lent (now (proof .exit)) (now (point .exit)) (now (log .exit)) (now (work .exit))) (again (now («point_again» .exit)) (now («log_again» .exit))))) ⌝ }
@@ -81,6 +85,7 @@ pub fn prove_and_verify(
             let verdict = verifier::verify_gkr(
                 &proof[..size],
                 rounds,
+                how,
                 challenges,
                 point_again,
                 log_again,

@@ -1,6 +1,7 @@
 // Calls at the limits of document 01, and the number that each answers: rows, rounds, words.
 use prover::Answer;
 use refusal::Proving;
+use refusal::Verifying;
 
 fn print_answer(name: &[u8], number: u32) {
     io::write_all(1, name);
@@ -31,7 +32,14 @@ fn prove(name: &[u8], rows: &[u32], challenges: &[u32], proof: &mut [u8]) {
 fn verify(name: &[u8], proof: &[u8], rounds: usize, challenges: &[u32]) {
     let mut point = [0u32; 44];
     let mut log = [0u32; 1144];
-    let verdict = verifier::verify_gkr(proof, rounds, challenges, &mut point, &mut log);
+    let verdict = verifier::verify_gkr(
+        proof,
+        rounds,
+        Verifying { live: false },
+        challenges,
+        &mut point,
+        &mut log,
+    );
     print_answer(name, verifier_round::number_and_values(verdict).number);
 }
 

@@ -2,21 +2,15 @@
 -- Assumes nothing.
 use mathlib.Core.Path.{_≡_, refl, sym, _∙_, ap}
 use mathlib.Core.Bool.{Bool, true, false, cond, _&&_}
-use mathlib.Core.List.{List}
-use Prim.Native.Nat.{ℕ, _<_, _≤_}
-use borrow.Author.Tests.{lt-ltb, le-ltb}
-use lib.ListN.{length, drop}
-use Rattle.field.specs.Ext as E
-use Rattle.field.specs.Element.{dec}
+use Prim.Native.Nat.{ℕ}
 use Rattle.field.specs.declared.Ext.{Ext}
-use Rattle.wire.specs.Bytes.{elem}
 use Rattle.step.specs.declared.Frac.{Frac}
 use Rattle.refusal.specs.declared.Refusal.{Refusal}
 use Rattle.evaluation.specs.declared.Evaluation.{Evaluation}
 use Rattle.evaluation.specs.declared.Evaluation.the-variants as Ends
 use Rattle.claims.specs.declared.Comparison.{Comparison}
 use Rattle.claims.specs.declared.Comparison.the-variants.{Same, Different, Refused}
-use Rattle.claims.specs.Compared.{bothSame, compared, overZero}
+use Rattle.claims.specs.Compared.{bothSame, compared}
 
 -- a test that holds leaves the second to decide; one that does not decides
 pub also : (p q r s : Bool) → r ≡ p → r ≡ true → s ≡ q → s ≡ (p && q)
@@ -31,11 +25,3 @@ module _ (e v : Evaluation) (stated : Frac) (s : e ≡ v) where
 
   pub refused : (x : Refusal) → e ≡ Ends.Refused x → Refused x ≡ compared v stated
   refused x d = sym (ap (λ y. compared y stated) (sym s ∙ d))
-
-pub short : (bs : List ℕ) → length bs < 21 → false ≡ overZero bs
-unfolding overZero
-short bs h = sym (rw (lt-ltb (length bs) 21 h))
-
-pub long : (bs : List ℕ) (e : Ext) (r : Bool) → 21 ≤ length bs → e ≡ elem (drop 5 bs) → r ≡ E.same (dec e) E.nil → r ≡ overZero bs
-unfolding overZero
-long bs e r h p q = q ∙ ap (λ x. E.same (dec x) E.nil) p ∙ sym (rw (le-ltb (length bs) 21 h))

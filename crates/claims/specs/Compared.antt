@@ -1,13 +1,8 @@
--- When claims are a sheet's own, and when a stored proof is of a sum over zero.
+-- When claims are a sheet's own.
 -- Assumes nothing.
-use mathlib.Core.Bool.{Bool, false, cond, _&&_}
-use mathlib.Core.List.{List}
-use Prim.Native.Nat.{ℕ}
-use lib.Dec.{ltb}
-use lib.ListN.{length, drop}
+use mathlib.Core.Bool.{Bool, cond, _&&_}
 use Rattle.field.specs.Ext as E
 use Rattle.field.specs.Element.{dec}
-use Rattle.wire.specs.Bytes.{elem}
 use Rattle.step.specs.declared.Frac.{Frac}
 use Rattle.evaluation.specs.declared.Evaluation.{Evaluation}
 use Rattle.evaluation.specs.declared.Evaluation.the-variants as Ends
@@ -22,7 +17,3 @@ bothSame a b = E.same (dec (a .p)) (dec (b .p)) && E.same (dec (a .q)) (dec (b .
 abbrev pub compared : Evaluation → Frac → Comparison
 compared (Ends.Done n p q) stated = cond (bothSame stated (record { p = p; q = q })) Same Different
 compared (Ends.Refused r) stated = Refused r
-
--- q0, the first element of a proof's bytes, is zero
-unfoldable pub overZero : List ℕ → Bool
-overZero bs = cond (ltb (length bs) 21) false (E.same (dec (elem (drop 5 bs))) E.nil)

@@ -1,2 +1,2 @@
--- Claims compared with a sheet, and a sum over zero.
+-- Claims compared with a sheet.
 pub mod Compared

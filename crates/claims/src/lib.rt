@@ -1,9 +1,9 @@
-// What an accepted proof's claims say about a sheet, and when its sum says nothing.
+// What an accepted proof's claims say about a sheet.
 ghost use mathlib.Core.Path.{_≡_};
 ghost use mathlib.Core.Bool.{cond};
 ghost use Rattle.evaluation.specs.Evaluated.{evaluated};
 ghost use Rattle.claims.specs.declared.Comparison.the-variants.{Same, Different};
-ghost use Rattle.claims.specs.Compared.{bothSame, compared, overZero};
+ghost use Rattle.claims.specs.Compared.{bothSame, compared};
 use evaluation::Evaluation;
 use refusal::Refusal;
 use step::Frac;
@@ -45,14 +45,4 @@ pub fn compare(rows: &[u32], point: &[u32], stated: Frac) -> Comparison
         } => told(both_same(stated, Frac { p: numer, q: denom })),
         Evaluation::Refused(refusal) => Comparison::Refused(refusal),
     }
-}
-
-// Whether a stored proof's q0, the denominator of the sum, is zero: its elements' first, from byte 5 on.
-pub fn is_over_zero(proof: &[u8]) -> bool
-    ensures { λ r. ⌜ r ≡ overZero (now (proof .entry)) ⌝ }
-{
-    if proof.len() < 21 {
-        return false;
-    }
-    wire::element_at(proof, 5).is_zero()
 }

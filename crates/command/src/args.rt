@@ -9,6 +9,7 @@ use command_proofs::verify::verify;
 use command_sheets::make;
 use command_sheets::show;
 use refusal::Proving;
+use refusal::Verifying;
 
 fn is_word(args: &[u8], k: usize, word: &[u8]) -> bool {
     let p = part_at(args, k);
@@ -24,7 +25,7 @@ fn usage() {
     );
     io::write_all(
         2,
-        b"sheetproof verify PROOF ROUNDS [--challenges TEXT] [--sheet SHEET]\n",
+        b"sheetproof verify PROOF ROUNDS [--live] [--challenges TEXT] [--sheet SHEET]\n",
     );
     io::write_all(2, b"sheetproof show SHEET\n");
     io::write_all(2, b"sheetproof make TEXT SHEET\n");
@@ -55,7 +56,7 @@ fn run_prove(args: &[u8], n: usize) {
 }
 
 // The rounds are a number in digits.
-fn verify_rounds(proof: &[u8], rounds: &[u8], challenges: &[u8], sheet: &[u8]) {
+fn verify_rounds(proof: &[u8], rounds: &[u8], modes: Verifying, challenges: &[u8], sheet: &[u8]) {
     let n = sheet_text::scan::number_at(rounds, 0);
     if rounds.len() == 0 {
         return usage();
@@ -63,7 +64,7 @@ fn verify_rounds(proof: &[u8], rounds: &[u8], challenges: &[u8], sheet: &[u8]) {
     if n.at < rounds.len() {
         return usage();
     }
-    verify(proof, n.value as usize, challenges, sheet);
+    verify(proof, n.value as usize, modes, challenges, sheet);
 }
 
 fn run_verify(args: &[u8], n: usize) {
@@ -86,7 +87,13 @@ fn run_verify(args: &[u8], n: usize) {
     let f = challenges.to;
     let g = sheet.from;
     let h = sheet.to;
-    verify_rounds(&args[a..b], &args[c..d], &args[e..f], &args[g..h]);
+    verify_rounds(
+        &args[a..b],
+        &args[c..d],
+        Verifying { live: o.live },
+        &args[e..f],
+        &args[g..h],
+    );
 }
 
 fn run_show(args: &[u8], n: usize) {

@@ -1,6 +1,6 @@
 // What the options after the names of a command mean.
 ghost use mathlib.Core.Path.{_≡_};
-ghost use mathlib.Core.Bool.{not, _&&_};
+ghost use mathlib.Core.Bool.{_&&_};
 ghost use Prim.Native.Nat.{_-_};
 ghost use lib.Dec.{eqb};
 ghost use Rattle.command.specs.Meaning.{isName, isNothing, none, asked, taken, optionsFrom, whole};
@@ -138,9 +138,9 @@ pub fn fit_prove(o: Options, n: usize) -> bool
     both(is_whole(o), o.sheet == n)
 }
 
-// Whether they are those of `verify`: all known, and no mode of proving.
+// Whether they are those of `verify`: all known, and nothing about the sum's numerator, which it always asks to be zero.
 pub fn fit_verify(o: Options) -> bool
-    ensures { λ r. ⌜ r ≡ (whole o && (o .asserted && not (o .live))) ⌝ }
+    ensures { λ r. ⌜ r ≡ (whole o && o .asserted) ⌝ }
 {
-    both(is_whole(o), both(o.asserted, !o.live))
+    both(is_whole(o), o.asserted)
 }

@@ -5,28 +5,43 @@ use command_files::After;
 use command_files::inputs;
 use command_text::print;
 use command_text::refusals::print_refusal;
+use refusal::Verifying;
 use step::Frac;
 use verifier_round::Verdict;
 
-fn verify_with(proof: &[u8], rounds: usize, challenges: &[u32], counted: bool, sheet: &[u8]) {
+fn verify_with(
+    proof: &[u8],
+    rounds: usize,
+    modes: Verifying,
+    challenges: &[u32],
+    counted: bool,
+    sheet: &[u8],
+) {
     let mut point = [0u32; 40];
     let mut log = [0u32; 960];
-    match verifier::verify_gkr(proof, rounds, challenges, &mut point, &mut log) {
+    match verifier::verify_gkr(proof, rounds, modes, challenges, &mut point, &mut log) {
         Verdict::Accepted { numer, denom } => {
             answers::print_accepted(numer, denom, &point, rounds);
-            print_notes(claims::is_over_zero(proof), counted);
+            print_notes(stored::is_over_zero(proof), counted);
             compare_sheet(sheet, &point, rounds, Frac { p: numer, q: denom });
         }
         Verdict::Refused(refusal) => print_refusal(refusal),
     }
 }
 
-fn verify_bytes(proof: &[u8], rounds: usize, challenges: &[u8], sheet: &[u8]) {
+fn verify_bytes(proof: &[u8], rounds: usize, modes: Verifying, challenges: &[u8], sheet: &[u8]) {
     let mut words = [0u32; 256];
     let given = inputs::read_challenges(challenges, &mut words);
     let n = given.count;
     if given.good {
-        verify_with(proof, rounds, &words[..n], challenges.len() == 0, sheet);
+        verify_with(
+            proof,
+            rounds,
+            modes,
+            &words[..n],
+            challenges.len() == 0,
+            sheet,
+        );
     }
 }
 
@@ -38,7 +53,7 @@ fn too_long(proof: &[u8]) {
 }
 
 // The names of the proof, of a text of challenges, and of a sheet; an empty one stands for counted challenges, and for no sheet.
-pub fn verify(proof: &[u8], rounds: usize, challenges: &[u8], sheet: &[u8]) {
+pub fn verify(proof: &[u8], rounds: usize, modes: Verifying, challenges: &[u8], sheet: &[u8]) {
     let mut bytes = [0u8; 65536];
     let input = command_files::read(proof, &mut bytes);
     let n = input.count;
@@ -46,6 +61,6 @@ pub fn verify(proof: &[u8], rounds: usize, challenges: &[u8], sheet: &[u8]) {
     match after {
         After::Failed => {}
         After::More => too_long(proof),
-        After::End => verify_bytes(&bytes[..n], rounds, challenges, sheet),
+        After::End => verify_bytes(&bytes[..n], rounds, modes, challenges, sheet),
     }
 }

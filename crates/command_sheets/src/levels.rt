@@ -2,6 +2,7 @@
 ghost use Prim.Native.Nat.{_≤_};
 ghost use lib.ListN.{length};
 ghost use Rattle.field.specs.Cells.{Clean};
+ghost use Rattle.refusal.specs.Limits.{maxRows};
 use command_text::print;
 use command_text::print_count;
 use command_text::print_fraction;
@@ -47,7 +48,7 @@ fn print_sums(work: &[u32], size: usize, first: usize)
 }
 
 fn print_levels(work: &[u32], size: usize)
-    requires { ⌜ size ≤ 1024 ⌝ }
+    requires { ⌜ size ≤ maxRows ⌝ }
 {
     print(b"rows:");
     print_nodes(work, size, 2 * size);

@@ -111,6 +111,12 @@ fn layer_consistency(round: usize, expected: Ext, actual: Ext) {
     elements(expected, actual);
 }
 
+fn zero_root() {
+    print(
+        b"ZeroRoot: the denominator of the sum is zero, so that the proof says nothing about the rows (live mode)",
+    );
+}
+
 fn print_words(r: Report) {
     let number = r.number;
     match number {
@@ -132,7 +138,8 @@ fn print_words(r: Report) {
         16 => zero_check(r.left),
         17 => root_consistency(r.left, r.right),
         18 => subround_count(r.first, r.second, r.third),
-        _ => layer_consistency(r.first, r.left, r.right),
+        19 => layer_consistency(r.first, r.left, r.right),
+        _ => zero_root(),
     }
 }
 

@@ -8,8 +8,10 @@ use lib.ListN.{take}
 use Rattle.field.specs.Ext as E
 use Rattle.field.specs.declared.Ext.{Ext}
 use Rattle.gkr.specs.Sizes.{point-words}
+use Rattle.refusal.specs.declared.Verifying.{Verifying}
 use Rattle.prover_gate.specs.Refusals.{Call}
 use Rattle.prover.specs.Proved as Prover
+use Rattle.prover.specs.Companions.{Sound}
 use Rattle.verifier.specs.Verified as Verifier
 use Rattle.verifier.specs.Verified.{Lent}
 use Rattle.verifier_round.specs.declared.Verdict.the-variants.{Accepted}
@@ -32,5 +34,5 @@ pub record Compared (rows : List ℕ) (n : ℕ) (P : Prover.Outcome) (Q : Verifi
 
 abbrev pub Comparison : Type 0
 Comparison =
-    (c : Call) (n : ℕ) (b : Prover.Buffers) (v : Lent) → Taken c n → c .modes .«assert_zero» ≡ true → root c n .p ≡ E.nil → Room true n b v
-    → let P = Prover.proved c b in Compared (c .rows) n P (verdict c n P v)
+    (c : Call) (how : Verifying) (n : ℕ) (b : Prover.Buffers) (v : Lent) → Taken c n → c .modes .«assert_zero» ≡ true → root c n .p ≡ E.nil → Room true n b v → (how .live ≡ true → Sound (c .rows))
+    → let P = Prover.proved c b in Compared (c .rows) n P (verdict c how n P v)

@@ -11,6 +11,7 @@ use Rattle.gkr.specs.Tests.{pass}
 use Rattle.gkr.specs.Sizes.{point-words}
 use Rattle.refusal.specs.Limits.{maxRounds}
 use Rattle.sizes.specs.Sizes.{roundsOf, isSize}
+use Rattle.refusal.specs.declared.Verifying.{Verifying}
 use Rattle.prover_gate.specs.Refusals.{Call, shortRoom}
 use Rattle.prover.specs.Proved.{Buffers, roomsOf}
 use Rattle.verifier.specs.Verified.{Lent}
@@ -23,7 +24,7 @@ use Rattle.exported.proofs.Lending.{fits, log-lent, log-room}
 use Rattle.exported.proofs.ProverLent.{roomy}
 use Rattle.exported.proofs.Exporting.{demand-3-exported}
 
-module _ (c : Call) (n : ℕ) (b : Buffers) (v : Lent) (s : Sheet c n) where
+module _ (c : Call) (how : Verifying) (n : ℕ) (b : Buffers) (v : Lent) (s : Sheet c how n) where
   -- the question about the rows answers n
   answers-n : asked (c .rows) ≡ n
   answers-n =
@@ -33,7 +34,7 @@ module _ (c : Call) (n : ℕ) (b : Buffers) (v : Lent) (s : Sheet c n) where
   one-or-more : eqb n 0 ≡ false
   one-or-more = ne-eqb n 0 (λ e. omega (arith, s .taken .some))
 
-  pub premises : ForProver n (wordOf c) (c .challenges) b → ForVerifier n (c .challenges) v → Premises c n b v
+  pub premises : ForProver n (wordOf c) (c .challenges) b → ForVerifier n (c .challenges) v → Premises c how n b v
   premises h k =
       let few = s .taken .few in
       record {
@@ -47,6 +48,6 @@ module _ (c : Call) (n : ℕ) (b : Buffers) (v : Lent) (s : Sheet c n) where
 
 -- THE THEOREM
 pub demand-3-asked : Demand3Asked
-demand-3-asked c n b v s h k =
-    let e = answers-n c n b v s in
-    demand-3-exported c n b v (premises c n b v s (subst (λ j. ForProver j (wordOf c) (c .challenges) b) e h) (subst (λ j. ForVerifier j (c .challenges) v) e k))
+demand-3-asked c how n b v s h k =
+    let e = answers-n c how n b v s in
+    demand-3-exported c how n b v (premises c how n b v s (subst (λ j. ForProver j (wordOf c) (c .challenges) b) e h) (subst (λ j. ForVerifier j (c .challenges) v) e k))

@@ -15,9 +15,10 @@ use Rattle.prover.specs.Report.{answerReport}
 use Rattle.agreement.specs.Demand3.{root}
 use Rattle.agreement.proofs.Agreeing.{demand-3}
 use Rattle.accudrina.specs.Answer.{tells, answerWords}
+use Rattle.accudrina.specs.Calls.{provingTaken}
 use Rattle.verifier_round.specs.Report.{verdictReport}
 use Rattle.exported.specs.Exported.{done, handed, Exchanged, Demand3Exported}
-use Rattle.exported.proofs.Wording.{in-its-modes}
+use Rattle.exported.proofs.Wording.{in-its-modes, in-its-mode}
 
 -- a plain field that fits a word, and two elements
 telling : (field : ℕ) (f : Frac E.Ext) → field < 4294967296 → tells (elements 0 field (enc (f .p)) (enc (f .q))) ≡ done field f
@@ -26,10 +27,11 @@ telling field f h = ap (λ (w : ℕ). done w f) (mod-eq-of-lt h)
 
 -- THE THEOREM
 pub demand-3-exported : Demand3Exported
-demand-3-exported c n b v h =
+demand-3-exported c how n b v h =
     let s = h .sheet in
-    let A = demand-3 c n b v (s .taken) (s .asserted) (s .zero-sum) (h .room) in
-    subst (λ P. Exchanged c n b v P (handed c n P v)) (sym (in-its-modes c b))
+    let A = demand-3 c how n b v (s .taken) (s .asserted) (s .zero-sum) (h .room) (s .sound) in
+    subst (λ P. Exchanged c n b v P (handed c how n P v)) (sym (in-its-modes c b))
+    (subst (Exchanged c n b v (provingTaken c b)) (sym (in-its-mode c how n (provingTaken c b) v))
     (record {
       point = A .point;
       logged = A .logged;
@@ -41,4 +43,4 @@ demand-3-exported c n b v h =
       size = A .size;
       proved-log = A .proved-log;
       verified-log = A .verified-log;
-    })
+    }))

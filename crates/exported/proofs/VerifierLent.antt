@@ -1,7 +1,8 @@
 -- A verifier's caller who asked is never refused as 4 or 5.
 -- Assumes nothing.
 use mathlib.Core.Path.{refl, ap₂}
-use mathlib.Core.Bool.{true, not, _||_}
+use mathlib.Core.Bool.{true, not, _&&_, _||_}
+use mathlib.Core.List.{[], _∷_}
 use Prim.Native.Nat.{_*_}
 use native.Mathlib.Omega.{arith}
 use borrow.Author.Tests.{le-ltb, ltb-false}
@@ -19,12 +20,14 @@ use Rattle.wire.specs.Words.{allCanonical}
 use Rattle.stored.specs.Layout.{proofWords}
 use Rattle.stored.specs.Parse as Parse
 use Rattle.stored.specs.Parse.{proofOf}
+use Rattle.stored.specs.Elements.{overZero}
 use Rattle.sizes.specs.Sizes.{logRoom}
 use Rattle.verifier_round.specs.Verdicts.{Model, answerOf}
 use Rattle.verifier.specs.Verified as Verifier
-use Rattle.verifier.specs.Verified.{Asked, Lent, asked, needed, fronts}
+use Rattle.verifier.specs.Verified.{Asked, Lent, asked, counted, needed, fronts}
 use Rattle.verifier.specs.Gates.{verdict}
 use Rattle.verifier_round.specs.Report.{verdictReport}
+use Rattle.accudrina.specs.Modes.{LIVE, untaken, verifyingOf}
 use Rattle.accudrina.specs.Calls.{Returned, verifyingTaken}
 use Rattle.exported.specs.Asked.{ForVerifier, NotShort, VerifierNotShort}
 use Rattle.exported.proofs.Lending.{never, lent, log-lent, other}
@@ -57,8 +60,9 @@ run-not-short a v h =
     either P (not (eqb (getD (a .proof) 0 0) 1)) _ _ (λ e. other 12 refl refl) (λ e5.
     either P (not (Parse.fits (a .proof))) _ _ (λ e. other 13 refl refl) (λ e6.
     either P (not (allCanonical (proofWords (proofOf (a .proof))))) _ _ (λ e. other 6 refl refl) (λ e7.
-    either P (not (allCanonical (needed a))) _ _ (λ e. other 6 refl refl) (λ e8. model (supplied (needed a)) (verdict (a .proof) (a .rounds) (supplied (needed a)))))))))))
+    either P (not (allCanonical (needed a))) _ _ (λ e. other 6 refl refl) (λ e8.
+    either P (a .modes .live && (counted (a .proof) n && overZero (a .proof))) _ _ (λ e. other 27 refl refl) (λ e9. model (supplied (needed a)) (verdict (a .proof) n (supplied (needed a))))))))))))
 
 pub verifier-not-short : VerifierNotShort
 verifier-not-short proof n modes ch v h =
-    either (λ (r : Returned Lent). NotShort (r .told .number)) (eqb modes 0) _ _ (λ e. run-not-short (asked proof n ch) v h) (λ e. other 28 refl refl)
+    either (λ (r : Returned Lent). NotShort (r .told .number)) (eqb (untaken (LIVE ∷ []) modes) 0) _ _ (λ e. run-not-short (asked proof n (verifyingOf modes) ch) v h) (λ e. other 28 refl refl)

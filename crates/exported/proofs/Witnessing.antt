@@ -14,6 +14,7 @@ use Rattle.refusal.specs.Tests.{firstOf}
 use Rattle.wire.specs.Words.{allCanonical}
 use Rattle.wire.specs.Bytes.{bytesOf, word}
 use Rattle.stored.specs.Layout.{claimsWords, cubicsWords, polysWords, entriesBytes, layout}
+use Rattle.stored.specs.Elements.{overZero}
 use Rattle.stored.specs.Parse.{claimsFrom, cubicsFrom, entriesFrom, entriesFit, fits}
 use Rattle.prover_tree.specs.Nodes.{node}
 use Rattle.sizes.specs.Sizes.{roundsFrom, isSize}
@@ -41,9 +42,9 @@ sound (suc (suc zero)) h = refl
 sound (suc (suc (suc zero))) h = refl
 sound (suc (suc (suc (suc i)))) h = absurd (omega arith)
 
-sheet : (live : Bool) → Sheet (in-mode live K3) n
+sheet : (live again : Bool) → Sheet (in-mode live K3) (record { live = again }) n
 unfolding model arithmetic cell allCanonical pointWords
-sheet live =
+sheet live again =
     record {
       taken = record {
         some = leb-true _ _ refl;
@@ -56,6 +57,7 @@ sheet live =
       };
       asserted = refl;
       zero-sum = refl;
+      sound = λ e. sound;
     }
 
 -- buffers of zeros, and K3's own challenges
@@ -80,23 +82,25 @@ for-verifier = record { point = leb-true _ _ refl; log = leb-true _ _ refl; chal
 
 pub K3-met : K3Met
 unfolding roundsFrom isSize
-K3-met live =
+K3-met live again =
     record {
-      premises = premises (in-mode live K3) n (room n) (room-again n) (sheet live) (for-prover live) for-verifier;
+      premises = premises (in-mode live K3) (record { live = again }) n (room n) (room-again n) (sheet live again) (for-prover live) for-verifier;
       for-prover = for-prover live;
       for-verifier = for-verifier;
     }
 
-claims : (live : Bool) → handed (in-mode live K3) n (proves (in-mode live K3) (room n)) (room-again n) .told ≡ done 0 (frac (minus 25) (el 1))
-unfolding model arithmetic cell allCanonical bytesOf word claimsWords cubicsWords polysWords entriesBytes layout claimsFrom cubicsFrom entriesFrom entriesFit fits roundsFrom isSize shortRoom degenerate lowest firstOf firstRefusal pointWords Prover.fronts Prover.proved Verifier.verified answerWords has without
-claims true = refl
-claims false = refl
+claims : (live again : Bool) → handed (in-mode live K3) (record { live = again }) n (proves (in-mode live K3) (room n)) (room-again n) .told ≡ done 0 (frac (minus 25) (el 1))
+unfolding model arithmetic cell allCanonical bytesOf word claimsWords cubicsWords polysWords entriesBytes layout claimsFrom cubicsFrom entriesFrom entriesFit fits overZero roundsFrom isSize shortRoom degenerate lowest firstOf firstRefusal pointWords Prover.fronts Prover.proved Verifier.verified answerWords has without
+claims true true = refl
+claims true false = refl
+claims false true = refl
+claims false false = refl
 
 sum : root K3 n ≡ frac (el 0) (el 1)
 unfolding model arithmetic cell
 sum = refl
 
 pub K3-accepted : K3Accepted
-K3-accepted live =
-    let e = demand-3-exported (in-mode live K3) n (room n) (room-again n) (K3-met live .premises) in
-    record { exchanged = e; proved = e .proved ∙ ap (done n) sum; accepted = claims live }
+K3-accepted live again =
+    let e = demand-3-exported (in-mode live K3) (record { live = again }) n (room n) (room-again n) (K3-met live again .premises) in
+    record { exchanged = e; proved = e .proved ∙ ap (done n) sum; accepted = claims live again }

@@ -5,6 +5,7 @@ use mathlib.Core.List.{List}
 use Prim.Native.Nat.{ℕ, _≤_}
 use lib.ListN.{length}
 use Rattle.sizes.specs.Sizes.{rowCount}
+use Rattle.refusal.specs.declared.Verifying.{Verifying}
 use Rattle.prover_gate.specs.Refusals.{Call}
 use Rattle.prover.specs.Proved.{Buffers}
 use Rattle.verifier.specs.Verified.{Lent}
@@ -46,5 +47,5 @@ VerifierNotShort = (proof : List ℕ) (n modes : ℕ) (ch : List ℕ) (v : Lent)
 -- DEMAND 3 FOR SUCH A CALLER: of the lengths of the buffers nothing else is said
 abbrev pub Demand3Asked : Type 0
 Demand3Asked =
-    (c : Call) (n : ℕ) (b : Buffers) (v : Lent) → Sheet c n → ForProver (asked (c .rows)) (wordOf c) (c .challenges) b
-    → ForVerifier (asked (c .rows)) (c .challenges) v → let P = proves c b in Exchanged c n b v P (handed c n P v)
+    (c : Call) (how : Verifying) (n : ℕ) (b : Buffers) (v : Lent) → Sheet c how n → ForProver (asked (c .rows)) (wordOf c) (c .challenges) b
+    → ForVerifier (asked (c .rows)) (c .challenges) v → let P = proves c b in Exchanged c n b v P (handed c how n P v)

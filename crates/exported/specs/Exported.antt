@@ -14,8 +14,10 @@ use Rattle.gkr.specs.Tree as Tree
 use Rattle.prover_tree.specs.Nodes.{node}
 use Rattle.prover_gate.specs.Refusals.{Call}
 use Rattle.refusal.specs.declared.Proving.{Proving}
+use Rattle.refusal.specs.declared.Verifying.{Verifying}
 use Rattle.refusal.specs.Fronts.{over}
 use Rattle.prover.specs.Proved.{Buffers}
+use Rattle.prover.specs.Companions.{Sound}
 use Rattle.verifier.specs.Verified.{Lent}
 use Rattle.agreement.specs.Demand3.{Taken, root, Room}
 use Rattle.accudrina.specs.Answer.{Told}
@@ -37,18 +39,19 @@ wordOf c = word (c .modes)
 abbrev pub proves : (c : Call) (b : Buffers) → Returned Buffers
 proves c b = proving (c .rows) (wordOf c) (c .challenges) b
 
--- the verifier's call: the first bytes of the buffer with the proof, n, no modes and the same challenges
-abbrev pub handed : (c : Call) (n : ℕ) (P : Returned Buffers) (v : Lent) → Returned Lent
-handed c n P v = verifying (take (proof-bytes n) (P .buffers .proof)) n 0 (c .challenges) v
+-- the verifier's call: the first bytes of the buffer with the proof, n, the word of its mode and the same challenges
+abbrev pub handed : (c : Call) (how : Verifying) (n : ℕ) (P : Returned Buffers) (v : Lent) → Returned Lent
+handed c how n P v = verifying (take (proof-bytes n) (P .buffers .proof)) n (cond (how .live) LIVE 0) (c .challenges) v
 
--- DEMAND 3'S PREMISES: a sheet that is taken, zero asserted, the root numerator zero; and every buffer long enough
-pub record Sheet (c : Call) (n : ℕ) : Type 0 where
+-- DEMAND 3'S PREMISES: a sheet that is taken, zero asserted, the root numerator zero, no row over zero where the verifier is live; and every buffer long enough
+pub record Sheet (c : Call) (how : Verifying) (n : ℕ) : Type 0 where
   pub taken : Taken c n
   pub asserted : c .modes .«assert_zero» ≡ true
   pub zero-sum : root c n .p ≡ E.nil
+  pub sound : how .live ≡ true → Sound (c .rows)
 
-pub record Premises (c : Call) (n : ℕ) (b : Buffers) (v : Lent) : Type 0 where
-  pub sheet : Sheet c n
+pub record Premises (c : Call) (how : Verifying) (n : ℕ) (b : Buffers) (v : Lent) : Type 0 where
+  pub sheet : Sheet c how n
   pub room : Room true n b v
 
 -- THE AGREEMENT of what the prover's call returns over the buffers b and the verifier's over the buffers v
@@ -69,4 +72,4 @@ pub record Exchanged (c : Call) (n : ℕ) (b : Buffers) (v : Lent) (P : Returned
 
 -- THE DEMAND
 abbrev pub Demand3Exported : Type 0
-Demand3Exported = (c : Call) (n : ℕ) (b : Buffers) (v : Lent) → Premises c n b v → let P = proves c b in Exchanged c n b v P (handed c n P v)
+Demand3Exported = (c : Call) (how : Verifying) (n : ℕ) (b : Buffers) (v : Lent) → Premises c how n b v → let P = proves c b in Exchanged c n b v P (handed c how n P v)

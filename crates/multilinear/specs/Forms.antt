@@ -1,4 +1,4 @@
--- The forms that polynomials take here: a line, eq of one bit, a cubic, and the interpolations of the Rust.
+-- The forms that polynomials take here: a line, eq of one bit, a cubic, and the interpolations by forward differences (Newton's form).
 -- Assumes nothing.
 use Rattle.ring.specs.Ring.{CommRing, num}
 
@@ -22,23 +22,17 @@ module _ (K : CommRing) where
   abbrev pub poly : (a b c d x : R) → R
   poly a b c d x = a + x * (b + x * (c + x * d))
 
-  -- interpolate_cubic_at_0123, with the inverses of 2 and 6
-  abbrev pub cubic : (half sixth e0 e1 e2 e3 x : R) → R
-  cubic half sixth e0 e1 e2 e3 x =
-      let s1 = e1 - e0 in
-      let s2 = e2 - e0 in
-      let s3 = e3 - e0 in
-      let d3 = s3 - (s2 - s1) * num K 3 in
-      let p = d3 * sixth in
-      let q = (s2 - d3) * half - s1 in
-      let r = s1 - p - q in
-      ((p * x + q) * x + r) * x + e0
-
-  -- interpolate_quadratic_at_012, with the inverse of 2
+  -- interpolate_quadratic_at_012 by forward differences, the first and the second, with the inverse of 2
   abbrev pub quadratic : (half e0 e1 e2 x : R) → R
   quadratic half e0 e1 e2 x =
-      let s1 = e1 - e0 in
-      let s2 = e2 - e1 in
-      let p = (s2 - s1) * half in
-      let q = s1 - p in
-      (p * x + q) * x + e0
+      let d1 = e1 - e0 in
+      let d2 = (e2 - e1) - d1 in
+      e0 + x * (d1 + (x - one) * (d2 * half))
+
+  -- interpolate_cubic_at_0123 by forward differences, the first, the second and the third, with the inverses of 2 and 6
+  abbrev pub cubic : (half sixth e0 e1 e2 e3 x : R) → R
+  cubic half sixth e0 e1 e2 e3 x =
+      let d1 = e1 - e0 in
+      let d2 = (e2 - e1) - d1 in
+      let d3 = ((e3 - e2) - (e2 - e1)) - d2 in
+      e0 + x * (d1 + (x - one) * (d2 * half + (x - num K 2) * (d3 * sixth)))

@@ -63,7 +63,7 @@ module _ (K : CommRing) where
   pub cubic-exact : (half sixth a b c d x : R) → num K 2 * half ≡ one → num K 6 * sixth ≡ one
       → let f = poly a b c d in cubic half sixth (f nil) (f one) (f (num K 2)) (f (num K 3)) x ≡ f x
   cubic-exact half sixth a b c d x h s =
-      ring-by K (half ∷ sixth ∷ a ∷ b ∷ c ∷ d ∷ x ∷ []) ((b + num K 2 * c + d) * (x * x - x) ▷ h ∷ d * (x * x * x - x) ▷ s ∷ []) (search quote depth 40 fits 9999) tt
+      ring-by K (half ∷ sixth ∷ a ∷ b ∷ c ∷ d ∷ x ∷ []) ((c + num K 3 * d) * (x * x - x) ▷ h ∷ d * (x * x - x) * (x - num K 2) ▷ s ∷ []) (search quote depth 40 fits 9999) tt
 
   pub quadratic-exact : (half a b c x : R) → num K 2 * half ≡ one
       → let f = poly a b c nil in quadratic half (f nil) (f one) (f (num K 2)) x ≡ f x
@@ -85,25 +85,31 @@ module _ (K : CommRing) where
   pub cubic-at-1 : (half sixth e0 e1 e2 e3 : R) → cubic half sixth e0 e1 e2 e3 one ≡ e1
   cubic-at-1 half sixth e0 e1 e2 e3 = ring K (half ∷ sixth ∷ e0 ∷ e1 ∷ e2 ∷ e3 ∷ []) (search quote depth 40 fits 9999) tt
 
-  pub cubic-at-2 : (half sixth e0 e1 e2 e3 : R) → num K 2 * half ≡ one → num K 6 * sixth ≡ one → cubic half sixth e0 e1 e2 e3 (num K 2) ≡ e2
-  cubic-at-2 half sixth e0 e1 e2 e3 h s =
-      let s2 = e2 - e0 in
-      let d3 = e3 - e0 - (s2 - (e1 - e0)) * num K 3 in
-      ring-by K (half ∷ sixth ∷ e0 ∷ e1 ∷ e2 ∷ e3 ∷ []) ((s2 - d3) ▷ h ∷ d3 ▷ s ∷ []) (search quote depth 40 fits 9999) tt
+  pub cubic-at-2 : (half sixth e0 e1 e2 e3 : R) → num K 2 * half ≡ one → cubic half sixth e0 e1 e2 e3 (num K 2) ≡ e2
+  cubic-at-2 half sixth e0 e1 e2 e3 h =
+      ring-by K (half ∷ sixth ∷ e0 ∷ e1 ∷ e2 ∷ e3 ∷ []) ((e2 - e1 - (e1 - e0)) ▷ h ∷ []) (search quote depth 40 fits 9999) tt
 
   pub cubic-at-3 : (half sixth e0 e1 e2 e3 : R) → num K 2 * half ≡ one → num K 6 * sixth ≡ one → cubic half sixth e0 e1 e2 e3 (num K 3) ≡ e3
   cubic-at-3 half sixth e0 e1 e2 e3 h s =
-      let s2 = e2 - e0 in
-      let d3 = e3 - e0 - (s2 - (e1 - e0)) * num K 3 in
-      ring-by K (half ∷ sixth ∷ e0 ∷ e1 ∷ e2 ∷ e3 ∷ []) (num K 3 * (s2 - d3) ▷ h ∷ num K 4 * d3 ▷ s ∷ []) (search quote depth 40 fits 9999) tt
-
-  -- the course's forward differences give the same, at every input
-  pub cubic-forward : (half sixth e0 e1 e2 e3 x : R) → num K 2 * half ≡ one → num K 6 * sixth ≡ one
-      → let d1 = e1 - e0 in
-      let d2 = e2 - e1 - d1 in
+      let d2 = e2 - e1 - (e1 - e0) in
       let d3 = e3 - e2 - (e2 - e1) - d2 in
-      cubic half sixth e0 e1 e2 e3 x ≡ e0 + x * d1 + x * (x - one) * half * d2 + x * (x - one) * (x - num K 2) * sixth * d3
-  cubic-forward half sixth e0 e1 e2 e3 x h s =
+      ring-by K (half ∷ sixth ∷ e0 ∷ e1 ∷ e2 ∷ e3 ∷ []) (num K 3 * d2 ▷ h ∷ d3 ▷ s ∷ []) (search quote depth 40 fits 9999) tt
+
+  -- the coefficients p, q, r of the Rust give the same, at every input
+  pub quadratic-by-coefficients : (half e0 e1 e2 x : R)
+      → let s1 = e1 - e0 in
+      let p = (e2 - e1 - s1) * half in
+      (p * x + (s1 - p)) * x + e0 ≡ quadratic half e0 e1 e2 x
+  quadratic-by-coefficients half e0 e1 e2 x = ring K (half ∷ e0 ∷ e1 ∷ e2 ∷ x ∷ []) (search quote depth 40 fits 9999) tt
+
+  pub cubic-by-coefficients : (half sixth e0 e1 e2 e3 x : R) → num K 2 * half ≡ one → num K 6 * sixth ≡ one
+      → let s1 = e1 - e0 in
+      let s2 = e2 - e0 in
+      let d3 = e3 - e0 - (s2 - s1) * num K 3 in
+      let p = d3 * sixth in
+      let q = (s2 - d3) * half - s1 in
+      ((p * x + q) * x + (s1 - p - q)) * x + e0 ≡ cubic half sixth e0 e1 e2 e3 x
+  cubic-by-coefficients half sixth e0 e1 e2 e3 x h s =
       let d1 = e1 - e0 in
       let d3 = e3 - e2 - (e2 - e1) - (e2 - e1 - d1) in
       ring-by K (half ∷ sixth ∷ e0 ∷ e1 ∷ e2 ∷ e3 ∷ x ∷ []) ((x * x - x) * (d1 - num K 3 * sixth * d3) ▷ h ∷ (x * x - x) * d3 * half ▷ s ∷ []) (search quote depth 40 fits 9999) tt

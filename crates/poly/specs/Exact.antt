@@ -30,7 +30,7 @@ module _ (F : Field) where
     Identities.cubic-at-0 K half sixth e0 e1 e2 e3,
     (
       Identities.cubic-at-1 K half sixth e0 e1 e2 e3,
-      (Identities.cubic-at-2 K half sixth e0 e1 e2 e3 two-half six-sixth, Identities.cubic-at-3 K half sixth e0 e1 e2 e3 two-half six-sixth),
+      (Identities.cubic-at-2 K half sixth e0 e1 e2 e3 two-half, Identities.cubic-at-3 K half sixth e0 e1 e2 e3 two-half six-sixth),
     ),
   )
 

@@ -31,6 +31,11 @@ pub struct Proving {
     pub assert_zero: bool,
 }
 
+// How a proof is verified: whether a root over zero is refused.
+pub struct Verifying {
+    pub live: bool,
+}
+
 pub enum Refusal {
     RaggedRows,
     TooManyRows,
@@ -72,6 +77,7 @@ pub enum Refusal {
         expected: Ext,
         actual: Ext,
     },
+    ZeroRoot,
 }
 
 // A refusal as document 01's table has it: its number, its plain fields and its elements in order, zero where it has none.
@@ -159,6 +165,7 @@ pub fn number_and_fields(refusal: Refusal) -> Report
             expected,
             actual,
         } => element_report(19, round, expected, actual),
+        Refusal::ZeroRoot => plain_report(27, 0, 0, 0),
     }
 }
 

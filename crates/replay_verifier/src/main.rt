@@ -5,6 +5,7 @@ use cases::read::next_bytes;
 use cases::read::next_number;
 use cases::read::next_word;
 use cases::read::next_words;
+use refusal::Verifying;
 
 // The lengths of the two buffers, and what they hold before the call.
 struct Rooms {
@@ -26,20 +27,34 @@ fn next_rooms(text: &[u8], at: usize) -> Rooms {
     }
 }
 
-fn call(proof: &[u8], rounds: usize, challenges: &[u32], point: &mut [u32], log: &mut [u32]) {
-    let verdict = verifier::verify_gkr(proof, rounds, challenges, point, log);
+fn call(
+    proof: &[u8],
+    rounds: usize,
+    modes: Verifying,
+    challenges: &[u32],
+    point: &mut [u32],
+    log: &mut [u32],
+) {
+    let verdict = verifier::verify_gkr(proof, rounds, modes, challenges, point, log);
     print::report(verifier_round::number_and_values(verdict));
     print::words(point);
     print::words(log);
     print::end();
 }
 
-fn call_filled(proof: &[u8], rounds: usize, challenges: &[u32], rooms: Rooms) {
+fn call_filled(proof: &[u8], rounds: usize, modes: Verifying, challenges: &[u32], rooms: Rooms) {
     let mut point = [0u32; 48];
     let mut log = [0u32; 1000];
     let j = fill_words(&mut point, rooms.point, rooms.fill);
     let k = fill_words(&mut log, rooms.log, rooms.fill);
-    call(proof, rounds, challenges, &mut point[..j], &mut log[..k]);
+    call(
+        proof,
+        rounds,
+        modes,
+        challenges,
+        &mut point[..j],
+        &mut log[..k],
+    );
 }
 
 // Answers the case at a place, and where the next one begins.
@@ -48,12 +63,22 @@ fn answer(text: &[u8], at: usize) -> usize {
     let mut challenges = [0u32; 320];
     let code = next_number(text, at);
     let rounds = next_number(text, code.at);
-    let p = next_bytes(text, rounds.at, &mut proof);
+    let live = next_number(text, rounds.at);
+    let modes = Verifying {
+        live: live.value != 0,
+    };
+    let p = next_bytes(text, live.at, &mut proof);
     let c = next_words(text, p.at, &mut challenges);
     let rooms = next_rooms(text, c.at);
     let m = p.count;
     let n = c.count;
-    call_filled(&proof[..m], rounds.value as usize, &challenges[..n], rooms);
+    call_filled(
+        &proof[..m],
+        rounds.value as usize,
+        modes,
+        &challenges[..n],
+        rooms,
+    );
     rooms.at
 }
 

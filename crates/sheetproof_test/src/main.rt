@@ -122,4 +122,5 @@ fn main() {
     print_plain();
     print_counts();
     print_elements();
+    command_text::refusals::print_refusal(Refusal::ZeroRoot);
 }

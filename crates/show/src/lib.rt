@@ -6,6 +6,7 @@ use answers::print_number;
 use answers::print_sum;
 use refusal::Proving;
 use refusal::Refusal;
+use refusal::Verifying;
 use stored_sheet::SheetAnswer;
 use verifier_round::Verdict;
 
@@ -42,6 +43,7 @@ fn show_rows(rows: &[u32], count: usize, work: &mut [u32]) {
             live: false,
             assert_zero: true,
         },
+        Verifying { live: false },
         &challenges,
         &mut proof,
         &mut point,

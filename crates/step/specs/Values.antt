@@ -87,13 +87,3 @@ numerator c = E.add (E.mul (c .p0) (c .q1)) (E.mul (c .q0) (c .p1))
 -- the summand of s at x, from weighed entries
 abbrev pub weighedAt : E.Ext → E.Ext → E.Ext → Claims E.Ext → Claims E.Ext → E.Ext
 weighedAt x e0 e1 c0 c1 = E.mul (line x e0 e1) (numerator (zip (line x) c0 c1))
-
--- INTERPOLATION
-
--- the cubic at x, from its value e0 at 0, the differences s1 and s2 from there, and d3 = s3 - (s2 - s1)·3
-abbrev pub cubicFrom : E.Ext → E.Ext → E.Ext → E.Ext → E.Ext → E.Ext
-cubicFrom s1 s2 d3 e0 x =
-    let p = E.mul d3 E.sixth in
-    let q = minus (E.mul (minus s2 d3) E.half) s1 in
-    let r = minus (minus s1 p) q in
-    E.add (E.mul (E.add (E.mul (E.add (E.mul p x) q) x) r) x) e0

@@ -1,12 +1,16 @@
--- A proof of elements is got back from its words, and canonical words are got back from their elements.
+-- A proof of elements is got back from its words, and canonical words are got back from their elements; where a root is over zero.
 -- Assumes nothing.
 use mathlib.Core.Path.{_≡_, refl, sym, _∙_, ap, ap₂}
-use mathlib.Core.Bool.{true}
+use mathlib.Core.Bool.{true, false, _&&_, and-eq-true-iff}
 use mathlib.Core.List.{List, [], _∷_, _++_, map}
-use Prim.Native.Nat.{ℕ}
+use Prim.Native.Nat.{ℕ, _<_, _≤_}
+use borrow.Author.Tests.{le-leb, lt-leb}
+use lib.Dec.{leb}
+use lib.ListN.{length}
 use Rattle.field.specs.Ext as E
 use Rattle.field.specs.Element.{dec, enc, Canon}
 use Rattle.field.specs.ElementLaws.{dec-enc, enc-dec, canon-enc}
+use Rattle.field.specs.ExtRing.{same-true}
 use Rattle.field.specs.declared.Ext.{Ext}
 use Rattle.multilinear.specs.RoundSum.{Claims}
 use Rattle.gkr.specs.Run.{Cubic, Proof}
@@ -14,7 +18,8 @@ use Rattle.wire.specs.Words.{allCanonical, extWords}
 use Rattle.wire.specs.WordLaws.{elem-canonical, canonical-append}
 use Rattle.stored.specs.Layout.{claimWords, cubicWords, claimsWords, cubicsWords, polysWords, proofWords}
 use Rattle.stored.specs.ReadWords.{CanonClaims, CanonCubic, claims-head, claims-tail, cubics-head, cubics-tail, polys-head, polys-tail, proof-q0, proof-claims, proof-polys}
-use Rattle.stored.specs.Elements.{mapClaims, mapCubic, encoded, decoded}
+use Rattle.stored.specs.Parse.{proofOf}
+use Rattle.stored.specs.Elements.{mapClaims, mapCubic, encoded, decoded, overZero}
 
 pub claims-dec-enc : (cs : List (Claims E.Ext)) → map (mapClaims dec) (map (mapClaims enc) cs) ≡ cs
 claims-dec-enc [] = refl
@@ -112,3 +117,17 @@ pub encoded-canonical : (π : Proof E.Ext) → allCanonical (proofWords (encoded
 encoded-canonical π =
     let x = encoded π in
     both (extWords (x .q0)) (claimsWords (x .claims) ++ polysWords (x .polys)) (elem-good (π .q0)) (both (claimsWords (x .claims)) (polysWords (x .polys)) (claims-good (π .claims)) (polys-good (π .polys)))
+
+-- A ROOT OVER ZERO
+
+pub no-root : (bs : List ℕ) → length bs < 21 → overZero bs ≡ false
+unfolding overZero
+no-root bs h = ap (λ b. b && E.same (decoded (proofOf bs) .q0) E.nil) (lt-leb 21 (length bs) h)
+
+pub root-there : (bs : List ℕ) → 21 ≤ length bs → overZero bs ≡ E.same (decoded (proofOf bs) .q0) E.nil
+unfolding overZero
+root-there bs h = ap (λ b. b && E.same (decoded (proofOf bs) .q0) E.nil) (le-leb 21 (length bs) h)
+
+pub root-nil : (bs : List ℕ) → overZero bs ≡ true → decoded (proofOf bs) .q0 ≡ E.nil
+unfolding overZero
+root-nil bs h = same-true _ E.nil (and-eq-true-iff (leb 21 (length bs)) (E.same (decoded (proofOf bs) .q0) E.nil) .0 h .1)

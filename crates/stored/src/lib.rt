@@ -1,9 +1,10 @@
-// The stored form of a proof: its shape, its elements, and the search for a bad word in it.
+// The stored form of a proof: its shape, its elements, the search for a bad word in it, and whether its root is over zero.
 ghost use mathlib.Core.Path.{_≡_};
 ghost use mathlib.Core.Bool.{true};
 ghost use Prim.Native.Nat.{_+_, _*_, _≤_};
 ghost use lib.ListN.{length, drop};
 ghost use Rattle.wire.specs.Words.{allCanonical, firstBad};
+ghost use Rattle.stored.specs.Elements.{overZero};
 ghost use Rattle.stored.specs.Layout.{polysWords, proofWords};
 ghost use Rattle.stored.specs.Parse.{parse, entriesFit, entriesFrom, proofOf, claimsOf, cubicOf};
 ghost use Rattle.stored.specs.ParseLaws.{Shaped};
@@ -158,4 +159,14 @@ pub fn canonical_proof(proof: &[u8], outline: Outline) -> bool
     ensures { λ r. ⌜ r ≡ allCanonical (proofWords (proofOf (now (proof .entry)))) ⌝ }
 {
     first_bad_in_proof(proof, outline) == (proof.len() - 7 - outline.entries) / 4
+}
+
+// Whether a proof's q0, the denominator of the sum, is zero: its elements' first, from byte 5 on.
+pub fn is_over_zero(proof: &[u8]) -> bool
+    ensures { λ r. ⌜ r ≡ overZero (now (proof .entry)) ⌝ }
+{
+    if proof.len() < 21 {
+        return false;
+    }
+    wire::element_at(proof, 5).is_zero()
 }

@@ -1,7 +1,7 @@
 -- Each way through the checks is the first test that is met, and where none is, what the run asks holds.
 -- Assumes nothing.
 use mathlib.Core.Path.{_≡_, refl, sym, _∙_, ap, subst}
-use mathlib.Core.Bool.{Bool, true, false, cond, not, _||_}
+use mathlib.Core.Bool.{Bool, true, false, cond, not, _&&_, _||_}
 use mathlib.Core.List.{List, _∷_}
 use Prim.Native.Nat.{ℕ, _*_, _<_, _≤_}
 use native.Mathlib.Omega.{arith}
@@ -25,9 +25,10 @@ use Rattle.stored.specs.Shapes.{shapeOf}
 use Rattle.stored.specs.Layout.{proofWords}
 use Rattle.stored.specs.Parse.{bad-version, bad-length, parsed, fits, parse, proofOf}
 use Rattle.stored.specs.ParseLaws.{Reads, Shaped, good-shape, reads-fits}
+use Rattle.stored.specs.Elements.{overZero}
 use Rattle.verifier.specs.declared.Gate.{Gate}
 use Rattle.verifier.specs.declared.Gate.the-variants.{Open, Shut}
-use Rattle.verifier.specs.Verified.{Asked, needed, tests}
+use Rattle.verifier.specs.Verified.{Asked, needed, counted, tests}
 use Rattle.verifier.specs.Gates.{wordsGate, Opened, Gated}
 
 -- ---- the words
@@ -70,18 +71,18 @@ module _ (a : Asked) (points logs : ℕ) where
     way-11 h = rw (ne-eqb n 0 h1, lt-ltb maxRounds n h)
 
     module _ (h2 : n ≤ maxRounds) (k : ℕ) (ke : k ≡ 4 * challenges n) where
-      counted : way ≡ firstOf (drop 2 (tests a points logs))
+      few-rounds : way ≡ firstOf (drop 2 (tests a points logs))
       unfolding firstOf
-      counted = rw (ne-eqb n 0 h1, le-ltb maxRounds n h2)
+      few-rounds = rw (ne-eqb n 0 h1, le-ltb maxRounds n h2)
 
       pub way-4 : length (a .challenges) < k → way ≡ refused ShortChallenges
       unfolding firstOf
-      way-4 h = counted ∙ rw (lt-ltb (length (a .challenges)) (4 * challenges n) (subst (λ m. length (a .challenges) < m) ke h))
+      way-4 h = few-rounds ∙ rw (lt-ltb (length (a .challenges)) (4 * challenges n) (subst (λ m. length (a .challenges) < m) ke h))
 
       module _ (h3 : k ≤ length (a .challenges)) where
         enough : way ≡ firstOf (drop 3 (tests a points logs))
         unfolding firstOf
-        enough = counted ∙ rw (le-ltb (length (a .challenges)) (4 * challenges n) (subst (λ m. m ≤ length (a .challenges)) ke h3))
+        enough = few-rounds ∙ rw (le-ltb (length (a .challenges)) (4 * challenges n) (subst (λ m. m ≤ length (a .challenges)) ke h3))
 
         pub way-5 : points < 4 * n → way ≡ refused ShortRoom
         unfolding firstOf
@@ -106,15 +107,15 @@ module _ (a : Asked) (points logs : ℕ) where
               unfolding firstOf
               read = roomy ∙ rw (eq-eqb (getD (a .proof) 0 0) 1 (s .reads .version), reads-fits (a .proof) (s .reads))
 
-              by-words : (x y : Bool) (g : Gate) → allCanonical (proofWords (proofOf (a .proof))) ≡ x → allCanonical (needed a) ≡ y → g ≡ cond x (cond y (Open o) (Shut BadWord)) (Shut BadWord)
+              by-words : a .modes .live ≡ false → (x y : Bool) (g : Gate) → allCanonical (proofWords (proofOf (a .proof))) ≡ x → allCanonical (needed a) ≡ y → g ≡ cond x (cond y (Open o) (Shut BadWord)) (Shut BadWord)
                   → Gated a points logs g
               unfolding firstOf
-              by-words true true g p q e = subst (Gated a points logs) (sym e) (record { passes = read ∙ rw (p, q); shaped = s })
-              by-words true false g p q e = subst (Gated a points logs) (sym e) (read ∙ rw (p, q))
-              by-words false y g p q e = subst (Gated a points logs) (sym e) (read ∙ rw p)
+              by-words m true true g p q e = subst (Gated a points logs) (sym e) (record { passes = read ∙ rw (p, q, m); shaped = s })
+              by-words m true false g p q e = subst (Gated a points logs) (sym e) (read ∙ rw (p, q))
+              by-words m false y g p q e = subst (Gated a points logs) (sym e) (read ∙ rw p)
 
-              pub way-6 : (g : Gate) → g ≡ wordsGate (a .proof) o (take k (a .challenges)) → Gated a points logs g
-              way-6 g e = by-words (allCanonical (proofWords (proofOf (a .proof)))) (allCanonical (needed a)) g refl refl (e ∙ ap (λ m. wordsGate (a .proof) o (take m (a .challenges))) ke)
+              pub way-6 : a .modes .live ≡ false → (g : Gate) → g ≡ wordsGate (a .proof) o (take k (a .challenges)) → Gated a points logs g
+              way-6 m g e = by-words m (allCanonical (proofWords (proofOf (a .proof)))) (allCanonical (needed a)) g refl refl (e ∙ ap (λ m. wordsGate (a .proof) o (take m (a .challenges))) ke)
 
 -- ---- what holds where no test is met
 neither : (x y : Bool) → (x || y) ≡ false → (x ≡ false) × (y ≡ false)
@@ -144,9 +145,10 @@ passes {a} {points} {logs} g =
       clean = not-false _ (m .1 .1 .1 .1 .1 .1 .1 .0);
     }
 
-pub opens-all : (a : Asked) (points logs : ℕ) → Reads (a .proof) → Passes a points logs → firstOf (tests a points logs) ≡ passed
+pub opens-all : (a : Asked) (points logs : ℕ) → Reads (a .proof) → Passes a points logs → (a .modes .live && (counted (a .proof) (a .rounds) && overZero (a .proof))) ≡ false
+    → firstOf (tests a points logs) ≡ passed
 unfolding firstOf
-opens-all a points logs r h =
+opens-all a points logs r h root =
     rw (
       ne-eqb (a .rounds) 0 (λ e. omega (arith, h .some)),
       le-ltb maxRounds (a .rounds) (h .few),
@@ -157,4 +159,5 @@ opens-all a points logs r h =
       reads-fits (a .proof) r,
       h .canon,
       h .clean,
+      root,
     )

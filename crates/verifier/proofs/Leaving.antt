@@ -1,7 +1,7 @@
 -- Isolation and what a refusal leaves, from what is laid at the fronts.
 -- Assumes nothing.
 use mathlib.Core.Path.{_≡_, refl, sym, ap, ap₂}
-use Prim.Native.Nat.{ℕ, _<_}
+use Prim.Native.Nat.{ℕ, _≤_}
 use native.Mathlib.Omega.{arith}
 use lib.ListN.{length}
 use Rattle.field.specs.Ext as E
@@ -31,6 +31,13 @@ number : (e e′ : Refusal) → Refused e ≡ Refused e′ → reportOf e′ .nu
 number e e′ h = let q : e ≡ e′ = cc in ap (λ x. reportOf x .number) (sym q)
 
 module _ (b : Lent) (e : Refusal) where
+  -- none of 16 to 19
+  abbrev Other : Type 0
+  Other = ¬ ((16 ≤ reportOf e .number) × (reportOf e .number ≤ 19))
+
+  run-number : (k : ℕ) → reportOf e .number ≡ k → 16 ≤ k → k ≤ 19 → Other → ⊥
+  run-number k h l m o = o (omega arith, omega arith)
+
   -- a run that is refused leaves the point
   run-point : (ch : Source E.Ext) (v : Model ch) → ended ch v .answer ≡ Refused e → laid (ended ch v) b .buffers .point ≡ b .point
   run-point ch (accepted x z t) h = absurd (let z : _≡_ {A = ℕ} 0 1 = cc in omega arith)
@@ -43,21 +50,21 @@ module _ (b : Lent) (e : Refusal) where
   run-point ch (layer-check round expected actual t) h = refl
 
   -- and the log, unless it is refused by 16 to 19
-  run-both : (ch : Source E.Ext) (v : Model ch) → ended ch v .answer ≡ Refused e → reportOf e .number < 16 → laid (ended ch v) b .buffers ≡ b
+  run-both : (ch : Source E.Ext) (v : Model ch) → ended ch v .answer ≡ Refused e → Other → laid (ended ch v) b .buffers ≡ b
   run-both ch (accepted x z t) h l = absurd (let z : _≡_ {A = ℕ} 0 1 = cc in omega arith)
   run-both ch zero-rounds h l = refl
   run-both ch (layer-count expected actual) h l = refl
   run-both ch (poly-count expected actual) h l = refl
-  run-both ch (zero-check actual t) h l = absurd (omega (arith, number _ e h))
-  run-both ch (root-check expected actual t) h l = absurd (omega (arith, number _ e h))
-  run-both ch (subround-count round expected actual t) h l = absurd (omega (arith, number _ e h))
-  run-both ch (layer-check round expected actual t) h l = absurd (omega (arith, number _ e h))
+  run-both ch (zero-check actual t) h l = absurd (run-number _ (number _ e h) (omega arith) (omega arith) l)
+  run-both ch (root-check expected actual t) h l = absurd (run-number _ (number _ e h) (omega arith) (omega arith) l)
+  run-both ch (subround-count round expected actual t) h l = absurd (run-number _ (number _ e h) (omega arith) (omega arith) l)
+  run-both ch (layer-check round expected actual t) h l = absurd (run-number _ (number _ e h) (omega arith) (omega arith) l)
 
   point-left : (a : Asked) (w : Tested) → fronts a w .answer ≡ Refused e → laid (fronts a w) b .buffers .point ≡ b .point
   point-left a (refused r) h = refl
   point-left a passed h = run-point (supplied (needed a)) (verdict (a .proof) (a .rounds) (supplied (needed a))) h
 
-  both-left : (a : Asked) (w : Tested) → fronts a w .answer ≡ Refused e → reportOf e .number < 16 → laid (fronts a w) b .buffers ≡ b
+  both-left : (a : Asked) (w : Tested) → fronts a w .answer ≡ Refused e → Other → laid (fronts a w) b .buffers ≡ b
   both-left a (refused r) h l = refl
   both-left a passed h l = run-both (supplied (needed a)) (verdict (a .proof) (a .rounds) (supplied (needed a))) h l
 

@@ -1,12 +1,19 @@
--- What stands beside `verified`: isolation, and what a refusal leaves.
+-- What stands beside `verified`: isolation, what a refusal leaves, live mode.
 -- Assumes nothing.
 use mathlib.Core.Path.{_≡_}
-use Prim.Native.Nat.{_<_}
+use mathlib.Core.Bool.{Bool, true, false}
+use mathlib.Core.Logic.{_↔_}
+use Prim.Native.Nat.{_-_, _≤_}
 use lib.ListN.{length}
+use Rattle.field.specs.Ext as E
 use Rattle.refusal.specs.declared.Refusal.{Refusal}
+use Rattle.refusal.specs.declared.Refusal.the-variants.{ZeroRoot}
 use Rattle.refusal.specs.Numbers.{reportOf}
+use Rattle.refusal.specs.Tests.{passed, firstOf}
+use Rattle.stored.specs.Parse.{layerCount, entryCount, proofOf}
+use Rattle.stored.specs.Elements.{decoded}
 use Rattle.verifier_round.specs.declared.Verdict.the-variants.{Refused}
-use Rattle.verifier.specs.Verified.{Asked, Lent, Outcome, laid, verified}
+use Rattle.verifier.specs.Verified.{Asked, Lent, Outcome, asked, tests, laid, verified}
 
 -- two outcomes over different buffers: the same answer, and the same words written
 pub record Alike (b b′ : Lent) (o o′ : Outcome) : Type 0 where
@@ -20,4 +27,21 @@ Isolation = (a : Asked) (b b′ : Lent) → length (b .point) ≡ length (b′ .
 -- 16 to 19 leave the point untouched, and every other refusal both buffers
 pub record Untouched (a : Asked) (b : Lent) : Type 0 where
   pub point : (e : Refusal) → verified a b .answer ≡ Refused e → verified a b .buffers .point ≡ b .point
-  pub both : (e : Refusal) → verified a b .answer ≡ Refused e → reportOf e .number < 16 → verified a b .buffers ≡ b
+  pub both : (e : Refusal) → verified a b .answer ≡ Refused e → ¬ ((16 ≤ reportOf e .number) × (reportOf e .number ≤ 19)) → verified a b .buffers ≡ b
+
+-- LIVE MODE
+
+abbrev pub in-mode : (live : Bool) → Asked → Asked
+in-mode live a = asked (a .proof) (a .rounds) (record { live = live }) (a .challenges)
+
+-- both counts are those of the rounds, and q0 is zero
+pub record ZeroRooted (a : Asked) : Type 0 where
+  pub layers : layerCount (a .proof) ≡ a .rounds
+  pub entries : entryCount (a .proof) ≡ a .rounds - 1
+  pub q0 : decoded (proofOf (a .proof)) .q0 ≡ E.nil
+
+-- live is sandbox but for 27; 27 is given exactly where the sandbox refuses nothing before its run and the root is zero; it is never the sandbox's
+pub record LiveVerifying (a : Asked) (b : Lent) : Type 0 where
+  pub equal : ¬ (verified (in-mode true a) b .answer ≡ Refused ZeroRoot) → verified (in-mode true a) b ≡ verified (in-mode false a) b
+  pub given : (verified (in-mode true a) b .answer ≡ Refused ZeroRoot) ↔ ((firstOf (tests (in-mode false a) (length (b .point)) (length (b .log))) ≡ passed) × ZeroRooted a)
+  pub sandbox : ¬ (verified (in-mode false a) b .answer ≡ Refused ZeroRoot)

@@ -1,7 +1,7 @@
 -- What the checks before the run tell the run, and what the run leaves.
 -- Assumes nothing.
 use mathlib.Core.Path.{_≡_}
-use mathlib.Core.Bool.{true, cond}
+use mathlib.Core.Bool.{true, false, cond, _&&_}
 use mathlib.Core.List.{List, _++_}
 use Prim.Native.Nat.{ℕ, _*_, _≤_}
 use lib.ListN.{length, take, drop}
@@ -13,7 +13,8 @@ use Rattle.gkr.specs.Sizes.{challenges}
 use Rattle.gkr.specs.Gkr as Gkr
 use Rattle.transcript.specs.declared.Pos.{Pos}
 use Rattle.transcript.specs.Log.{Drawing}
-use Rattle.refusal.specs.declared.Refusal.the-variants.{BadWord}
+use Rattle.refusal.specs.declared.Verifying.{Verifying}
+use Rattle.refusal.specs.declared.Refusal.the-variants.{BadWord, ZeroRoot}
 use Rattle.refusal.specs.Tests.{passed, refused, firstOf}
 use Rattle.sizes.specs.Sizes.{logRoom}
 use Rattle.wire.specs.Words.{allCanonical}
@@ -21,7 +22,7 @@ use Rattle.stored.specs.declared.Outline.{Outline}
 use Rattle.stored.specs.Layout.{proofWords}
 use Rattle.stored.specs.Parse.{proofOf}
 use Rattle.stored.specs.ParseLaws.{Shaped}
-use Rattle.stored.specs.Elements.{decoded}
+use Rattle.stored.specs.Elements.{decoded, overZero}
 use Rattle.verifier_round.specs.declared.Advance.{Advance}
 use Rattle.verifier_round.specs.declared.Advance.the-variants.{Next, Stopped}
 use Rattle.verifier_round.specs.declared.Verdict.{Verdict}
@@ -30,10 +31,18 @@ use Rattle.verifier_round.specs.Verdicts.{Model}
 use Rattle.verifier_rounds.specs.Runs.{Ends}
 use Rattle.verifier.specs.declared.Gate.{Gate}
 use Rattle.verifier.specs.declared.Gate.the-variants.{Open, Shut}
-use Rattle.verifier.specs.Verified.{Asked, tests}
+use Rattle.verifier.specs.Verified.{Asked, counted, tests}
 
 abbrev pub wordsGate : (bs : List ℕ) (o : Outline) (needs : List ℕ) → Gate
 wordsGate bs o needs = cond (allCanonical (proofWords (proofOf bs))) (cond (allCanonical needs) (Open o) (Shut BadWord)) (Shut BadWord)
+
+-- live, a root over zero where both counts are right
+abbrev pub rootGate : (modes : Verifying) (bs : List ℕ) (n : ℕ) (o : Outline) → Gate
+rootGate modes bs n o = cond (modes .live && (counted bs n && overZero bs)) (Shut ZeroRoot) (Open o)
+
+-- without the mode; the run does not look at it
+abbrev pub sandbox : Verifying
+sandbox = record { live = false }
 
 -- nothing is refused before the run, and the bytes have this outline
 pub record Opened (a : Asked) (points logs : ℕ) (o : Outline) : Type 0 where

@@ -1,8 +1,8 @@
--- What verify_gkr answers, and what it leaves in point and log, for every proof, rounds, challenges and room.
+-- What verify_gkr answers, and what it leaves in point and log, for every proof, rounds, mode, challenges and room.
 -- Assumes nothing.
-use mathlib.Core.Bool.{true, not, _||_}
+use mathlib.Core.Bool.{Bool, true, not, _&&_, _||_}
 use mathlib.Core.List.{List, [], _∷_}
-use Prim.Native.Nat.{ℕ, _*_}
+use Prim.Native.Nat.{ℕ, _*_, _-_}
 use lib.Dec.{eqb, ltb}
 use lib.ListN.{length, getD, take}
 use Rattle.field.specs.Ext as E
@@ -12,24 +12,28 @@ use Rattle.gkr.specs.Gkr as Gkr
 use Rattle.gkr.specs.Transcripts.{empty, Source}
 use Rattle.transcript.specs.Log.{Drawing, supplied}
 use Rattle.refusal.specs.Limits.{maxRounds}
-use Rattle.refusal.specs.declared.Refusal.the-variants.{ShortChallenges, ShortRoom, BadWord, ZeroRounds, TooManyRounds, BadVersion, BadLength}
+use Rattle.refusal.specs.declared.Verifying.{Verifying}
+use Rattle.refusal.specs.declared.Refusal.the-variants.{ShortChallenges, ShortRoom, BadWord, ZeroRounds, TooManyRounds, BadVersion, BadLength, ZeroRoot}
 use Rattle.refusal.specs.Tests.{Test, Tested, passed, refused, test, firstOf}
 use Rattle.refusal.specs.Fronts.{over}
 use Rattle.sizes.specs.Sizes.{logRoom}
 use Rattle.wire.specs.Words.{allCanonical}
 use Rattle.stored.specs.Layout.{proofWords}
-use Rattle.stored.specs.Parse.{fits, proofOf}
-use Rattle.stored.specs.Elements.{decoded}
+use Rattle.stored.specs.Parse.{layerCount, entryCount, fits, proofOf}
+use Rattle.stored.specs.Elements.{decoded, overZero}
 use Rattle.verifier_round.specs.declared.Verdict.{Verdict}
 use Rattle.verifier_round.specs.declared.Verdict.the-variants.{Refused}
 use Rattle.verifier_round.specs.Verdicts.{Model, answerOf, pointOf, loggedBy}
 
--- what a call is given: a proof's bytes, the rounds, and challenge words, four a challenge
-abbrev pub Asked : Type 0
-Asked = record { proof : List ℕ; rounds : ℕ; challenges : List ℕ }
+-- what a call is given: a proof's bytes, the rounds, live or sandbox, and challenge words, four a challenge
+pub record Asked : Type 0 where
+  pub proof : List ℕ
+  pub rounds : ℕ
+  pub modes : Verifying
+  pub challenges : List ℕ
 
-abbrev pub asked : (proof : List ℕ) (rounds : ℕ) (challenges : List ℕ) → Asked
-asked proof rounds challenges = record { proof = proof; rounds = rounds; challenges = challenges }
+abbrev pub asked : (proof : List ℕ) (rounds : ℕ) (modes : Verifying) (challenges : List ℕ) → Asked
+asked proof rounds modes challenges = record { proof = proof; rounds = rounds; modes = modes; challenges = challenges }
 
 -- the two buffers lent
 pub record Lent : Type 0 where
@@ -51,6 +55,10 @@ outcome answer point log = record { answer = answer; buffers = lent point log }
 abbrev pub needed : Asked → List ℕ
 needed a = take (4 * challenges (a .rounds)) (a .challenges)
 
+-- both counts are those of the rounds
+abbrev pub counted : (proof : List ℕ) (rounds : ℕ) → Bool
+counted proof rounds = eqb (layerCount proof) rounds && eqb (entryCount proof) (rounds - 1)
+
 -- the refusals before the run, by the lengths of point and log
 abbrev pub tests : Asked → (points logs : ℕ) → List Test
 tests a points logs = test (eqb (a .rounds) 0) ZeroRounds
@@ -60,7 +68,8 @@ tests a points logs = test (eqb (a .rounds) 0) ZeroRounds
     ∷ test (not (eqb (getD (a .proof) 0 0) 1)) BadVersion
     ∷ test (not (fits (a .proof))) BadLength
     ∷ test (not (allCanonical (proofWords (proofOf (a .proof))))) BadWord
-    ∷ test (not (allCanonical (needed a))) BadWord ∷ []
+    ∷ test (not (allCanonical (needed a))) BadWord
+    ∷ test (a .modes .live && (counted (a .proof) (a .rounds) && overZero (a .proof))) ZeroRoot ∷ []
 
 -- what a verdict of the model answers and writes
 abbrev pub ended : (ch : Source E.Ext) → Model ch → Outcome

@@ -7,8 +7,9 @@ ghost use Rattle.stored.specs.ParseLaws.{Shaped};
 ghost use Rattle.transcript.specs.Log.{supplied};
 ghost use Rattle.verifier_round.specs.declared.Verdict.the-variants.{Accepted};
 ghost use Rattle.verifier.specs.Verified.{asked, lent, outcome, verified};
-ghost use Rattle.verifier.specs.Gates.{wordsGate, Gated, Opened, Ready, Counted, pointLeft, answered};
+ghost use Rattle.verifier.specs.Gates.{wordsGate, rootGate, sandbox, Gated, Opened, Ready, Counted, pointLeft, answered};
 use refusal::Refusal;
+use refusal::Verifying;
 use stored::Outline;
 use stored::Shape;
 use transcript::Pos;
@@ -36,9 +37,9 @@ fn check_words(proof: &[u8], outline: Outline, needs: &[u32]) -> Gate
     Gate::Open(outline)
 }
 
-// The first refusal, in document 01's order.
+// The first refusal of the sandbox, in document 01's order.
 fn check(proof: &[u8], rounds: usize, challenges: &[u32], points: usize, logs: usize) -> Gate
-    ensures { λ r. ⌜ Gated (asked (now (proof .entry)) rounds (now (challenges .entry))) points logs r ⌝ }
+    ensures { λ r. ⌜ Gated (asked (now (proof .entry)) rounds sandbox (now (challenges .entry))) points logs r ⌝ }
 {
     if rounds == 0 {
         return Gate::Shut(Refusal::ZeroRounds);
@@ -59,6 +60,43 @@ fn check(proof: &[u8], rounds: usize, challenges: &[u32], points: usize, logs: u
     match stored::read_shape(proof) {
         Shape::Refused(refusal) => Gate::Shut(refusal),
         Shape::Good(outline) => check_words(proof, outline, &challenges[..needs]),
+    }
+}
+
+// Live, the root, once both counts are those of the rounds: 14 and 15 come first.
+fn check_root(proof: &[u8], rounds: usize, modes: Verifying, outline: Outline) -> Gate
+    requires { ⌜ (1 ≤ rounds) × Shaped (now proof) outline ⌝ }
+    ensures { λ r. ⌜ r ≡ rootGate modes (now (proof .entry)) rounds outline ⌝ }
+{
+    if !modes.live {
+        return Gate::Open(outline);
+    }
+    if outline.layers != rounds {
+        return Gate::Open(outline);
+    }
+    if outline.entries != rounds - 1 {
+        return Gate::Open(outline);
+    }
+    if stored::is_over_zero(proof) {
+        return Gate::Shut(Refusal::ZeroRoot);
+    }
+    Gate::Open(outline)
+}
+
+// The first refusal.
+fn admit(
+    proof: &[u8],
+    rounds: usize,
+    modes: Verifying,
+    challenges: &[u32],
+    points: usize,
+    logs: usize,
+) -> Gate
+    ensures { λ r. ⌜ Gated (asked (now (proof .entry)) rounds modes (now (challenges .entry))) points logs r ⌝ }
+{
+    match check(proof, rounds, challenges, points, logs) {
+        Gate::Shut(refusal) => Gate::Shut(refusal),
+        Gate::Open(outline) => check_root(proof, rounds, modes, outline),
     }
 }
 
@@ -142,8 +180,9 @@ fn run(
     point: &mut [u32],
     log: &mut [u32],
 ) -> Verdict
-    requires { ⌜ Opened (asked (now proof) rounds (now challenges)) (length (now point)) (length (now log)) outline ⌝ }
-    ensures { λ r. ⌜ outcome r (now (point .exit)) (now (log .exit)) ≡ verified (asked (now (proof .entry)) rounds (now (challenges .entry))) (lent (now (point .entry)) (now (log .entry))) ⌝ }
+    requires { ⌜ Opened (asked (now proof) rounds sandbox (now challenges)) (length (now point)) (length (now log)) outline ⌝ }
+    ensures { λ r. ⌜ outcome r (now (point .exit)) (now (log .exit))
+        ≡ verified (asked (now (proof .entry)) rounds sandbox (now (challenges .entry))) (lent (now (point .entry)) (now (log .entry))) ⌝ }
 {
     let needs = sizes::challenge_words(rounds);
     let mut xi = [0u32; 4 * refusal::MAX_ROUNDS];
@@ -156,13 +195,15 @@ fn run(
 pub fn verify_gkr(
     proof: &[u8],
     rounds: usize,
+    modes: Verifying,
     challenges: &[u32],
     point: &mut [u32],
     log: &mut [u32],
 ) -> Verdict
-    ensures { λ r. ⌜ outcome r (now (point .exit)) (now (log .exit)) ≡ verified (asked (now (proof .entry)) rounds (now (challenges .entry))) (lent (now (point .entry)) (now (log .entry))) ⌝ }
+    ensures { λ r. ⌜ outcome r (now (point .exit)) (now (log .exit))
+        ≡ verified (asked (now (proof .entry)) rounds modes (now (challenges .entry))) (lent (now (point .entry)) (now (log .entry))) ⌝ }
 {
-    match check(proof, rounds, challenges, point.len(), log.len()) {
+    match admit(proof, rounds, modes, challenges, point.len(), log.len()) {
         Gate::Shut(refusal) => Verdict::Refused(refusal),
         Gate::Open(outline) => run(proof, rounds, outline, challenges, point, log),
     }

@@ -123,6 +123,12 @@ enum-known-refusal-7 c = search needs
 element-report-requires-3 : tie.Need-element-report-requires-3
 element-report-requires-3 c κs = search needs
 
+enum-told-13 : tie.Need-enum-told-13
+enum-told-13 c = search needs
+
+plain-report-requires-17 : tie.Need-plain-report-requires-17
+plain-report-requires-17 c κs = search needs
+
 returns : tie.Need-returns
 returns c = c .plain-report .ensures ∙ sym (ap reportOf (c .before .enum-told .given .1))
 
@@ -180,6 +186,9 @@ returns-18 c = c .plain-report16 .ensures ∙ sym (ap reportOf (c .before .befor
 returns-19 : tie.Need-returns-19
 returns-19 c = c .element-report3 .ensures ∙ sym (ap reportOf (c .before .before .refusal7 .given .1))
 
+returns-20 : tie.Need-returns-20
+returns-20 c = c .plain-report17 .ensures ∙ sym (ap reportOf (c .before .enum-told13 .given .1))
+
 pub number-and-fields-spec : {M : Type 1} → statement M
 number-and-fields-spec =
     tie.close
@@ -222,6 +231,8 @@ number-and-fields-spec =
     plain-report-requires-16
     enum-known-refusal-7
     element-report-requires-3
+    enum-told-13
+    plain-report-requires-17
     returns
     returns-2
     returns-3
@@ -240,4 +251,5 @@ number-and-fields-spec =
     returns-16
     returns-17
     returns-18
-    returns-19)
+    returns-19
+    returns-20)

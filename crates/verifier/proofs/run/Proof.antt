@@ -3,6 +3,7 @@ use lib.Seq.{length-take-le}
 use Prim.Native.Nat.{_*_}
 use Rattle.field.specs.CellLaws.{clean-zeros}
 use Rattle.refusal.specs.Limits.{maxRounds}
+use Rattle.verifier.specs.Gates.{sandbox}
 use Rattle.verifier.specs.Verified.{asked, lent}
 use Rattle.verifier.proofs.GateLaws.{passes}
 use Rattle.verifier.proofs.EndLaws.{ready-of, point-fits, ended-is, run-is}
@@ -42,7 +43,7 @@ same-length-2 : tie.Need-same-length-2
 same-length-2 c = search needs
 
 returns : tie.Need-returns
-returns c = run-is (asked (c .before .before .before .before .before .before .before .before .before .before .before .before .before .before .before .before .before .before .args .proof .now) (c .before .before .before .before .before .before .before .before .before .before .before .before .before .before .before .before .before .before .args .rounds) (c .before .before .before .before .before .before .before .before .before .before .before .before .before .before .before .before .before .before .args .challenges .now)) (lent (c .before .before .before .before .before .before .before .before .before .before .before .before .before .before .before .before .before .before .args .point .now) (c .before .before .before .before .before .before .before .before .before .before .before .before .before .before .before .before .before .before .args .log .now)) _ _ _ (c .before .before .before .before .before .before .before .before .before .before .before .before .before .before .before .before .before .before .pre) (c .before .before .before .before .before .before .before .before .before .before .before .before .before .challenge-words .ensures) (ended-is _ _ _ _ _ (c .before .before .before .before .before .before .before .before .before .verify-counted .kept .1 .1 .1 .1 .0) (c .before .before .before .before .before .before .before .before .before .before .before .before .before .before .before .before .before .before .args .rounds) _ _ (c .before .before .before .before .before .before .before .before .before .verify-counted .result) _ (c .before .before .before .before .before .before .before .before .before .verify-counted .ensures) (point-fits _ _ (passes (c .before .before .before .before .before .before .before .before .before .before .before .before .before .before .before .before .before .before .pre) .few) (c .before .before .before .before .before .before .before .before .before .verify-counted .kept .1 .1 .1 .0)) (c .before .before .before .leave-point .ensures) (c .answer .ensures))
+returns c = run-is (asked (c .before .before .before .before .before .before .before .before .before .before .before .before .before .before .before .before .before .before .args .proof .now) (c .before .before .before .before .before .before .before .before .before .before .before .before .before .before .before .before .before .before .args .rounds) sandbox (c .before .before .before .before .before .before .before .before .before .before .before .before .before .before .before .before .before .before .args .challenges .now)) (lent (c .before .before .before .before .before .before .before .before .before .before .before .before .before .before .before .before .before .before .args .point .now) (c .before .before .before .before .before .before .before .before .before .before .before .before .before .before .before .before .before .before .args .log .now)) _ _ _ (c .before .before .before .before .before .before .before .before .before .before .before .before .before .before .before .before .before .before .pre) (c .before .before .before .before .before .before .before .before .before .before .before .before .before .challenge-words .ensures) (ended-is _ _ _ _ _ (c .before .before .before .before .before .before .before .before .before .verify-counted .kept .1 .1 .1 .1 .0) (c .before .before .before .before .before .before .before .before .before .before .before .before .before .before .before .before .before .before .args .rounds) _ _ (c .before .before .before .before .before .before .before .before .before .verify-counted .result) _ (c .before .before .before .before .before .before .before .before .before .verify-counted .ensures) (point-fits _ _ (passes (c .before .before .before .before .before .before .before .before .before .before .before .before .before .before .before .before .before .before .pre) .few) (c .before .before .before .before .before .before .before .before .before .verify-counted .kept .1 .1 .1 .0)) (c .before .before .before .leave-point .ensures) (c .answer .ensures))
 
 pub run-spec : {M : Type 1} → statement M
 run-spec =

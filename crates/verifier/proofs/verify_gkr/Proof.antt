@@ -1,16 +1,18 @@
+use mathlib.Core.Path.{_∙_}
 use Rattle.verifier.specs.Verified.{asked, lent}
 use Rattle.verifier.proofs.EndLaws.{opened-of, shut-is}
+use Rattle.verifier.proofs.RootLaws.{also-sandbox, run-alike}
 use lib.ListN.{length}
 use borrow.Author.Needs.{needs}
 use Rattle.verifier.proofs.verify_gkr.Statement.{statement}
 use Rattle.verifier.proofs.verify_gkr.Tie as tie
 use Rattle.verifier.proofs.verify_gkr.Reads as reads
 use Rattle.verifier.proofs.verify_gkr.Lts as lts
-use Rattle.verifier.proofs.check.Reads as check-reads
+use Rattle.verifier.proofs.admit.Reads as admit-reads
 use Rattle.verifier.proofs.run.Reads as run-reads
 
-check-requires : tie.Need-check-requires
-check-requires c κs = search needs
+admit-requires : tie.Need-admit-requires
+admit-requires c κs = search needs
 
 enum-known-refusal : tie.Need-enum-known-refusal
 enum-known-refusal c = search needs
@@ -19,10 +21,10 @@ enum-known-outline : tie.Need-enum-known-outline
 enum-known-outline c = search needs
 
 run-requires : tie.Need-run-requires
-run-requires c κs = opened-of (asked (c .before .before .before .before .before .before .before .before .before .before .args .proof .now) (c .before .before .before .before .before .before .before .before .before .before .args .rounds) (c .before .before .before .before .before .before .before .before .before .before .args .challenges .now)) (length (c .before .before .before .before .before .before .before .before .before .before .args .point .now)) (length (c .before .before .before .before .before .before .before .before .before .before .args .log .now)) (c .before .before .before .before .before .check .result) _ (c .before .before .before .outline .given .1) (c .before .before .before .before .before .check .ensures)
+run-requires c κs = also-sandbox _ _ _ _ (opened-of (asked (c .before .before .before .before .before .before .before .before .before .before .args .proof .now) (c .before .before .before .before .before .before .before .before .before .before .args .rounds) (c .before .before .before .before .before .before .before .before .before .before .args .modes) (c .before .before .before .before .before .before .before .before .before .before .args .challenges .now)) (length (c .before .before .before .before .before .before .before .before .before .before .args .point .now)) (length (c .before .before .before .before .before .before .before .before .before .before .args .log .now)) (c .before .before .before .before .before .admit .result) _ (c .before .before .before .outline .given .1) (c .before .before .before .before .before .admit .ensures))
 
 returns : tie.Need-returns
-returns c = shut-is (asked (c .before .before .before .before .before .before .before .before .args .proof .now) (c .before .before .before .before .before .before .before .before .args .rounds) (c .before .before .before .before .before .before .before .before .args .challenges .now)) (lent (c .before .before .before .before .before .before .before .before .args .point .now) (c .before .before .before .before .before .before .before .before .args .log .now)) (c .before .before .before .check .result) _ (c .before .refusal .given .1) (c .before .before .before .check .ensures)
+returns c = shut-is (asked (c .before .before .before .before .before .before .before .before .args .proof .now) (c .before .before .before .before .before .before .before .before .args .rounds) (c .before .before .before .before .before .before .before .before .args .modes) (c .before .before .before .before .before .before .before .before .args .challenges .now)) (lent (c .before .before .before .before .before .before .before .before .args .point .now) (c .before .before .before .before .before .before .before .before .args .log .now)) (c .before .before .before .admit .result) _ (c .before .refusal .given .1) (c .before .before .before .admit .ensures)
 
 same-length : tie.Need-same-length
 same-length c = search needs
@@ -31,13 +33,15 @@ same-length-2 : tie.Need-same-length-2
 same-length-2 c = search needs
 
 returns-2 : tie.Need-returns-2
-returns-2 c = c .before .before .before .before .run .ensures
+returns-2 c =
+    let o = opened-of (asked (c .before .before .before .before .before .before .before .before .before .before .before .before .before .before .before .args .proof .now) (c .before .before .before .before .before .before .before .before .before .before .before .before .before .before .before .args .rounds) (c .before .before .before .before .before .before .before .before .before .before .before .before .before .before .before .args .modes) (c .before .before .before .before .before .before .before .before .before .before .before .before .before .before .before .args .challenges .now)) (length (c .before .before .before .before .before .before .before .before .before .before .before .before .before .before .before .args .point .now)) (length (c .before .before .before .before .before .before .before .before .before .before .before .before .before .before .before .args .log .now)) (c .before .before .before .before .before .before .before .before .before .before .admit .result) _ (c .before .before .before .before .before .before .before .before .outline .given .1) (c .before .before .before .before .before .before .before .before .before .before .admit .ensures) in
+    c .before .before .before .before .run .ensures ∙ run-alike (asked (c .before .before .before .before .before .before .before .before .before .before .before .before .before .before .before .args .proof .now) (c .before .before .before .before .before .before .before .before .before .before .before .before .before .before .before .args .rounds) (c .before .before .before .before .before .before .before .before .before .before .before .before .before .before .before .args .modes) (c .before .before .before .before .before .before .before .before .before .before .before .before .before .before .before .args .challenges .now)) (lent (c .before .before .before .before .before .before .before .before .before .before .before .before .before .before .before .args .point .now) (c .before .before .before .before .before .before .before .before .before .before .before .before .before .before .before .args .log .now)) _ o
 
 pub verify-gkr-spec : {M : Type 1} → statement M
 verify-gkr-spec =
     tie.close
     (tie.spec
-    check-requires
+    admit-requires
     enum-known-refusal
     enum-known-outline
     run-requires

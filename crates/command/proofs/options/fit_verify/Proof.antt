@@ -1,5 +1,6 @@
 -- `command::options::fit_verify` meets its contract.
 -- Assumes nothing.
+use mathlib.Core.Path.{refl}
 use Rattle.command.proofs.Folding.{both-are}
 use borrow.Author.Needs.{needs}
 use Rattle.command.proofs.options.fit_verify.Statement.{statement}
@@ -11,11 +12,8 @@ is-whole-requires c κs = search needs
 both-requires : tie.Need-both-requires
 both-requires c κs = search needs
 
-both-requires-2 : tie.Need-both-requires-2
-both-requires-2 c κs = search needs
-
 returns : tie.Need-returns
-returns c = both-are _ _ _ _ _ (c .both2 .ensures) (c .before .before .before .is-whole .ensures) (c .before .both .ensures)
+returns c = both-are _ _ _ _ _ (c .both .ensures) (c .before .is-whole .ensures) refl
 
 pub fit-verify-spec : {M : Type 1} → statement M
-fit-verify-spec = tie.close (tie.spec is-whole-requires both-requires both-requires-2 returns)
+fit-verify-spec = tie.close (tie.spec is-whole-requires both-requires returns)

@@ -2,11 +2,12 @@
 -- Assumes nothing.
 use Prim.Native.Nat.{_≤_, _-_}
 use borrow.Author.Needs.{needs}
+use Rattle.refusal.specs.Limits.{maxRows}
 use Rattle.command_sheets.proofs.levels.print_levels.Statement.{statement}
 use Rattle.command_sheets.proofs.levels.print_levels.Tie as tie
 
 abbrev Inv-loop : tie.InvT-loop
-Inv-loop work size first₀ t5 first = first ≤ 1024
+Inv-loop work size first₀ t5 first = first ≤ maxRows
 
 abbrev μ-loop : tie.MeasureT-loop
 μ-loop work size first₀ t5 first = first

@@ -1,0 +1,12 @@
+use borrow.Author.Needs.{needs}
+use Rattle.accudrina.proofs.modes.untaken_by_verifier.Statement.{statement}
+use Rattle.accudrina.proofs.modes.untaken_by_verifier.Tie as tie
+
+without-requires : tie.Need-without-requires
+without-requires c κs = search needs
+
+returns : tie.Need-returns
+returns c = c .without .ensures
+
+pub untaken-by-verifier-spec : {M : Type 1} → statement M
+untaken-by-verifier-spec = tie.close (tie.spec without-requires returns)

@@ -1,0 +1,12 @@
+use borrow.Author.Needs.{needs}
+use Rattle.accudrina.proofs.modes.verifying.Statement.{statement}
+use Rattle.accudrina.proofs.modes.verifying.Tie as tie
+
+has-requires : tie.Need-has-requires
+has-requires c κs = search needs
+
+returns : tie.Need-returns
+returns c = λ i. record { live = c .has .ensures i }
+
+pub verifying-spec : {M : Type 1} → statement M
+verifying-spec = tie.close (tie.spec has-requires returns)

@@ -1,0 +1,2 @@
+-- Live mode and the sum.
+pub mod Roots
