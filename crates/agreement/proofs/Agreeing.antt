@@ -22,7 +22,8 @@ use Rattle.gkr.specs.Gkr.{done, accepted}
 use Rattle.gkr.specs.Honest as Honest
 use Rattle.gkr.specs.Count as Count
 use Rattle.gkr.specs.TranscriptLaws as TranscriptLaws
-use Rattle.transcript.specs.Log.{Drawing, supplied}
+use Rattle.transcript.specs.Log.{Drawing}
+use Rattle.transcript.specs.Source.{supplied}
 use Rattle.sizes.specs.SizeLaws.{counted}
 use Rattle.wire.specs.Words.{allCanonical}
 use Rattle.stored.specs.Layout.{layout, proofWords}

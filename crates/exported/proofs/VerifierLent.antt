@@ -13,7 +13,7 @@ use Rattle.gkr.specs.Tests.{either}
 use Rattle.gkr.specs.Transcripts.{Source}
 use Rattle.gkr.specs.Sizes as Sizes
 use Rattle.gkr.specs.Gkr.{accepted, zero-rounds, layer-count, poly-count, zero-check, root-check, subround-count, layer-check}
-use Rattle.transcript.specs.Log.{supplied}
+use Rattle.transcript.specs.Source.{supplied}
 use Rattle.refusal.specs.Limits.{maxRounds}
 use Rattle.refusal.specs.Tests.{Tested, firstOf}
 use Rattle.wire.specs.Words.{allCanonical}

@@ -16,7 +16,8 @@ use Rattle.gkr.specs.Sizes.{challenges}
 use Rattle.gkr.specs.Count as Count
 use Rattle.gkr.specs.Gkr as Gkr
 use Rattle.gkr.specs.Gkr.{done, non-zero-root-sum}
-use Rattle.transcript.specs.Log.{Drawing, supplied}
+use Rattle.transcript.specs.Source.{supplied}
+use Rattle.transcript.specs.Log.{Drawing}
 use Rattle.prover_tree.specs.Nodes.{node}
 use Rattle.sizes.specs.Sizes.{workRoom}
 use Rattle.prover.specs.declared.Answer.{Answer}

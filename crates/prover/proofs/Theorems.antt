@@ -14,7 +14,8 @@ use Rattle.gkr.specs.Transcripts.{empty, Source}
 use Rattle.gkr.specs.Sizes.{challenges}
 use Rattle.gkr.specs.Gkr as Gkr
 use Rattle.gkr.specs.Gkr.{done, non-zero-root-sum}
-use Rattle.transcript.specs.Log.{Drawing, supplied, Observing}
+use Rattle.transcript.specs.Source.{supplied}
+use Rattle.transcript.specs.Log.{Drawing, Observing}
 use Rattle.step.specs.declared.Frac.{Frac}
 use Rattle.prover_tree.specs.Nodes.{node}
 use Rattle.refusal.specs.TestWays.{Ways, both, each-way}

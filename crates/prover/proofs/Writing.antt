@@ -1,6 +1,6 @@
 -- What a run leaves in the buffers, in exact words: point, log and proof bytes from the front, and the rest as before.
 -- Assumes nothing.
-use mathlib.Core.Path.{_≡_, refl, sym, _∙_, ap, ap₂}
+use mathlib.Core.Path.{_≡_, refl, sym, _∙_, ap, ap₂, subst}
 use mathlib.Core.Bool.{Bool, true, false, cond}
 use mathlib.Core.List.{List, [], _∷_, _++_, append-nil}
 use Prim.Native.Nat.{ℕ, suc, _+_, _*_, _-_, _/_, _≤_}
@@ -14,10 +14,11 @@ use Rattle.field.specs.Element.{dec, pointWords}
 use Rattle.field.specs.Cells.{Clean, cells}
 use Rattle.field.specs.PointLaws.{cells-length, point-length, point-is}
 use Rattle.gkr.specs.Run.{Frac}
-use Rattle.gkr.specs.Transcripts.{Words, Source}
+use Rattle.gkr.specs.Transcripts.{Words, empty, Source}
 use Rattle.gkr.specs.Tree as Tree
 use Rattle.gkr.specs.Gkr as Gkr
 use Rattle.transcript.specs.declared.Pos.{Pos}
+use Rattle.transcript.specs.Source.{source}
 use Rattle.transcript.specs.Log.{Drawing, logOf, Steps}
 use Rattle.step.specs.declared.Frac.{Frac as FracW}
 use Rattle.step.specs.Values.{IsFrac}
@@ -25,7 +26,7 @@ use Rattle.stored.specs.Layout.{layout}
 use Rattle.stored.specs.Lengths.{proofSize}
 use Rattle.stored.specs.Elements.{encoded}
 use Rattle.stored_writer.specs.Messages.{storedProof, readProof}
-use Rattle.prover_run.specs.Runs.{origin, begun, RunOf}
+use Rattle.prover_run.specs.Runs.{begun, RunOf}
 use Rattle.prover_run.proofs.Whole.{past}
 use Rattle.refusal.specs.Fronts.{over}
 use Rattle.prover.specs.Proved.{lent}
@@ -63,27 +64,32 @@ whole-proof pf pf' bs k h l e =
     e ∙ ap (λ n. bs ++ drop n pf) (sym s)
 
 -- root p's four words, or none, are whole cells
-pub quarter : (b : Bool) (put : ℕ) → put ≡ 0 + cond b 0 4 → put ≡ 4 * (put / 4)
-quarter true put h = omega arith
-quarter false put h = omega arith
+pub quarter : (b : Bool) (at put : ℕ) → at ≡ 0 → put ≡ at + cond b 0 4 → put ≡ 4 * (put / 4)
+quarter true at put e h = omega arith
+quarter false at put e h = omega arith
+
+-- a run with the challenges of one source is one with those of an equal one
+pub run-alike : (ch : List ℕ) {f : ℕ → Frac E.Ext} {pt lg lg' : List ℕ} {m : ℕ} {pos pos' : Pos} {b b' : Bool} → b ≡ b' → RunOf f pt lg lg' (source b ch) m pos pos' → RunOf f pt lg lg' (source b' ch) m pos pos'
+run-alike ch {f} {pt} {lg} {lg'} {m} {pos} {pos'} e h = subst (λ (b : Bool). RunOf f pt lg lg' (source b ch) m pos pos') e h
 
 -- ALL
 
-pub written : (f : ℕ → Frac E.Ext) (asserted : Bool) (m n : ℕ) (ch : Source E.Ext) (pf pf' pt pt' lg lg₁ lg₂ ws ws₁ ws' : List ℕ) (pos z : Pos) (root : FracW)
-    → n ≡ suc m → IsFrac root (Tree.tree ExtRing f (suc m) 0)
-    → Steps lg lg₁ origin pos (cond asserted 0 4) 0 (begun asserted (dec (root .p))) → pos .put ≤ length lg₁
+pub written : (f : ℕ → Frac E.Ext) (asserted : Bool) (m n : ℕ) (ch : Source E.Ext) (pf pf' pt pt' lg lg₁ lg₂ ws ws₁ ws' : List ℕ) (first pos z : Pos) (root : FracW)
+    → first .put ≡ 0 → first .used ≡ 0 → n ≡ suc m → IsFrac root (Tree.tree ExtRing f (suc m) 0)
+    → Steps lg lg₁ first pos (cond asserted 0 4) 0 (begun asserted (dec (root .p)) (logOf lg first)) → pos .put ≤ length lg₁
     → RunOf f pt' lg₁ lg₂ ch m pos z → pos .put ≤ z .put → z .put ≤ length lg₂
     → Clean pt' → length pt ≡ 4 * n → length pt' ≡ 4 * n
     → proofSize n ≤ length pf → length pf' ≡ length pf → pf' ≡ layout (storedProof lg₂ (pos .put / 4) (n - 1)) ++ drop (proofSize n) pf
     → ws' ≡ replicate (length ws₁) 0 → length ws₁ ≡ length ws
     → Written f asserted m ch (lent pf pt lg ws) (lent pf' pt' lg₂ ws')
-written f asserted m n ch pf pf' pt pt' lg lg₁ lg₂ ws ws₁ ws' pos z root e h s l₁ R u l₂ c lp lp' kp kf ep ew lw =
+written f asserted m n ch pf pf' pt pt' lg lg₁ lg₂ ws ws₁ ws' first pos z root e₀ e₁ e h s l₁ R u l₂ c lp lp' kp kf ep ew lw =
     let run : Words → Gkr.Proved Extension (Drawing ch) = Gkr.run Extension (Drawing ch) m f in
-    let t : logOf lg₁ pos ≡ begun asserted (Tree.tree ExtRing f (suc m) 0 .p) = s .log ∙ ap (begun asserted) (h .p .value) in
+    let none : logOf lg first ≡ empty = (λ i. record { log = take (e₀ i) lg; used = e₁ i }) in
+    let t : logOf lg₁ pos ≡ begun asserted (Tree.tree ExtRing f (suc m) 0 .p) empty = s .log ∙ ap₂ (begun asserted) (h .p .value) none in
     let i = pos .put / 4 in
     let q : n - 1 ≡ m = omega arith in
     let X : Extends (run (logOf lg₁ pos) .log) lg₂ = record { rest = drop (z .put) lg₂; whole = sym (take-append-drop (z .put) lg₂) ∙ ap (λ w. w .log ++ drop (z .put) lg₂) (R .log) } in
-    let there = proof-there ch m f (logOf lg₁ pos) lg₂ i (length-take-le (pos .put) lg₁ l₁ ∙ quarter asserted (pos .put) (s .put)) X in
+    let there = proof-there ch m f (logOf lg₁ pos) lg₂ i (length-take-le (pos .put) lg₁ l₁ ∙ quarter asserted (first .put) (pos .put) e₀ (s .put)) X in
     record {
       proof = whole-proof pf pf' (layout (encoded (runOf f asserted m ch .proof))) (proofSize n) kp kf (ep ∙ ap (λ π. layout (encoded π) ++ drop (proofSize n) pf) (ap (λ k. readProof lg₂ i k) q ∙ there ∙ ap (λ u. run u .proof) t));
       point = whole-point pt pt' n _ c lp lp' (ap (cells pt' 0) e ∙ R .point ∙ ap (λ u. run u .point) t);

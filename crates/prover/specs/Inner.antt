@@ -10,7 +10,7 @@ use Rattle.field.specs.ExtRing.{ExtRing}
 use Rattle.field.specs.Extension.{Extension}
 use Rattle.field.specs.Element.{pointWords}
 use Rattle.field.specs.Cells.{Clean}
-use Rattle.gkr.specs.Transcripts.{Source}
+use Rattle.gkr.specs.Transcripts.{empty, Source}
 use Rattle.gkr.specs.Run.{Frac}
 use Rattle.gkr.specs.Sizes as Sizes
 use Rattle.gkr.specs.Tree as Tree
@@ -29,7 +29,7 @@ use Rattle.prover.specs.Proved.{Buffers}
 
 -- the model's run over 2 ^ suc m rows f
 abbrev pub runOf : (f : ℕ → Frac E.Ext) (asserted : Bool) (m : ℕ) (ch : Source E.Ext) → Gkr.Proved Extension (Drawing ch)
-runOf f asserted m ch = Gkr.run Extension (Drawing ch) m f (begun asserted (Tree.tree ExtRing f (suc m) 0 .p))
+runOf f asserted m ch = Gkr.run Extension (Drawing ch) m f (begun asserted (Tree.tree ExtRing f (suc m) 0 .p) empty)
 
 -- it is written, and the workspace wiped
 pub record Written (f : ℕ → Frac E.Ext) (asserted : Bool) (m : ℕ) (ch : Source E.Ext) (b b' : Buffers) : Type 0 where

@@ -13,7 +13,8 @@ use Rattle.gkr.specs.Transcripts.{empty, Source}
 use Rattle.gkr.specs.Sizes.{challenges}
 use Rattle.gkr.specs.Gkr as Gkr
 use Rattle.gkr.specs.Gkr.{done, non-zero-root-sum}
-use Rattle.transcript.specs.Log.{Drawing, supplied}
+use Rattle.transcript.specs.Source.{supplied}
+use Rattle.transcript.specs.Log.{Drawing}
 use Rattle.step.specs.declared.Frac.{Frac as FracW}
 use Rattle.prover_tree.specs.Nodes.{node}
 use Rattle.stored.specs.Layout.{layout}

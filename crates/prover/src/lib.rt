@@ -13,7 +13,8 @@ ghost use Rattle.gkr.specs.Run.{Frac as Fraction};
 ghost use Rattle.gkr.specs.Transcripts.{empty};
 ghost use Rattle.gkr.specs.Tree as Tree;
 ghost use Rattle.gkr.specs.Gkr as Gkr;
-ghost use Rattle.transcript.specs.Log.{Drawing, supplied};
+ghost use Rattle.transcript.specs.Source.{supplied};
+ghost use Rattle.transcript.specs.Log.{Drawing};
 ghost use Rattle.step.specs.Values.{CanonFrac, IsFrac};
 ghost use Rattle.prover_tree.specs.Nodes.{node};
 ghost use Rattle.prover_rounds.specs.Layers.{Levels};
@@ -54,7 +55,8 @@ fn write_run(
         → Written f asserted m (supplied (now (challenges .entry))) (lent (now (proof .entry)) (now (xi .entry)) (now (log .entry)) (now (work .entry)))
         (lent (now (proof .exit)) (now (xi .exit)) (now (log .exit)) (now (work .exit)))) ⌝ }
 {
-    let pos = prover_run::begin(log, asserted, root.p);
+    let first = transcript::start(false);
+    let pos = prover_run::begin(log, first, asserted, root.p);
     prover_run::run_rounds(n, size, root.q, work, xi, log, challenges, pos);
     let i = pos.put / 4;
     stored_writer::put_proof(proof, log, i, n);

@@ -24,7 +24,7 @@ use Rattle.gkr.specs.Gkr as Gkr
 use Rattle.transcript.specs.declared.Pos.{Pos}
 use Rattle.transcript.specs.declared.Drawn.{Drawn}
 use Rattle.transcript.specs.Log.{Drawing, Observing, logOf, Steps}
-use Rattle.transcript.proofs.Logs.{then, retold}
+use Rattle.transcript.proofs.Logs.{then, retold, enough-after}
 use Rattle.step.specs.declared.Frac.{Frac as FracW}
 use Rattle.step.specs.Values.{IsFrac, decFrac}
 use Rattle.prover_tree.specs.Nodes.{node, Filled}
@@ -156,7 +156,9 @@ midway-none ws pt lg ch n pos h c d = record {
   points = d;
   put = refl;
   used = refl;
+  drawn = refl;
   rest = refl;
+  enough = λ b e. e;
   run = λ f g e L. let q : n - 1 ≡ g = omega arith in record {
     levels = L;
     point = ap (λ h. runs f pt lg ch h 1 pos .point) q;
@@ -179,7 +181,9 @@ midway-next ws₀ ws ws' pt₀ pt pt' lg₀ lg lg' ch at n r size pos₀ pos pos
       points = L .points;
       put = omega (arith, p, q, log-next r);
       used = omega (arith, p', q', used-next r);
+      drawn = L .steps .drawn ∙ M .drawn;
       rest = L .steps .rest ∙ ap (λ k. drop k lg) p ∙ sym (drop-drop w (pos .put) lg) ∙ ap (drop w) (M .rest) ∙ drop-drop w (pos .put) lg₀ ∙ ap (λ k. drop k lg₀) (sym p);
+      enough = λ b e. enough-after (usedUpTo n - usedUpTo r) (omega arith) (omega (arith, used-next r, used-room r n l)) (L .steps) (M .enough b e);
       run = λ f g en Lv.
           let m = n - (r + 1) in
           let z : n - r ≡ suc m = omega arith in
@@ -194,4 +198,4 @@ midway-end ws₀ ws pt₀ pt lg₀ lg ch n r pos₀ pos h M f g e L =
     let q : r ≡ n = omega arith in
     let z : n - r ≡ 0 = omega arith in
     let R = subst (λ h. Running f ws pt₀ pt lg₀ lg ch n r h g pos₀ pos) z (M .run f g e L) in
-    record { point = ap (cells pt 0) (sym q) ∙ R .point; log = R .log }
+    record { point = ap (cells pt 0) (sym q) ∙ R .point; log = R .log; drawn = M .drawn }

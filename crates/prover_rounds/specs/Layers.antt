@@ -16,7 +16,7 @@ use Rattle.gkr.specs.Tree as Tree
 use Rattle.gkr.specs.Sumcheck as Sumcheck
 use Rattle.gkr.specs.Gkr as Gkr
 use Rattle.transcript.specs.declared.Pos.{Pos}
-use Rattle.transcript.specs.Log.{Drawing, Observing, logOf, Steps}
+use Rattle.transcript.specs.Log.{Drawing, Observing, Enough, logOf, Steps}
 use Rattle.prover_tree.specs.Nodes.{node}
 use Rattle.prover_layer.specs.Columns.{claims}
 
@@ -74,6 +74,7 @@ pub record Running (f : ℕ → Frac E.Ext) (ws pt₀ pt lg₀ lg : List ℕ) (c
 pub record AllLayers (f : ℕ → Frac E.Ext) (pt pt' lg lg' : List ℕ) (ch : Source E.Ext) (n g : ℕ) (pos pos' : Pos) : Type 0 where
   pub point : cells pt' 0 n ≡ runs f pt lg ch g 1 pos .point
   pub log : logOf lg' pos' ≡ runs f pt lg ch g 1 pos .log
+  pub drawn : pos' .drawn ≡ pos .drawn
 
 -- the loop over the layers before layer r
 pub record Midway (ws₀ ws pt₀ pt lg₀ lg : List ℕ) (ch : Source E.Ext) (n r : ℕ) (pos₀ pos : Pos) : Type 0 where
@@ -83,5 +84,7 @@ pub record Midway (ws₀ ws pt₀ pt lg₀ lg : List ℕ) (ch : Source E.Ext) (n
   pub points : Clean pt
   pub put : pos .put + logUpTo 1 ≡ pos₀ .put + logUpTo r
   pub used : pos .used + usedUpTo 1 ≡ pos₀ .used + usedUpTo r
+  pub drawn : pos .drawn ≡ pos₀ .drawn
   pub rest : drop (pos .put) lg ≡ drop (pos .put) lg₀
+  pub enough : (buffer : List ℕ) → Enough lg₀ buffer pos₀ (usedUpTo n - usedUpTo 1) → Enough lg buffer pos (usedUpTo n - usedUpTo r)
   pub run : (f : ℕ → Frac E.Ext) (g : ℕ) → n ≡ suc g → Levels f ws₀ n 1 → Running f ws pt₀ pt lg₀ lg ch n r (n - r) g pos₀ pos

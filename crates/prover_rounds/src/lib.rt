@@ -6,7 +6,8 @@ ghost use Rattle.field.specs.Ext as E;
 ghost use Rattle.field.specs.Element.{dec, Canon};
 ghost use Rattle.field.specs.Cells.{Clean};
 ghost use Rattle.gkr.specs.Run.{Frac as Fraction};
-ghost use Rattle.transcript.specs.Log.{supplied, Enough, logOf, Steps};
+ghost use Rattle.transcript.specs.Source.{source};
+ghost use Rattle.transcript.specs.Log.{Enough, logOf, Steps};
 ghost use Rattle.step.specs.Values.{CanonFrac, decFrac, CanonThree};
 ghost use Rattle.prover_rounds.specs.SubRounds.{observedThree, SubRound, SubRounds};
 ghost use Rattle.prover_rounds.specs.Layers.{observedFrac, Closed, OneLayer, Levels, logUpTo, usedUpTo, AllLayers};
@@ -39,11 +40,11 @@ fn sub_round(
     pos: Pos,
 ) -> Pos
     requires layer { ⌜ (2 * pq + 8 * half ≤ eq) × (4 * (eq + 2 * half) ≤ length (now work)) ⌝ }
-    requires room { ⌜ (4 * i + 3 < length (now xi)) × (pos .put + 16 ≤ length (now log)) × Enough (now challenges) pos 1 ⌝ }
+    requires room { ⌜ (4 * i + 3 < length (now xi)) × (pos .put + 16 ≤ length (now log)) × Enough (now log) (now challenges) pos 1 ⌝ }
     requires clean { ⌜ Clean (now work) × Clean (now xi) ⌝ }
     ensures { λ r. ⌜ ((k : ℕ) → half ≡ 2 ^ k →
         SubRound (now (work .entry)) (now (work .exit)) (now (xi .entry)) (now (xi .exit)) (now (log .entry)) (now (log .exit))
-        (supplied (now (challenges .entry))) eq pq k half i E.nil pos r) ⌝ }
+        (source (pos .drawn) (now (challenges .entry))) eq pq k half i E.nil pos r) ⌝ }
 {
     let s = prover_layer::sumcheck_round_poly_evals(work, eq, pq, half);
     let p = observe_round_poly(log, pos, s);
@@ -68,10 +69,10 @@ fn weighed_sub_rounds(
 ) -> Pos
     requires size { ⌜ size ≡ 2 ^ round ⌝ }
     requires layer { ⌜ (2 * pq + 4 * size ≤ eq) × (4 * (eq + size) ≤ length (now work)) ⌝ }
-    requires room { ⌜ (4 * round + 4 ≤ length (now xi)) × (pos .put + 16 * round ≤ length (now log)) × Enough (now challenges) pos round ⌝ }
+    requires room { ⌜ (4 * round + 4 ≤ length (now xi)) × (pos .put + 16 * round ≤ length (now log)) × Enough (now log) (now challenges) pos round ⌝ }
     requires clean { ⌜ Clean (now work) × Clean (now xi) ⌝ }
     ensures { λ r. ⌜ SubRounds (now (work .entry)) (now (work .exit)) (now (xi .entry)) (now (xi .exit)) (now (log .entry)) (now (log .exit))
-        (supplied (now (challenges .entry))) eq pq round size E.nil pos r ⌝ }
+        (source (pos .drawn) (now (challenges .entry))) eq pq round size E.nil pos r ⌝ }
 {
     let mut p = pos;
     let mut half = size;
@@ -97,10 +98,10 @@ fn sub_rounds(
 ) -> Pos
     requires size { ⌜ size ≡ 2 ^ round ⌝ }
     requires layer { ⌜ (2 * pq + 4 * size ≤ eq) × (4 * (eq + size) ≤ length (now work)) ⌝ }
-    requires room { ⌜ (4 * round + 4 ≤ length (now xi)) × (pos .put + 16 * round ≤ length (now log)) × Enough (now challenges) pos round ⌝ }
+    requires room { ⌜ (4 * round + 4 ≤ length (now xi)) × (pos .put + 16 * round ≤ length (now log)) × Enough (now log) (now challenges) pos round ⌝ }
     requires clean { ⌜ Clean (now work) × Clean (now xi) × Canon lambda ⌝ }
     ensures { λ r. ⌜ SubRounds (now (work .entry)) (now (work .exit)) (now (xi .entry)) (now (xi .exit)) (now (log .entry)) (now (log .exit))
-        (supplied (now (challenges .entry))) eq pq round size (dec lambda) pos r ⌝ }
+        (source (pos .drawn) (now (challenges .entry))) eq pq round size (dec lambda) pos r ⌝ }
 {
     prover_layer::weigh(work, pq, size, lambda);
     let p = weighed_sub_rounds(work, eq, pq, round, size, xi, log, challenges, pos);
@@ -127,9 +128,9 @@ pub fn close_round(
     challenges: &[u32],
     pos: Pos,
 ) -> Pos
-    requires room { ⌜ (8 * pq + 15 < length (now work)) × (4 ≤ length (now xi)) × (pos .put + 20 ≤ length (now log)) × Enough (now challenges) pos 1 ⌝ }
+    requires room { ⌜ (8 * pq + 15 < length (now work)) × (4 ≤ length (now xi)) × (pos .put + 20 ≤ length (now log)) × Enough (now log) (now challenges) pos 1 ⌝ }
     requires clean { ⌜ Clean (now work) × Clean (now xi) ⌝ }
-    ensures { λ r. ⌜ Closed (now (work .entry)) (now (xi .entry)) (now (xi .exit)) (now (log .entry)) (now (log .exit)) (supplied (now (challenges .entry))) pq pos r ⌝ }
+    ensures { λ r. ⌜ Closed (now (work .entry)) (now (xi .entry)) (now (xi .exit)) (now (log .entry)) (now (log .exit)) (source (pos .drawn) (now (challenges .entry))) pq pos r ⌝ }
 {
     let p = observe_fraction(log, pos, prover_tree::load_node(work, pq));
     let q = observe_fraction(log, p, prover_tree::load_node(work, pq + 1));
@@ -151,10 +152,10 @@ fn gkr_round(
 ) -> Pos
     requires size { ⌜ size ≡ 2 ^ round ⌝ }
     requires layer { ⌜ (8 * size ≤ eq) × (4 * (eq + size) ≤ length (now work)) ⌝ }
-    requires room { ⌜ (4 * round + 4 ≤ length (now xi)) × (pos .put + 16 * round + 24 ≤ length (now log)) × Enough (now challenges) pos (round + 2) ⌝ }
+    requires room { ⌜ (4 * round + 4 ≤ length (now xi)) × (pos .put + 16 * round + 24 ≤ length (now log)) × Enough (now log) (now challenges) pos (round + 2) ⌝ }
     requires clean { ⌜ Clean (now work) × Clean (now xi) ⌝ }
     ensures { λ r. ⌜ OneLayer (now (work .entry)) (now (work .exit)) (now (xi .entry)) (now (xi .exit)) (now (log .entry)) (now (log .exit))
-        (supplied (now (challenges .entry))) eq round size pos r ⌝ }
+        (source (pos .drawn) (now (challenges .entry))) eq round size pos r ⌝ }
 {
     let pq = 2 * size;
     let lambda = transcript::sample_ext(log, challenges, pos);
@@ -185,10 +186,10 @@ pub fn gkr_rounds(
     pos: Pos,
 ) -> Pos
     requires layer { ⌜ (1 ≤ n) × (4 * 2 ^ n ≤ eq) × (4 * eq + 2 * 2 ^ n ≤ length (now work)) ⌝ }
-    requires room { ⌜ (4 * n ≤ length (now xi)) × (pos .put + logUpTo n ≤ length (now log) + logUpTo 1) × Enough (now challenges) pos (usedUpTo n - usedUpTo 1) ⌝ }
+    requires room { ⌜ (4 * n ≤ length (now xi)) × (pos .put + logUpTo n ≤ length (now log) + logUpTo 1) × Enough (now log) (now challenges) pos (usedUpTo n - usedUpTo 1) ⌝ }
     requires clean { ⌜ Clean (now work) × Clean (now xi) ⌝ }
     ensures run { λ r. ⌜ ((f : ℕ → Fraction E.Ext) (g : ℕ) → n ≡ suc g → Levels f (now (work .entry)) n 1 →
-        AllLayers f (now (xi .entry)) (now (xi .exit)) (now (log .entry)) (now (log .exit)) (supplied (now (challenges .entry))) n g pos r) ⌝ }
+        AllLayers f (now (xi .entry)) (now (xi .exit)) (now (log .entry)) (now (log .exit)) (source (pos .drawn) (now (challenges .entry))) n g pos r) ⌝ }
     ensures rest { λ r. ⌜ (drop (r .put) (now (log .exit)) ≡ drop (r .put) (now (log .entry))) × (r .put + logUpTo 1 ≡ pos .put + logUpTo n)
         × (r .used + usedUpTo 1 ≡ pos .used + usedUpTo n) × Clean (now (xi .exit)) × Clean (now (work .exit)) ⌝ }
 {

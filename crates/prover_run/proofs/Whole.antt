@@ -25,7 +25,7 @@ use Rattle.step.specs.Values.{IsFrac}
 use Rattle.prover_tree.specs.Nodes.{node, Built}
 use Rattle.prover_layer.specs.Columns.{claims}
 use Rattle.prover_rounds.specs.Layers.{observedClaims, Closed, Levels, logUpTo, usedUpTo, runs, AllLayers}
-use Rattle.prover_run.specs.Runs.{Planted, origin, begun, RunOf}
+use Rattle.prover_run.specs.Runs.{Planted, begun, RunOf}
 
 pub planted : (rows ws ws' : List ℕ) (size : ℕ) (root : FracW) → Built rows ws ws' size → IsFrac root (node ws' 1) → Planted rows ws' size root
 planted rows ws ws' size root B R = record {
@@ -37,11 +37,12 @@ planted rows ws ws' size root B R = record {
 
 -- THE START OF THE LOG
 
-pub begun-asserted : (lg : List ℕ) (b : Bool) (x : E.Ext) → b ≡ true → Steps lg lg origin origin (cond b 0 4) 0 (begun b x)
-begun-asserted lg b x h = rw h (no-steps lg origin)
+pub begun-asserted : (lg : List ℕ) (pos : Pos) (b : Bool) (x : E.Ext) → b ≡ true → Steps lg lg pos pos (cond b 0 4) 0 (begun b x (logOf lg pos))
+begun-asserted lg pos b x h = rw h (no-steps lg pos)
 
-pub begun-open : (lg lg' : List ℕ) (b : Bool) (x : E.Ext) (r : Pos) → b ≡ false → Steps lg lg' origin r 4 0 (Observing .observe x (logOf lg origin)) → Steps lg lg' origin r (cond b 0 4) 0 (begun b x)
-begun-open lg lg' b x r h s = rw h s
+pub begun-open : (lg lg' : List ℕ) (pos : Pos) (b : Bool) (x : E.Ext) (r : Pos) → b ≡ false → Steps lg lg' pos r 4 0 (Observing .observe x (logOf lg pos))
+    → Steps lg lg' pos r (cond b 0 4) 0 (begun b x (logOf lg pos))
+begun-open lg lg' pos b x r h s = rw h s
 
 -- what is as before from i on is so from k on
 pub past : (l l' : List ℕ) (i k : ℕ) → i ≤ k → drop i l' ≡ drop i l → drop k l' ≡ drop k l
@@ -76,6 +77,7 @@ run-of ws pt pt' pt'' lg lg₁ lg₂ lg₃ ch n pos p r z q s C all e₃ u f m e
     record {
       point = ap (cells pt'' 0) (sym e) ∙ A .point ∙ ap (λ s. s .point) on;
       log = A .log ∙ ap (λ s. s .log) on;
+      drawn = A .drawn ∙ C .steps .drawn ∙ s .drawn;
       rest = e₃ ∙ past lg lg₂ (r .put) (z .put) u back;
     }
 

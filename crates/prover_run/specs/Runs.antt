@@ -10,7 +10,7 @@ use Rattle.field.specs.ExtRing.{ExtRing}
 use Rattle.field.specs.Extension.{Extension}
 use Rattle.field.specs.Cells.{Clean, cells}
 use Rattle.gkr.specs.Run.{Frac}
-use Rattle.gkr.specs.Transcripts.{Words, empty, Source}
+use Rattle.gkr.specs.Transcripts.{Words, Source}
 use Rattle.gkr.specs.Tree as Tree
 use Rattle.gkr.specs.Gkr as Gkr
 use Rattle.transcript.specs.declared.Pos.{Pos}
@@ -27,16 +27,14 @@ pub record Planted (rows ws' : List ℕ) (size : ℕ) (root : FracW) : Type 0 wh
   pub sum : (m : ℕ) → size ≡ 2 ^ suc m → IsFrac root (Tree.tree ExtRing (node rows) (suc m) 0)
   pub known : IsFrac root (node ws' 1)
 
-abbrev pub origin : Pos
-origin = record { put = 0; used = 0 }
-
--- the log before root q: root p is in it where zero is not asserted
-abbrev pub begun : (asserted : Bool) (p : E.Ext) → Words
-begun true p = empty
-begun false p = Observing .observe p empty
+-- a log before root q: root p is in it where zero is not asserted
+abbrev pub begun : (asserted : Bool) (p : E.Ext) (t : Words) → Words
+begun true p t = t
+begun false p t = Observing .observe p t
 
 -- the model's point and log after a run over the rows f, and the rest of the log as before
 pub record RunOf (f : ℕ → Frac E.Ext) (pt' lg lg' : List ℕ) (ch : Source E.Ext) (m : ℕ) (pos pos' : Pos) : Type 0 where
   pub point : cells pt' 0 (suc m) ≡ Gkr.run Extension (Drawing ch) m f (logOf lg pos) .point
   pub log : logOf lg' pos' ≡ Gkr.run Extension (Drawing ch) m f (logOf lg pos) .log
+  pub drawn : pos' .drawn ≡ pos .drawn
   pub rest : drop (pos' .put) lg' ≡ drop (pos' .put) lg

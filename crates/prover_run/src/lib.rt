@@ -9,9 +9,10 @@ ghost use Rattle.field.specs.Element.{dec, Canon};
 ghost use Rattle.field.specs.Cells.{Clean};
 ghost use Rattle.gkr.specs.Run.{Frac as Fraction};
 ghost use Rattle.gkr.specs.Tree as Tree;
-ghost use Rattle.transcript.specs.Log.{supplied, Enough, Steps};
+ghost use Rattle.transcript.specs.Source.{source};
+ghost use Rattle.transcript.specs.Log.{Enough, logOf, Steps};
 ghost use Rattle.prover_rounds.specs.Layers.{Levels, logUpTo, usedUpTo};
-ghost use Rattle.prover_run.specs.Runs.{Planted, origin, begun, RunOf};
+ghost use Rattle.prover_run.specs.Runs.{Planted, begun, RunOf};
 use field::Ext;
 use step::Frac;
 use transcript::Pos;
@@ -28,16 +29,15 @@ pub fn sum_rows(rows: &[u32], size: usize, work: &mut [u32]) -> Frac
 }
 
 // Root p is observed only where zero is not asserted.
-pub fn begin(log: &mut [u32], asserted: bool, p: Ext) -> Pos
-    requires room { ⌜ cond asserted 0 4 ≤ length (now log) ⌝ }
+pub fn begin(log: &mut [u32], pos: Pos, asserted: bool, p: Ext) -> Pos
+    requires room { ⌜ pos .put + cond asserted 0 4 ≤ length (now log) ⌝ }
     requires canon { ⌜ Canon p ⌝ }
-    ensures { λ r. ⌜ Steps (now (log .entry)) (now (log .exit)) origin r (cond asserted 0 4) 0 (begun asserted (dec p)) ⌝ }
+    ensures { λ r. ⌜ Steps (now (log .entry)) (now (log .exit)) pos r (cond asserted 0 4) 0 (begun asserted (dec p) (logOf (now (log .entry)) pos)) ⌝ }
 {
-    let start = Pos { put: 0, used: 0 };
     if asserted {
-        return start;
+        return pos;
     }
-    transcript::observe_ext(log, start, p)
+    transcript::observe_ext(log, pos, p)
 }
 
 // Root q, round 0 and the rounds after it, over the tree in the workspace; the point is cleared first.
@@ -52,10 +52,10 @@ pub fn run_rounds(
     pos: Pos,
 ) -> Pos
     requires size { ⌜ (1 ≤ n) × (size ≡ 2 ^ n) × (18 * size ≤ length (now work)) ⌝ }
-    requires room { ⌜ (4 * n ≤ length (now xi)) × (pos .put + logUpTo n ≤ length (now log)) × Enough (now challenges) pos (usedUpTo n - 1) ⌝ }
+    requires room { ⌜ (4 * n ≤ length (now xi)) × (pos .put + logUpTo n ≤ length (now log)) × Enough (now log) (now challenges) pos (usedUpTo n - 1) ⌝ }
     requires clean { ⌜ Clean (now work) × Canon q ⌝ }
     ensures run { λ r. ⌜ ((f : ℕ → Fraction E.Ext) (m : ℕ) → n ≡ suc m → Levels f (now (work .entry)) n 0 → dec q ≡ Tree.tree ExtRing f (suc m) 0 .q →
-        RunOf f (now (xi .exit)) (now (log .entry)) (now (log .exit)) (supplied (now (challenges .entry))) m pos r) ⌝ }
+        RunOf f (now (xi .exit)) (now (log .entry)) (now (log .exit)) (source (pos .drawn) (now (challenges .entry))) m pos r) ⌝ }
     ensures ends { λ r. ⌜ (r .put ≡ pos .put + logUpTo n) × Clean (now (xi .exit)) ⌝ }
 {
     let eq = 4 * size;

@@ -19,7 +19,8 @@ use Rattle.gkr.specs.Tree as Tree
 use Rattle.gkr.specs.Gkr as Gkr
 use Rattle.gkr.specs.Gkr.{done, non-zero-root-sum}
 use Rattle.gkr.specs.Count as Count
-use Rattle.transcript.specs.Log.{Drawing, supplied}
+use Rattle.transcript.specs.Log.{Drawing}
+use Rattle.transcript.specs.Source.{supplied}
 use Rattle.step.specs.declared.Frac.{Frac as FracW}
 use Rattle.refusal.specs.Tests.{Tested, passed, refused}
 use Rattle.refusal.specs.declared.Refusal.the-variants.{NonZeroRootSum}

@@ -1,2 +1,3 @@
--- The laws of steps in a log.
+-- The laws of steps in a log, and of drawn challenges.
 pub mod Logs
+pub mod DrawnLaws

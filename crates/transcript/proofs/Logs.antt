@@ -1,7 +1,8 @@
 -- Words written into the log, one step after the other.
 -- Assumes nothing.
-use mathlib.Core.Path.{_≡_, refl, sym, _∙_, ap, ap₂}
-use mathlib.Core.List.{List, [], _∷_, _++_, append-assoc, map}
+use mathlib.Core.Path.{_≡_, refl, sym, _∙_, ap, ap₂, subst}
+use mathlib.Core.Bool.{Bool}
+use mathlib.Core.List.{List, [], _∷_, _++_, map}
 use Prim.Native.Nat.{ℕ, zero, suc, _+_, _*_, _-_, _^_, _<_, _≤_}
 use native.Mathlib.Nat.{mod-eq-of-lt}
 use native.Mathlib.Omega.{arith}
@@ -14,8 +15,13 @@ use Rattle.field.specs.Ext as E
 use Rattle.gkr.specs.Transcripts.{Words, mark, Source}
 use Rattle.field.specs.declared.Ext.{Ext}
 use Rattle.field.specs.Element.{dec, words, Canon, Is}
+use Rattle.shake.specs.declared.Sponge.{Sponge}
+use Rattle.shake.specs.Drawn.{message, Holds}
+use Rattle.shake.proofs.SpongeLaws.{holds-grown}
 use Rattle.transcript.specs.declared.Pos.{Pos}
-use Rattle.transcript.specs.Log.{Drawing, logOf, Steps}
+use Rattle.transcript.specs.declared.Drawn.{Drawn}
+use Rattle.transcript.specs.Source.{label, source}
+use Rattle.transcript.specs.Log.{Drawing, Enough, logOf, Steps}
 
 abbrev pub four : List ℕ → ℕ → ℕ → ℕ → ℕ → ℕ → List ℕ
 four l put a b c d = set (set (set (set l put a) (put + 1) b) (put + 2) c) (put + 3) d
@@ -40,6 +46,10 @@ module _ (l : List ℕ) (put a b c d : ℕ) (h : put + 4 ≤ length l) where
   pub four-drop : drop (put + 4) (four l put a b c d) ≡ drop (put + 4) l
   four-drop = ap (drop (put + 4)) written ∙ drop-at (take put l ++ vs) (drop (put + 4) l) (put + 4) front
 
+  -- what a sponge has taken in of the log so far it has taken in of the longer one
+  pub four-grown : (s : Sponge) → Holds s (message label (take put l)) → Holds s (message label (take (put + 4) (four l put a b c d)))
+  four-grown s k = subst (λ (w : List ℕ). Holds s (message label w)) (sym four-take) (holds-grown label (take put l) vs k)
+
 pub words-of : (e : Ext) (x : E.Ext) → Is e x → words x ≡ e .c0 ∷ e .c1 ∷ e .c2 ∷ e .c3 ∷ []
 unfolding E.ext
 words-of e x h =
@@ -50,17 +60,23 @@ words-of e x h =
     word n l = val-of n ∙ mod-eq-of-lt l
 
 pub observed : (l : List ℕ) (pos : Pos) (e : Ext) → pos .put + 4 ≤ length l → Canon e
-    → Steps l (four l (pos .put) (e .c0) (e .c1) (e .c2) (e .c3)) pos (record { put = pos .put + 4; used = pos .used }) 4 0 (record { log = take (pos .put) l ++ words (dec e); used = pos .used })
+    → Steps l (four l (pos .put) (e .c0) (e .c1) (e .c2) (e .c3)) pos (record { put = pos .put + 4; used = pos .used; drawn = pos .drawn; sponge = pos .sponge }) 4 0
+    (record { log = take (pos .put) l ++ words (dec e); used = pos .used })
 observed l pos e h k = record {
   put = refl;
   used = omega arith;
+  drawn = refl;
   log = λ i. record { log = (four-take l (pos .put) (e .c0) (e .c1) (e .c2) (e .c3) h ∙ ap (λ w. take (pos .put) l ++ w) (sym (words-of e (dec e) (record { canon = k; value = refl })))) i; used = pos .used };
   rest = four-drop l (pos .put) (e .c0) (e .c1) (e .c2) (e .c3) h;
+  holds = four-grown l (pos .put) (e .c0) (e .c1) (e .c2) (e .c3) h (pos .sponge);
 }
 
-pub sampled : (l : List ℕ) (ch : Source E.Ext) (pos : Pos) (e : Ext) → pos .put + 4 ≤ length l → Is e (ch (logOf l pos))
-    → Steps l (four l (pos .put) (mark (e .c0)) (mark (e .c1)) (mark (e .c2)) (mark (e .c3))) pos (record { put = pos .put + 4; used = pos .used + 1 }) 4 1 (Drawing ch .drawn (logOf l pos))
-sampled l ch pos e h k =
+-- a challenge is written, and the sponge s has taken in blocks of the log with it
+pub sampled : (l : List ℕ) (ch : Source E.Ext) (pos : Pos) (e : Ext) (s : Sponge) → pos .put + 4 ≤ length l → Is e (ch (logOf l pos))
+    → (Holds (pos .sponge) (message label (take (pos .put) l)) → Holds s (message label (take (pos .put + 4) (four l (pos .put) (mark (e .c0)) (mark (e .c1)) (mark (e .c2)) (mark (e .c3))))))
+    → Steps l (four l (pos .put) (mark (e .c0)) (mark (e .c1)) (mark (e .c2)) (mark (e .c3))) pos (record { put = pos .put + 4; used = pos .used + 1; drawn = pos .drawn; sponge = s }) 4 1
+    (Drawing ch .drawn (logOf l pos))
+sampled l ch pos e s h k g =
     let a = mark (e .c0) in
     let b = mark (e .c1) in
     let c = mark (e .c2) in
@@ -68,9 +84,17 @@ sampled l ch pos e h k =
     record {
       put = refl;
       used = refl;
+      drawn = refl;
       log = λ i. record { log = (four-take l (pos .put) a b c d h ∙ ap (λ w. take (pos .put) l ++ map mark w) (sym (words-of e _ k))) i; used = add-one (pos .used) i };
       rest = four-drop l (pos .put) a b c d h;
+      holds = g;
     }
+
+-- what is sampled where it is drawn, or is not, is sampled by the source that is told so
+pub sampled-alike : (ch : List ℕ) {l l' : List ℕ} {p : Pos} {d : Drawn} {b b' : Bool} → b ≡ b' → Steps l l' p (d .pos) 4 1 (Drawing (source b ch) .drawn (logOf l p)) × Is (d .x) (source b ch (logOf l p))
+    → Steps l l' p (d .pos) 4 1 (Drawing (source b' ch) .drawn (logOf l p)) × Is (d .x) (source b' ch (logOf l p))
+sampled-alike ch {l} {l'} {p} {d} e h =
+    subst (λ (b : Bool). Steps l l' p (d .pos) 4 1 (Drawing (source b ch) .drawn (logOf l p)) × Is (d .x) (source b ch (logOf l p))) e h
 
 -- one after the other
 pub then : (l₀ l₁ l₂ : List ℕ) (p₀ p₁ p₂ : Pos) (n m n' m' : ℕ) (t t' : Words) → Steps l₀ l₁ p₀ p₁ n m t → Steps l₁ l₂ p₁ p₂ n' m' t' → Steps l₀ l₂ p₀ p₂ (n + n') (m + m') t'
@@ -79,14 +103,37 @@ then l₀ l₁ l₂ p₀ p₁ p₂ n m n' m' t t' s s' =
     record {
       put = omega (arith, s .put, s' .put);
       used = omega (arith, s .used, s' .used);
+      drawn = s' .drawn ∙ s .drawn;
       log = s' .log;
       rest =
           s' .rest ∙ ap (λ k. drop k l₁) e ∙ sym (drop-drop n' (p₁ .put) l₁) ∙ ap (drop n') (s .rest) ∙ drop-drop n' (p₁ .put) l₀ ∙ ap (λ k. drop k l₀) (sym e);
+      holds = λ h. s' .holds (s .holds h);
     }
 
 -- the same with the log told otherwise
 pub retold : (l l' : List ℕ) (p p' : Pos) (n m n' m' : ℕ) (t t' : Words) → n ≡ n' → m ≡ m' → t ≡ t' → Steps l l' p p' n m t → Steps l l' p p' n' m' t'
-retold l l' p p' n m n' m' t t' en em e s = record { put = omega (arith, s .put); used = omega (arith, s .used); log = s .log ∙ e; rest = s .rest }
+retold l l' p p' n m n' m' t t' en em e s = record {
+  put = omega (arith, s .put);
+  used = omega (arith, s .used);
+  drawn = s .drawn;
+  log = s .log ∙ e;
+  rest = s .rest;
+  holds = s .holds;
+}
 
 pub no-steps : (l : List ℕ) (p : Pos) → Steps l l p p 0 0 (logOf l p)
-no-steps l p = record { put = omega arith; used = omega arith; log = refl; rest = refl }
+no-steps l p = record { put = omega arith; used = omega arith; drawn = refl; log = refl; rest = refl; holds = λ h. h }
+
+-- ---- challenges that can still be had
+
+pub enough-fewer : {l ch : List ℕ} {p : Pos} (k : ℕ) {j : ℕ} → j ≤ k → Enough l ch p k → Enough l ch p j
+enough-fewer k h e = record { room = λ f. omega (arith, e .room f); clean = e .clean; counted = e .counted; holds = e .holds }
+
+-- after steps that took m of them, each into the log
+pub enough-after : {l l' ch : List ℕ} {p p' : Pos} {n m : ℕ} {t : Words} (k : ℕ) {j : ℕ} → m ≤ n → m + j ≤ k → Steps l l' p p' n m t → Enough l ch p k → Enough l' ch p' j
+enough-after k i h s e = record {
+  room = λ f. omega (arith, e .room (sym (s .drawn) ∙ f), s .used);
+  clean = λ f. e .clean (sym (s .drawn) ∙ f);
+  counted = omega (arith, e .counted, s .put, s .used);
+  holds = s .holds (e .holds);
+}

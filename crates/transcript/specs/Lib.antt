@@ -1,3 +1,4 @@
 -- The transcript over lent buffers.
+pub mod Source
 pub mod Log
 pub mod LogLaws

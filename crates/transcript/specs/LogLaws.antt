@@ -1,4 +1,4 @@
--- No second log fits: one start and the same events lead to one position and one buffer.
+-- No second log fits: one start and the same events lead to one buffer and one position, but for its sponge, of which any that follows the log will do.
 -- Assumes nothing.
 use mathlib.Core.Path.{_≡_, sym, _∙_, ap, ap₂}
 use mathlib.Core.List.{List, _++_}
@@ -7,24 +7,30 @@ use lib.ListN.{drop, take-append-drop}
 use Rattle.field.specs.Ext as E
 use Rattle.field.specs.Element.{Is}
 use Rattle.field.specs.ElementLaws.{is-unique}
+use Rattle.field.specs.declared.Ext.{Ext}
 use Rattle.gkr.specs.Transcripts.{Words}
 use Rattle.transcript.specs.declared.Pos.{Pos}
 use Rattle.transcript.specs.declared.Drawn.{Drawn}
 use Rattle.transcript.specs.Log.{logOf, Steps}
 
+-- the same position, but for the sponge
+pub record SamePos (p p' : Pos) : Type 0 where
+  pub put : p .put ≡ p' .put
+  pub used : p .used ≡ p' .used
+  pub drawn : p .drawn ≡ p' .drawn
+
 -- a buffer is its log, and past it what it held
-pub log-unique : (ws : List ℕ) {m m' : List ℕ} {p p' : Pos} → p .put ≡ p' .put → logOf m p ≡ logOf m' p' → drop (p .put) m ≡ drop (p .put) ws → drop (p' .put) m' ≡ drop (p' .put) ws → (p ≡ p') × (m ≡ m')
-log-unique ws {m} {m'} {p} {p'} e t d d' = (
-  (λ i. record { put = e i; used = t i .used }),
+pub log-unique : (ws : List ℕ) {m m' : List ℕ} {p p' : Pos} → p .put ≡ p' .put → p .drawn ≡ p' .drawn → logOf m p ≡ logOf m' p' → drop (p .put) m ≡ drop (p .put) ws → drop (p' .put) m' ≡ drop (p' .put) ws
+    → SamePos p p' × (m ≡ m')
+log-unique ws {m} {m'} {p} {p'} e b t d d' = (
+  record { put = e; used = ap (λ (u : Words). u .used) t; drawn = b },
   sym (take-append-drop (p .put) m) ∙ ap₂ _++_ (ap (λ (u : Words). u .log) t) (d ∙ ap (λ (a : ℕ). drop a ws) e ∙ sym d') ∙ take-append-drop (p' .put) m',
 )
 
-pub steps-unique : {ws m m' : List ℕ} {pos p p' : Pos} {n k : ℕ} {t : Words} → Steps ws m pos p n k t → Steps ws m' pos p' n k t → (p ≡ p') × (m ≡ m')
-steps-unique {ws} h h' = log-unique ws (h .put ∙ sym (h' .put)) (h .log ∙ sym (h' .log)) (h .rest) (h' .rest)
+pub steps-unique : {ws m m' : List ℕ} {pos p p' : Pos} {n k : ℕ} {t : Words} → Steps ws m pos p n k t → Steps ws m' pos p' n k t → SamePos p p' × (m ≡ m')
+steps-unique {ws} h h' = log-unique ws (h .put ∙ sym (h' .put)) (h .drawn ∙ sym (h' .drawn)) (h .log ∙ sym (h' .log)) (h .rest) (h' .rest)
 
--- with the challenge that was drawn
+-- with the challenge that was sampled
 pub drawn-unique : {ws m m' : List ℕ} {pos : Pos} {r r' : Drawn} {n k : ℕ} {t : Words} {x : E.Ext}
-    → Steps ws m pos (r .pos) n k t × Is (r .x) x → Steps ws m' pos (r' .pos) n k t × Is (r' .x) x → (r ≡ r') × (m ≡ m')
-drawn-unique h h' =
-    let s = steps-unique (h .0) (h' .0) in
-    ((λ i. record { pos = s .0 i; x = is-unique (h .1) (h' .1) i }), s .1)
+    → Steps ws m pos (r .pos) n k t × Is (r .x) x → Steps ws m' pos (r' .pos) n k t × Is (r' .x) x → SamePos (r .pos) (r' .pos) × (r .x ≡ r' .x) × (m ≡ m')
+drawn-unique h h' = let s = steps-unique (h .0) (h' .0) in (s .0, is-unique (h .1) (h' .1), s .1)

@@ -1,21 +1,46 @@
-// The transcript over lent buffers: elements are observed into a log, and challenges are taken from those supplied.
+// The transcript over lent buffers: elements are observed into a log, and challenges are drawn from it or taken from those supplied.
 ghost use mathlib.Core.Path.{_≡_};
-ghost use Prim.Native.Nat.{_+_, _≤_};
-ghost use lib.ListN.{length};
+ghost use mathlib.Core.List.{List};
+ghost use Prim.Native.Nat.{ℕ, _+_, _*_, _<_, _≤_};
+ghost use lib.ListN.{length, take};
+ghost use Rattle.field.specs.Cells.{Clean};
 ghost use Rattle.field.specs.Element.{dec, Canon, Is};
-ghost use Rattle.transcript.specs.Log.{Drawing, supplied, Enough, Observing, logOf, Steps};
+ghost use Rattle.shake.specs.Drawn.{message, Holds};
+ghost use Rattle.transcript.specs.Source.{supplied, label, drawnSource, source};
+ghost use Rattle.transcript.specs.Log.{Drawing, Enough, Observing, logOf, Steps, WordDrawn};
 use field::Ext;
+use shake::Sponge;
 
-// How many words of the log are written, and how many challenges are used.
+// How many words of the log are written, how many challenges are used, whether they are drawn, and the whole blocks of label and log that were taken in.
 pub struct Pos {
     pub put: usize,
     pub used: usize,
+    pub drawn: bool,
+    pub sponge: Sponge,
 }
 
 // A challenge, and where the run stands after it.
 pub struct Drawn {
     pub pos: Pos,
     pub x: Ext,
+}
+
+// A drawn word, and the sponge that has all whole blocks before it.
+pub struct DrawnWord {
+    pub sponge: Sponge,
+    pub word: u32,
+}
+
+// Nothing is written or used yet, and nothing taken in, of whatever log.
+pub fn start(drawn: bool) -> Pos
+    ensures { λ r. ⌜ (r .put ≡ 0) × (r .used ≡ 0) × (r .drawn ≡ drawn) × ((m : List ℕ) → Holds (r .sponge) m) ⌝ }
+{
+    Pos {
+        put: 0,
+        used: 0,
+        drawn,
+        sponge: shake::start(),
+    }
 }
 
 // An element goes into the log.
@@ -29,15 +54,14 @@ pub fn observe_ext(log: &mut [u32], pos: Pos, e: Ext) -> Pos
     log[put + 1] = e.c1;
     log[put + 2] = e.c2;
     log[put + 3] = e.c3;
-    Pos {
-        put: put + 4,
-        used: pos.used,
-    }
+    let mut next = pos;
+    next.put = put + 4;
+    next
 }
 
-// The next challenge goes into the log, with the top bits of its words set.
-pub fn sample_ext(log: &mut [u32], challenges: &[u32], pos: Pos) -> Drawn
-    requires room { ⌜ (pos .put + 4 ≤ length (now log)) × Enough (now challenges) pos 1 ⌝ }
+// The next challenge that was supplied goes into the log, with the top bits of its words set.
+fn take_ext(log: &mut [u32], challenges: &[u32], pos: Pos) -> Drawn
+    requires room { ⌜ (pos .put + 4 ≤ length (now log)) × (4 * (pos .used + 1) ≤ length (now challenges)) × Clean (now challenges) ⌝ }
     ensures steps { λ r. ⌜ Steps (now (log .entry)) (now (log .exit)) pos (r .pos) 4 1 (Drawing (supplied (now (challenges .entry))) .drawn (logOf (now (log .entry)) pos)) ⌝ }
     ensures value { λ r. ⌜ Is (r .x) (supplied (now (challenges .entry)) (logOf (now (log .entry)) pos)) ⌝ }
 {
@@ -48,11 +72,59 @@ pub fn sample_ext(log: &mut [u32], challenges: &[u32], pos: Pos) -> Drawn
     log[put + 1] = 2147483648 + x.c1;
     log[put + 2] = 2147483648 + x.c2;
     log[put + 3] = 2147483648 + x.c3;
+    let mut next = pos;
+    next.put = put + 4;
+    next.used = used + 1;
+    Drawn { pos: next, x }
+}
+
+// A word is drawn over the label and the log, of which s has taken in some blocks, and goes into it with its top bit set.
+fn draw_word(log: &mut [u32], put: usize, s: Sponge) -> DrawnWord
+    requires { ⌜ (put < length (now log)) × Holds s (message label (take put (now log))) ⌝ }
+    ensures { λ r. ⌜ WordDrawn (now (log .entry)) (now (log .exit)) put r ⌝ }
+{
+    let t = shake::absorb(s, b"frac-gkr/1", &log[..put]);
+    let v = shake::draw(t, b"frac-gkr/1", &log[..put]);
+    log[put] = 2147483648 + v;
+    DrawnWord { sponge: t, word: v }
+}
+
+// The next challenge is drawn, word by word.
+fn draw_ext(log: &mut [u32], pos: Pos) -> Drawn
+    requires room { ⌜ (pos .put + 4 ≤ length (now log)) × (pos .used ≤ pos .put) × Holds (pos .sponge) (message label (logOf (now log) pos .log)) ⌝ }
+    ensures steps { λ r. ⌜ Steps (now (log .entry)) (now (log .exit)) pos (r .pos) 4 1 (Drawing drawnSource .drawn (logOf (now (log .entry)) pos)) ⌝ }
+    ensures value { λ r. ⌜ Is (r .x) (drawnSource (logOf (now (log .entry)) pos)) ⌝ }
+{
+    let put = pos.put;
+    let a = draw_word(log, put, pos.sponge);
+    let b = draw_word(log, put + 1, a.sponge);
+    let c = draw_word(log, put + 2, b.sponge);
+    let d = draw_word(log, put + 3, c.sponge);
+    let sponge = d.sponge;
     Drawn {
         pos: Pos {
             put: put + 4,
-            used: used + 1,
+            used: pos.used + 1,
+            drawn: pos.drawn,
+            sponge,
         },
-        x,
+        x: Ext {
+            c0: a.word,
+            c1: b.word,
+            c2: c.word,
+            c3: d.word,
+        },
     }
+}
+
+// The next challenge, drawn or supplied.
+pub fn sample_ext(log: &mut [u32], challenges: &[u32], pos: Pos) -> Drawn
+    requires room { ⌜ (pos .put + 4 ≤ length (now log)) × Enough (now log) (now challenges) pos 1 ⌝ }
+    ensures steps { λ r. ⌜ Steps (now (log .entry)) (now (log .exit)) pos (r .pos) 4 1 (Drawing (source (pos .drawn) (now (challenges .entry))) .drawn (logOf (now (log .entry)) pos)) ⌝ }
+    ensures value { λ r. ⌜ Is (r .x) (source (pos .drawn) (now (challenges .entry)) (logOf (now (log .entry)) pos)) ⌝ }
+{
+    if pos.drawn {
+        return draw_ext(log, pos);
+    }
+    take_ext(log, challenges, pos)
 }

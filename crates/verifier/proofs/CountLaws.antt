@@ -7,7 +7,7 @@ use Prim.Native.Nat.{ℕ, suc, _+_, _*_, _-_, _≤_}
 use native.Mathlib.Omega.{arith}
 use borrow.Author.Tests.{eq-eqb, ne-eqb}
 use lib.Dec.{eqb}
-use lib.ListN.{length, drop}
+use lib.ListN.{length, take, drop}
 use Rattle.field.specs.Ext as E
 use Rattle.field.specs.Extension.{Extension}
 use Rattle.field.specs.Element.{dec, Canon}
@@ -18,7 +18,8 @@ use Rattle.gkr.specs.Count.{run-cost, words, draws}
 use Rattle.gkr.specs.Sizes.{challenges}
 use Rattle.gkr.specs.Gkr as Gkr
 use Rattle.gkr.specs.Gkr.{layer-count, poly-count}
-use Rattle.transcript.specs.Log.{Drawing}
+use Rattle.transcript.specs.declared.Pos.{Pos}
+use Rattle.transcript.specs.Log.{Drawing, logOf}
 use Rattle.refusal.specs.declared.Refusal.{Refusal}
 use Rattle.refusal.specs.declared.Refusal.the-variants.{IncorrectLayerCount, IncorrectSumcheckPolyCount}
 use Rattle.sizes.specs.Sizes.{logRoom}
@@ -36,10 +37,10 @@ use Rattle.verifier_round.specs.declared.Verdict.the-variants.{Refused}
 use Rattle.verifier_round.specs.Values.{decClaims, decCubic, CanonClaims}
 use Rattle.verifier_round.specs.Verdicts.{Model, answerOf, pointOf, loggedBy}
 use Rattle.verifier_round.specs.Rounds.{Stops}
-use Rattle.verifier_rounds.specs.Runs.{Readable, Space, Ends, RootEnd}
+use Rattle.verifier_rounds.specs.Runs.{Readable, RootSpace, Ends, RootEnd}
 use Rattle.verifier_rounds.proofs.Messages.{claim-first, claims-rest}
 use Rattle.verifier_rounds.proofs.RoundLaws.{map-length}
-use Rattle.verifier.specs.Gates.{Ready, start, verdict, Counted}
+use Rattle.verifier.specs.Gates.{Ready, Starts, verdict, Counted}
 
 -- ---- the model's counts
 verify-counted : (ch : Source E.Ext) (n m : ℕ) (π : Proof E.Ext) (t : Words) → n ≡ suc m → Gkr.verify-gkr Extension (Drawing ch) n π t ≡ Gkr.counted Extension (Drawing ch) m (π .q0) (π .claims) (π .polys) t
@@ -68,19 +69,19 @@ unfolding Gkr.counted
 both-right ch m q0 c cs mss t a e = rw (eq-eqb (length cs) m a, eq-eqb (length mss) m e)
 
 -- a refusal that leaves all as it was
-stops-first : (lg : List ℕ) (ch : Source E.Ext) (v w : Model ch) (e : Refusal) → v ≡ w → answerOf ch w ≡ Refused e → pointOf ch w ≡ [] → loggedBy ch w ≡ [] → Stops lg lg ch start v e
-stops-first lg ch v w e q a b c =
+stops-first : (lg : List ℕ) (ch : Source E.Ext) (pos : Pos) (v w : Model ch) (e : Refusal) → Starts pos → v ≡ w → answerOf ch w ≡ Refused e → pointOf ch w ≡ [] → loggedBy ch w ≡ [] → Stops lg lg ch pos v e
+stops-first lg ch pos v w e st q a b c =
     record {
       answer = ap (answerOf ch) q ∙ a;
       point = ap (pointOf ch) q ∙ b;
       end = 0;
-      more = omega arith;
+      more = omega (arith, st .put);
       room = omega arith;
       log = sym c ∙ ap (loggedBy ch) (sym q);
       rest = refl;
     }
 
-module _ (bs lg : List ℕ) (ch : Source E.Ext) (n : ℕ) (o : Outline) (some : 1 ≤ n) (s : Shaped bs o) where
+module _ (bs lg : List ℕ) (ch : Source E.Ext) (n : ℕ) (o : Outline) (some : 1 ≤ n) (s : Shaped bs o) (pos : Pos) (st : Starts pos) where
   abbrev m : ℕ
   m = n - 1
 
@@ -93,9 +94,9 @@ module _ (bs lg : List ℕ) (ch : Source E.Ext) (n : ℕ) (o : Outline) (some : 
   polys-long : length (map (map decCubic) (entriesFrom (entryCount bs) (drop (polysAt bs) bs))) ≡ o .entries
   polys-long = map-length (map decCubic) (entriesFrom (entryCount bs) (drop (polysAt bs) bs)) ∙ entries-count (entryCount bs) (drop (polysAt bs) bs) ∙ sym (s .entries)
 
-  pub layers-stop : (pt' : List ℕ) → (o .layers ≡ n → ⊥) → Counted bs pt' lg lg ch n (Stopped (IncorrectLayerCount n (o .layers)))
+  pub layers-stop : (pt' : List ℕ) → (o .layers ≡ n → ⊥) → Counted bs pt' lg lg ch n pos (Stopped (IncorrectLayerCount n (o .layers)))
   layers-stop pt' h =
-      stops-first lg ch _ (layer-count n (o .layers)) _
+      stops-first lg ch pos _ (layer-count n (o .layers)) _ st
       (verify-counted ch n m (decoded (proofOf bs)) empty n-is ∙ layers-differ ch m (o .layers) _ _ _ empty claims-long (λ q. h (q ∙ sym n-is)) ∙ ap (λ k. layer-count k (o .layers)) (sym n-is)) refl refl refl
 
   module _ (a : o .layers ≡ n) where
@@ -109,21 +110,26 @@ module _ (bs lg : List ℕ) (ch : Source E.Ext) (n : ℕ) (o : Outline) (some : 
         (map (map decCubic) (entriesFrom (entryCount bs) (drop (polysAt bs) bs))) empty
     counted-is = verify-counted ch n m (decoded (proofOf bs)) empty n-is ∙ ap (λ cs. Gkr.counted Extension (Drawing ch) m (dec (elem (drop 5 bs))) cs (map (map decCubic) (entriesFrom (entryCount bs) (drop (polysAt bs) bs))) empty) first-claims
 
-    pub polys-stop : (pt' : List ℕ) (x : ℕ) → x ≡ m → (o .entries ≡ x → ⊥) → Counted bs pt' lg lg ch n (Stopped (IncorrectSumcheckPolyCount x (o .entries)))
+    pub polys-stop : (pt' : List ℕ) (x : ℕ) → x ≡ m → (o .entries ≡ x → ⊥) → Counted bs pt' lg lg ch n pos (Stopped (IncorrectSumcheckPolyCount x (o .entries)))
     polys-stop pt' x e h =
-        stops-first lg ch _ (poly-count x (o .entries)) _
+        stops-first lg ch pos _ (poly-count x (o .entries)) _ st
         (counted-is ∙ polys-differ ch m (o .entries) _ _ _ _ empty others-long polys-long (λ q. h (q ∙ sym e)) ∙ ap (λ k. poly-count k (o .entries)) (sym e)) refl refl refl
 
     module _ (b : o .entries ≡ m) where
-      root-is : verdict bs n ch ≡ Gkr.root Extension (Drawing ch) (dec (elem (drop 5 bs))) (decClaims (claimsOf (drop 22 bs))) (map decClaims (claimsFrom m (drop 86 bs)))
-          (map (map decCubic) (entriesFrom m (drop (o .polys) bs))) empty
+      abbrev rooted : Words → Model ch
+      rooted = Gkr.root Extension (Drawing ch) (dec (elem (drop 5 bs))) (decClaims (claimsOf (drop 22 bs))) (map decClaims (claimsFrom m (drop 86 bs))) (map (map decCubic) (entriesFrom m (drop (o .polys) bs)))
+
+      root-is : verdict bs n ch ≡ rooted empty
       root-is =
           counted-is ∙ both-right ch m _ _ _ _ empty others-long (polys-long ∙ b)
           ∙ ap₂ (λ k p. Gkr.root Extension (Drawing ch) (dec (elem (drop 5 bs))) (decClaims (claimsOf (drop 22 bs))) (map decClaims (claimsFrom m (drop 86 bs))) (map (map decCubic) (entriesFrom k (drop p bs))) empty)
           (sym (s .entries) ∙ b) (sym (s .polys))
 
-      pub root-counted : (pt' lg' : List ℕ) (r : Advance) → RootEnd bs pt' lg lg' ch (o .polys) n start r → Counted bs pt' lg lg' ch n r
-      root-counted pt' lg' r h = subst (λ v. Ends lg lg' pt' ch start n v r) (sym root-is) h
+      log-empty : logOf lg pos ≡ empty
+      log-empty = λ i. record { log = take (st .put i) lg; used = st .used i }
+
+      pub root-counted : (pt' lg' : List ℕ) (r : Advance) → RootEnd bs pt' lg lg' ch (o .polys) n pos r → Counted bs pt' lg lg' ch n pos r
+      root-counted pt' lg' r h = subst (λ v. Ends lg lg' pt' ch pos n v r) (ap rooted log-empty ∙ sym root-is) h
 
 -- ---- what the run asks
 module _ (bs pt lg ch : List ℕ) (n : ℕ) (o : Outline) (r : Ready bs pt lg ch n o) where
@@ -133,14 +139,17 @@ module _ (bs pt lg ch : List ℕ) (n : ℕ) (o : Outline) (r : Ready bs pt lg ch
   k-is : n ≡ suc k
   k-is = omega (arith, r .some)
 
-  pub ready-space : Space lg ch (record { put = 24; used = 1 }) k 1
+  pub ready-space : (pos : Pos) → Starts pos → RootSpace lg ch pos k
   unfolding run-cost
-  ready-space =
+  ready-space pos st =
       let w = words k in
       let d = draws k in
       let e : logRoom true n ≡ logRoom true (suc k) = ap (logRoom true) k-is in
       let f : challenges n ≡ challenges (suc k) = ap challenges k-is in
-      record { put = omega (arith, w, e, r .log-room); enough = record { room = omega (arith, d, f, r .chals); clean = r .clean } }
+      record {
+        put = omega (arith, w, e, r .log-room, st .put);
+        enough = record { room = λ _. omega (arith, d, f, r .chals, st .used); clean = λ _. r .clean; counted = omega (arith, st .put, st .used); holds = st .holds _ };
+      }
 
   q0-part : allCanonical (extWords (elem (drop 5 bs))) ≡ true
   q0-part = canonical-left (extWords (elem (drop 5 bs))) (claimsWords (proofOf bs .claims) ++ polysWords (proofOf bs .polys)) (r .canon)

@@ -1,6 +1,7 @@
 -- The end: what the run left is the definition's outcome, and no second one fits.
 -- Assumes nothing.
 use mathlib.Core.Path.{_≡_, refl, sym, _∙_, ap, ap₂, subst}
+use mathlib.Core.Bool.{Bool, false}
 use mathlib.Core.List.{List, _++_}
 use Prim.Native.Nat.{ℕ, _*_, _≤_}
 use native.Mathlib.Omega.{arith}
@@ -14,7 +15,9 @@ use Rattle.field.specs.PointLaws.{point-is}
 use Rattle.gkr.specs.Gkr.{accepted}
 use Rattle.gkr.specs.Sizes.{challenges}
 use Rattle.gkr.specs.Transcripts.{Source}
-use Rattle.transcript.specs.Log.{supplied, logOf}
+use Rattle.transcript.specs.declared.Pos.{Pos}
+use Rattle.transcript.specs.Source.{source}
+use Rattle.transcript.specs.Log.{logOf}
 use Rattle.refusal.specs.Limits.{maxRounds}
 use Rattle.refusal.specs.declared.Refusal.{Refusal}
 use Rattle.refusal.specs.Tests.{refused, firstOf}
@@ -32,7 +35,7 @@ use Rattle.verifier_rounds.specs.Runs.{Ends}
 use Rattle.verifier.specs.Verified.{Asked, Lent, Outcome, outcome, lent, tests, ended, fronts, laid, verified}
 use Rattle.verifier.specs.declared.Gate.{Gate}
 use Rattle.verifier.specs.declared.Gate.the-variants.{Open, Shut}
-use Rattle.verifier.specs.Gates.{Opened, Gated, Ready, start, verdict, pointLeft, answered}
+use Rattle.verifier.specs.Gates.{Opened, Gated, Ready, verdict, pointLeft, answered}
 use Rattle.verifier.proofs.GateLaws.{passes}
 
 -- what is written up to a place, and as before past it
@@ -41,9 +44,9 @@ front l l' n ws h e d =
     let len : n ≡ length ws = sym (length-take-le n l' h) ∙ ap length e in
     sym (take-append-drop n l') ∙ ap₂ _++_ e (d ∙ ap (λ k. drop k l) len)
 
-module _ (p lg lg' : List ℕ) (ch : Source E.Ext) (v : Model ch) (l : length lg' ≡ length lg) where
+module _ (p lg lg' : List ℕ) (ch : Source E.Ext) (pos : Pos) (v : Model ch) (l : length lg' ≡ length lg) where
   -- what a run's end leaves and answers is the definition's
-  pub ended-is : (n : ℕ) (pt' p' : List ℕ) (r : Advance) (x : Verdict) → Ends lg lg' pt' ch start n v r → 4 * n ≤ length pt' → p' ≡ pointLeft r (4 * n) pt' p → x ≡ answered r
+  pub ended-is : (n : ℕ) (pt' p' : List ℕ) (r : Advance) (x : Verdict) → Ends lg lg' pt' ch pos n v r → 4 * n ≤ length pt' → p' ≡ pointLeft r (4 * n) pt' p → x ≡ answered r
       → outcome x p' lg' ≡ laid (ended ch v) (lent p lg)
   ended-is n pt' p' (Stopped e) x s h q y =
       let a : x ≡ answerOf ch v = y ∙ sym (s .answer) in
@@ -92,11 +95,13 @@ module _ (a : Asked) (b : Lent) where
       ap (λ t. laid (fronts a t) b) (sym w)
 
   -- over the needed challenges
-  pub run-is : (k : ℕ) (o : Outline) (x : Outcome) → Opened a (length (b .point)) (length (b .log)) o → k ≡ 4 * challenges (a .rounds)
-      → x ≡ laid (ended (supplied (take k (a .challenges))) (verdict (a .proof) (a .rounds) (supplied (take k (a .challenges))))) b → x ≡ verified a b
+  abbrev over-source : (drawn : Bool) (k : ℕ) → Outcome
+  over-source drawn k = let ch = source drawn (take k (a .challenges)) in laid (ended ch (verdict (a .proof) (a .rounds) ch)) b
+
+  pub run-is : (k : ℕ) (o : Outline) (x : Outcome) (drawn : Bool) → drawn ≡ false → Opened a (length (b .point)) (length (b .log)) o → k ≡ 4 * challenges (a .rounds)
+      → x ≡ over-source drawn k → x ≡ verified a b
   unfolding verified
-  run-is k o x g e h =
-      h ∙ ap (λ m. laid (ended (supplied (take m (a .challenges))) (verdict (a .proof) (a .rounds) (supplied (take m (a .challenges))))) b) e ∙ ap (λ t. laid (fronts a t) b) (sym (g .passes))
+  run-is k o x drawn q g e h = h ∙ ap₂ over-source q e ∙ ap (λ t. laid (fronts a t) b) (sym (g .passes))
 
   -- no second outcome fits
   pub only-one : (x y : Outcome) → x ≡ verified a b → y ≡ verified a b → x ≡ y

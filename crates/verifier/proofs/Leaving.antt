@@ -7,7 +7,7 @@ use lib.ListN.{length}
 use Rattle.field.specs.Ext as E
 use Rattle.gkr.specs.Transcripts.{Source}
 use Rattle.gkr.specs.Gkr.{accepted, zero-rounds, layer-count, poly-count, zero-check, root-check, subround-count, layer-check}
-use Rattle.transcript.specs.Log.{supplied}
+use Rattle.transcript.specs.Source.{supplied}
 use Rattle.refusal.specs.declared.Refusal.{Refusal}
 use Rattle.refusal.specs.Numbers.{reportOf}
 use Rattle.refusal.specs.Tests.{Tested, passed, refused, firstOf}

@@ -11,7 +11,7 @@ use Rattle.field.specs.Ext as E
 use Rattle.field.specs.ExtRing.{same-of}
 use Rattle.gkr.specs.Transcripts.{Source}
 use Rattle.gkr.specs.Gkr.{accepted, zero-rounds, layer-count, poly-count, zero-check, root-check, subround-count, layer-check}
-use Rattle.transcript.specs.Log.{supplied}
+use Rattle.transcript.specs.Source.{supplied}
 use Rattle.refusal.specs.declared.Refusal.{Refusal}
 use Rattle.refusal.specs.declared.Refusal.the-variants.{ZeroRoot}
 use Rattle.refusal.specs.Numbers.{reportOf}

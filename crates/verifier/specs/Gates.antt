@@ -11,6 +11,7 @@ use Rattle.field.specs.Cells.{Clean}
 use Rattle.gkr.specs.Transcripts.{Source, empty}
 use Rattle.gkr.specs.Sizes.{challenges}
 use Rattle.gkr.specs.Gkr as Gkr
+use Rattle.shake.specs.Drawn.{Holds}
 use Rattle.transcript.specs.declared.Pos.{Pos}
 use Rattle.transcript.specs.Log.{Drawing}
 use Rattle.refusal.specs.declared.Verifying.{Verifying}
@@ -64,16 +65,19 @@ pub record Ready (bs pt lg ch : List ℕ) (n : ℕ) (o : Outline) : Type 0 where
   pub points : Clean pt
   pub clean : Clean ch
 
-abbrev pub start : Pos
-start = record { put = 0; used = 0 }
+-- nothing is written or used yet, and the sponge has taken in nothing
+pub record Starts (pos : Pos) : Type 0 where
+  pub put : pos .put ≡ 0
+  pub used : pos .used ≡ 0
+  pub holds : (m : List ℕ) → Holds (pos .sponge) m
 
 -- the model's verifier over the proof that stands in the bytes
 abbrev pub verdict : (bs : List ℕ) (n : ℕ) (ch : Source E.Ext) → Model ch
 verdict bs n ch = Gkr.verify-gkr Extension (Drawing ch) n (decoded (proofOf bs)) empty
 
--- the run ends as the model's does
-abbrev pub Counted : (bs pt' lg lg' : List ℕ) (ch : Source E.Ext) (n : ℕ) → Advance → Type 0
-Counted bs pt' lg lg' ch n r = Ends lg lg' pt' ch start n (verdict bs n ch) r
+-- the run from a position ends as the model's does
+abbrev pub Counted : (bs pt' lg lg' : List ℕ) (ch : Source E.Ext) (n : ℕ) (pos : Pos) → Advance → Type 0
+Counted bs pt' lg lg' ch n pos r = Ends lg lg' pt' ch pos n (verdict bs n ch) r
 
 -- what a run's end leaves of the point found, n words of it or none
 abbrev pub pointLeft : Advance → (n : ℕ) (found point : List ℕ) → List ℕ

@@ -10,7 +10,8 @@ use Rattle.field.specs.Extension.{Extension}
 use Rattle.gkr.specs.Sizes.{challenges}
 use Rattle.gkr.specs.Gkr as Gkr
 use Rattle.gkr.specs.Transcripts.{empty, Source}
-use Rattle.transcript.specs.Log.{Drawing, supplied}
+use Rattle.transcript.specs.Source.{supplied}
+use Rattle.transcript.specs.Log.{Drawing}
 use Rattle.refusal.specs.Limits.{maxRounds}
 use Rattle.refusal.specs.declared.Verifying.{Verifying}
 use Rattle.refusal.specs.declared.Refusal.the-variants.{ShortChallenges, ShortRoom, BadWord, ZeroRounds, TooManyRounds, BadVersion, BadLength, ZeroRoot}

@@ -4,10 +4,10 @@ ghost use mathlib.Core.List.{_++_};
 ghost use Prim.Native.Nat.{_≤_};
 ghost use lib.ListN.{length, take, drop};
 ghost use Rattle.stored.specs.ParseLaws.{Shaped};
-ghost use Rattle.transcript.specs.Log.{supplied};
+ghost use Rattle.transcript.specs.Source.{source};
 ghost use Rattle.verifier_round.specs.declared.Verdict.the-variants.{Accepted};
 ghost use Rattle.verifier.specs.Verified.{asked, lent, outcome, verified};
-ghost use Rattle.verifier.specs.Gates.{wordsGate, rootGate, sandbox, Gated, Opened, Ready, Counted, pointLeft, answered};
+ghost use Rattle.verifier.specs.Gates.{wordsGate, rootGate, sandbox, Gated, Opened, Ready, Starts, Counted, pointLeft, answered};
 use refusal::Refusal;
 use refusal::Verifying;
 use stored::Outline;
@@ -100,7 +100,7 @@ fn admit(
     }
 }
 
-// The counts of layers and of polynomial entries, then all rounds.
+// The counts of layers and of polynomial entries, then all rounds, from a start of the log.
 fn verify_counted(
     proof: &[u8],
     rounds: usize,
@@ -108,9 +108,10 @@ fn verify_counted(
     xi: &mut [u32],
     log: &mut [u32],
     challenges: &[u32],
+    pos: Pos,
 ) -> Advance
-    requires { ⌜ Ready (now proof) (now xi) (now log) (now challenges) rounds outline ⌝ }
-    ensures { λ r. ⌜ Counted (now (proof .entry)) (now (xi .exit)) (now (log .entry)) (now (log .exit)) (supplied (now (challenges .entry))) rounds r ⌝ }
+    requires { ⌜ Ready (now proof) (now xi) (now log) (now challenges) rounds outline × Starts pos ⌝ }
+    ensures { λ r. ⌜ Counted (now (proof .entry)) (now (xi .exit)) (now (log .entry)) (now (log .exit)) (source (pos .drawn) (now (challenges .entry))) rounds pos r ⌝ }
 {
     let layers = outline.layers;
     let entries = outline.entries;
@@ -127,7 +128,6 @@ fn verify_counted(
             actual: entries,
         });
     }
-    let pos = Pos { put: 0, used: 0 };
     verifier_rounds::verify_all(proof, outline.polys, rounds, xi, log, challenges, pos)
 }
 
@@ -184,9 +184,18 @@ fn run(
     ensures { λ r. ⌜ outcome r (now (point .exit)) (now (log .exit))
         ≡ verified (asked (now (proof .entry)) rounds sandbox (now (challenges .entry))) (lent (now (point .entry)) (now (log .entry))) ⌝ }
 {
+    let pos = transcript::start(false);
     let needs = sizes::challenge_words(rounds);
     let mut xi = [0u32; 4 * refusal::MAX_ROUNDS];
-    let end = verify_counted(proof, rounds, outline, &mut xi, log, &challenges[..needs]);
+    let end = verify_counted(
+        proof,
+        rounds,
+        outline,
+        &mut xi,
+        log,
+        &challenges[..needs],
+        pos,
+    );
     leave_point(end, &xi, point, 4 * rounds);
     answer(end)
 }

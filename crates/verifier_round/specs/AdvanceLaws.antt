@@ -1,4 +1,4 @@
--- No second answer and no second log fit the end of a layer. Of the point only the coordinates so far are said: it is an array of the caller's own. A lent slice keeps its length.
+-- No second answer and no second log fit the end of a layer, but for the sponge of the position. Of the point only the coordinates so far are said: it is an array of the caller's own. A lent slice keeps its length.
 -- Assumes nothing.
 use mathlib.Core.Path.{_≡_, refl, sym, _∙_, ap, ap₂}
 use mathlib.Core.List.{List, [], _++_}
@@ -27,6 +27,14 @@ use Rattle.verifier_round.specs.declared.Verdict.the-variants.{Accepted,
 use Rattle.verifier_round.specs.Values.{columns}
 use Rattle.verifier_round.specs.Verdicts.{Model, answerOf, loggedBy}
 use Rattle.verifier_round.specs.Rounds.{Goes, Stops, Advances}
+use Rattle.verifier_round.specs.RoundLaws.{SameLayer}
+
+-- the same, but for the sponge
+abbrev pub SameAdvance : Advance → Advance → Type 0
+SameAdvance (Next a) (Next b) = SameLayer a b
+SameAdvance (Next a) (Stopped y) = ⊥
+SameAdvance (Stopped x) (Next b) = ⊥
+SameAdvance (Stopped x) (Stopped y) = x ≡ y
 
 -- canonical words that stand for one element
 pub canon-unique : {r s : Ext} → Canon r → Canon s → dec r ≡ dec s → r ≡ s
@@ -54,15 +62,15 @@ module _ (lg : List ℕ) (ch : Source E.Ext) (pos : Pos) (k n m : ℕ) (v : List
   unfolding Gkr.rounds
   ends-in h = h .verdict [] []
 
-  goes-unique : {lg' lg″ pt' pt″ : List ℕ} {a b : Layer} → Goes lg lg' pt' ch pos k n m v a → Goes lg lg″ pt″ ch pos k n m v b → (a ≡ b) × (cells pt' 0 k ≡ cells pt″ 0 k) × (lg' ≡ lg″)
-  goes-unique {a = a} {b = b} h h' =
+  goes-unique : {lg' lg″ pt' pt″ : List ℕ} {a b : Layer} → Goes lg lg' pt' ch pos k n m v a → Goes lg lg″ pt″ ch pos k n m v b → SameLayer a b × (cells pt' 0 k ≡ cells pt″ 0 k) × (lg' ≡ lg″)
+  goes-unique h h' =
       let e = accepted-parts ch (sym (ends-in h) ∙ ends-in h') in
-      let l = log-unique lg (h .steps .put ∙ sym (h' .steps .put)) (e .2) (h .steps .rest) (h' .steps .rest) in (
-        (λ i. record {
-          pos = l .0 i;
-          numer = canon-unique (h .numer) (h' .numer) (ap (λ (f : Frac E.Ext). f .p) (e .0)) i;
-          denom = canon-unique (h .denom) (h' .denom) (ap (λ (f : Frac E.Ext). f .q) (e .0)) i;
-        }),
+      let l = log-unique lg (h .steps .put ∙ sym (h' .steps .put)) (h .steps .drawn ∙ sym (h' .steps .drawn)) (e .2) (h .steps .rest) (h' .steps .rest) in (
+        record {
+          pos = l .0;
+          numer = canon-unique (h .numer) (h' .numer) (ap (λ (f : Frac E.Ext). f .p) (e .0));
+          denom = canon-unique (h .denom) (h' .denom) (ap (λ (f : Frac E.Ext). f .q) (e .0));
+        },
         e .1,
         l .1,
       )
@@ -70,8 +78,8 @@ module _ (lg : List ℕ) (ch : Source E.Ext) (pos : Pos) (k n m : ℕ) (v : List
   one-way : {p l l' : List ℕ} {a : Layer} {e : Refusal} → Goes lg l p ch pos k n m v a → Stops lg l' ch pos (v [] []) e → ⊥
   one-way h s = accepted-or-refused (ap (answerOf ch) (sym (ends-in h)) ∙ s .answer)
 
-  pub advances-unique : (lg' lg″ pt' pt″ : List ℕ) (r s : Advance) → length lg' ≡ length lg → length lg″ ≡ length lg → Advances lg lg' pt' ch pos k n m v r → Advances lg lg″ pt″ ch pos k n m v s → (r ≡ s) × (lg' ≡ lg″)
-  advances-unique lg' lg″ pt' pt″ (Next a) (Next b) q q' h h' = let e = goes-unique h h' in (ap Next (e .0), e .2)
+  pub advances-unique : (lg' lg″ pt' pt″ : List ℕ) (r s : Advance) → length lg' ≡ length lg → length lg″ ≡ length lg → Advances lg lg' pt' ch pos k n m v r → Advances lg lg″ pt″ ch pos k n m v s → SameAdvance r s × (lg' ≡ lg″)
+  advances-unique lg' lg″ pt' pt″ (Next a) (Next b) q q' h h' = let e = goes-unique h h' in (e .0, e .2)
   advances-unique lg' lg″ pt' pt″ (Next a) (Stopped x) q q' h h' = absurd (one-way h (h' [] []))
   advances-unique lg' lg″ pt' pt″ (Stopped x) (Next b) q q' h h' = absurd (one-way h' (h [] []))
-  advances-unique lg' lg″ pt' pt″ (Stopped x) (Stopped y) q q' h h' = let e = stops-unique q q' (h [] []) (h' [] []) in (ap Stopped (e .0), e .1)
+  advances-unique lg' lg″ pt' pt″ (Stopped x) (Stopped y) q q' h h' = stops-unique q q' (h [] []) (h' [] [])

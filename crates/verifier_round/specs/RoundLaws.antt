@@ -1,4 +1,4 @@
--- No second answer fits a step of a round.
+-- No second answer fits a step of a round, but for the sponge of the position.
 -- Assumes nothing.
 use mathlib.Core.Path.{_≡_}
 use mathlib.Core.List.{List}
@@ -10,28 +10,38 @@ use Rattle.multilinear.specs.RoundSum.{Claims}
 use Rattle.gkr.specs.Run.{Cubic}
 use Rattle.gkr.specs.Transcripts.{Source}
 use Rattle.transcript.specs.declared.Pos.{Pos}
-use Rattle.transcript.specs.LogLaws.{steps-unique}
+use Rattle.transcript.specs.LogLaws.{SamePos, steps-unique}
 use Rattle.verifier_round.specs.declared.Layer.{Layer}
 use Rattle.verifier_round.specs.declared.Sums.{Sums}
 use Rattle.verifier_round.specs.declared.Opened.{Opened}
 use Rattle.verifier_round.specs.Rounds.{Opens, SubRound, Descended}
 
-pub opens-unique : {pt lg lg' lg″ : List ℕ} {ch : Source E.Ext} {l : Layer} {r s : Opened} → Opens pt lg lg' ch l r → Opens pt lg lg″ ch l s → (r ≡ s) × (lg' ≡ lg″)
+-- the same, but for the sponge
+pub record SameSums (r s : Sums) : Type 0 where
+  pub pos : SamePos (r .pos) (s .pos)
+  pub claim : r .claim ≡ s .claim
+  pub eq : r .eq ≡ s .eq
+  pub xi : r .xi ≡ s .xi
+
+pub record SameLayer (r s : Layer) : Type 0 where
+  pub pos : SamePos (r .pos) (s .pos)
+  pub numer : r .numer ≡ s .numer
+  pub denom : r .denom ≡ s .denom
+
+pub opens-unique : {pt lg lg' lg″ : List ℕ} {ch : Source E.Ext} {l : Layer} {r s : Opened} → Opens pt lg lg' ch l r → Opens pt lg lg″ ch l s → (r .lambda ≡ s .lambda) × SameSums (r .first) (s .first) × (lg' ≡ lg″)
 opens-unique h k =
     let e = steps-unique (h .steps) (k .steps) in (
-      (λ i. record {
-        lambda = is-unique (h .lambda) (k .lambda) i;
-        first = record { claim = is-unique (h .claim) (k .claim) i; eq = is-unique (h .eq) (k .eq) i; xi = is-unique (h .xi) (k .xi) i; pos = e .0 i };
-      }),
+      is-unique (h .lambda) (k .lambda),
+      record { pos = e .0; claim = is-unique (h .claim) (k .claim); eq = is-unique (h .eq) (k .eq); xi = is-unique (h .xi) (k .xi) },
       e .1,
     )
 
-pub sub-round-unique : {pt pt' pt″ lg lg' lg″ : List ℕ} {ch : Source E.Ext} {j : ℕ} {m : Cubic E.Ext} {l r s : Sums} → SubRound pt pt' lg lg' ch j m l r → SubRound pt pt″ lg lg″ ch j m l s → (r ≡ s) × (pt' ≡ pt″) × (lg' ≡ lg″)
+pub sub-round-unique : {pt pt' pt″ lg lg' lg″ : List ℕ} {ch : Source E.Ext} {j : ℕ} {m : Cubic E.Ext} {l r s : Sums} → SubRound pt pt' lg lg' ch j m l r → SubRound pt pt″ lg lg″ ch j m l s → SameSums r s × (pt' ≡ pt″) × (lg' ≡ lg″)
 sub-round-unique h k =
     let e = steps-unique (h .steps) (k .steps) in
-    ((λ i. record { claim = is-unique (h .claim) (k .claim) i; eq = is-unique (h .eq) (k .eq) i; xi = is-unique (h .xi) (k .xi) i; pos = e .0 i }), stored-unique (h .rho) (k .rho), e .1)
+    (record { pos = e .0; claim = is-unique (h .claim) (k .claim); eq = is-unique (h .eq) (k .eq); xi = is-unique (h .xi) (k .xi) }, stored-unique (h .rho) (k .rho), e .1)
 
-pub descended-unique : {pt pt' pt″ lg lg' lg″ : List ℕ} {ch : Source E.Ext} {c : Claims E.Ext} {pos : Pos} {r s : Layer} → Descended pt pt' lg lg' ch c pos r → Descended pt pt″ lg lg″ ch c pos s → (r ≡ s) × (pt' ≡ pt″) × (lg' ≡ lg″)
+pub descended-unique : {pt pt' pt″ lg lg' lg″ : List ℕ} {ch : Source E.Ext} {c : Claims E.Ext} {pos : Pos} {r s : Layer} → Descended pt pt' lg lg' ch c pos r → Descended pt pt″ lg lg″ ch c pos s → SameLayer r s × (pt' ≡ pt″) × (lg' ≡ lg″)
 descended-unique h k =
     let e = steps-unique (h .steps) (k .steps) in
-    ((λ i. record { numer = is-unique (h .numer) (k .numer) i; denom = is-unique (h .denom) (k .denom) i; pos = e .0 i }), stored-unique (h .mu) (k .mu), e .1)
+    (record { pos = e .0; numer = is-unique (h .numer) (k .numer); denom = is-unique (h .denom) (k .denom) }, stored-unique (h .mu) (k .mu), e .1)

@@ -13,7 +13,8 @@ ghost use Rattle.multilinear.specs.RoundSum as RoundSum;
 ghost use Rattle.gkr.specs.Tree as Tree;
 ghost use Rattle.gkr.specs.Sumcheck as Sumcheck;
 ghost use Rattle.gkr.specs.Gkr as Gkr;
-ghost use Rattle.transcript.specs.Log.{supplied, Enough, Observing, logOf, Steps};
+ghost use Rattle.transcript.specs.Source.{source};
+ghost use Rattle.transcript.specs.Log.{Enough, Observing, logOf, Steps};
 ghost use Rattle.stored.specs.Shapes.{claimsIn, cubicIn};
 ghost use Rattle.step.specs.Values.{IsFrac, minus};
 ghost use Rattle.verifier_round.specs.Values.{CanonClaims, CanonCubic, decClaims, decCubic, CanonSums};
@@ -127,9 +128,9 @@ pub fn next_claim(claim: Ext, m: SubroundEvals, rho: Ext) -> Ext
 
 // The start of a layer: lambda is sampled, and batches the two claims.
 pub fn open_layer(point: &[u32], log: &mut [u32], challenges: &[u32], s: Layer) -> Opened
-    requires room { ⌜ (4 ≤ length (now point)) × (s .pos .put + 4 ≤ length (now log)) × Enough (now challenges) (s .pos) 1 ⌝ }
+    requires room { ⌜ (4 ≤ length (now point)) × (s .pos .put + 4 ≤ length (now log)) × Enough (now log) (now challenges) (s .pos) 1 ⌝ }
     requires clean { ⌜ Clean (now point) × Canon (s .numer) × Canon (s .denom) ⌝ }
-    ensures { λ r. ⌜ Opens (now (point .entry)) (now (log .entry)) (now (log .exit)) (supplied (now (challenges .entry))) s r ⌝ }
+    ensures { λ r. ⌜ Opens (now (point .entry)) (now (log .entry)) (now (log .exit)) (source (s .pos .drawn) (now (challenges .entry))) s r ⌝ }
 {
     let xi = field::load(point, 0);
     let d = transcript::sample_ext(log, challenges, s.pos);
@@ -150,9 +151,9 @@ pub fn sub_round(
     challenges: &[u32],
     s: Sums,
 ) -> Sums
-    requires room { ⌜ (4 * j + 7 < length (now point)) × (s .pos .put + 16 ≤ length (now log)) × Enough (now challenges) (s .pos) 1 ⌝ }
+    requires room { ⌜ (4 * j + 7 < length (now point)) × (s .pos .put + 16 ≤ length (now log)) × Enough (now log) (now challenges) (s .pos) 1 ⌝ }
     requires clean { ⌜ Clean (now point) × CanonCubic (cubicIn m) × CanonSums s ⌝ }
-    ensures { λ r. ⌜ SubRound (now (point .entry)) (now (point .exit)) (now (log .entry)) (now (log .exit)) (supplied (now (challenges .entry))) j (decCubic (cubicIn m)) s r ⌝ }
+    ensures { λ r. ⌜ SubRound (now (point .entry)) (now (point .exit)) (now (log .entry)) (now (log .exit)) (source (s .pos .drawn) (now (challenges .entry))) j (decCubic (cubicIn m)) s r ⌝ }
 {
     let i = j + 1;
     let xi = field::load(point, i);
@@ -174,9 +175,9 @@ pub fn descend(
     challenges: &[u32],
     pos: Pos,
 ) -> Layer
-    requires room { ⌜ (4 ≤ length (now point)) × (pos .put + 4 ≤ length (now log)) × Enough (now challenges) pos 1 ⌝ }
+    requires room { ⌜ (4 ≤ length (now point)) × (pos .put + 4 ≤ length (now log)) × Enough (now log) (now challenges) pos 1 ⌝ }
     requires clean { ⌜ Clean (now point) × CanonClaims (claimsIn c) ⌝ }
-    ensures { λ r. ⌜ Descended (now (point .entry)) (now (point .exit)) (now (log .entry)) (now (log .exit)) (supplied (now (challenges .entry))) (decClaims (claimsIn c)) pos r ⌝ }
+    ensures { λ r. ⌜ Descended (now (point .entry)) (now (point .exit)) (now (log .entry)) (now (log .exit)) (source (pos .drawn) (now (challenges .entry))) (decClaims (claimsIn c)) pos r ⌝ }
 {
     let d = transcript::sample_ext(log, challenges, pos);
     let mu = d.x;
@@ -211,9 +212,10 @@ pub fn close_layer(
     challenges: &[u32],
     s: Sums,
 ) -> Advance
-    requires room { ⌜ (4 ≤ length (now point)) × (s .pos .put + 20 ≤ length (now log)) × Enough (now challenges) (s .pos) 1 ⌝ }
+    requires room { ⌜ (4 ≤ length (now point)) × (s .pos .put + 20 ≤ length (now log)) × Enough (now log) (now challenges) (s .pos) 1 ⌝ }
     requires clean { ⌜ Clean (now point) × CanonClaims (claimsIn c) × CanonSums s × Canon lambda ⌝ }
-    ensures { λ r. ⌜ Closed (now (point .entry)) (now (point .exit)) (now (log .entry)) (now (log .exit)) (supplied (now (challenges .entry))) (decClaims (claimsIn c)) round lambda s r ⌝ }
+    ensures { λ r. ⌜ Closed (now (point .entry)) (now (point .exit)) (now (log .entry)) (now (log .exit))
+        (source (s .pos .drawn) (now (challenges .entry))) (decClaims (claimsIn c)) round lambda s r ⌝ }
 {
     let p = observe_layer_claims(log, s.pos, c);
     let expected = expected_claim(c, lambda, s.eq);
@@ -237,9 +239,9 @@ pub fn verify_root(
     challenges: &[u32],
     pos: Pos,
 ) -> Advance
-    requires room { ⌜ (4 ≤ length (now point)) × (pos .put + 24 ≤ length (now log)) × Enough (now challenges) pos 1 ⌝ }
+    requires room { ⌜ (4 ≤ length (now point)) × (pos .put + 24 ≤ length (now log)) × Enough (now log) (now challenges) pos 1 ⌝ }
     requires clean { ⌜ Clean (now point) × CanonClaims (claimsIn c) × Canon q0 ⌝ }
-    ensures { λ r. ⌜ Rooted (now (point .exit)) (now (log .entry)) (now (log .exit)) (supplied (now (challenges .entry))) (dec q0) (decClaims (claimsIn c)) pos r ⌝ }
+    ensures { λ r. ⌜ Rooted (now (point .exit)) (now (log .entry)) (now (log .exit)) (source (pos .drawn) (now (challenges .entry))) (dec q0) (decClaims (claimsIn c)) pos r ⌝ }
 {
     let f = compute_recursive_relations(c);
     let numer = f.p;

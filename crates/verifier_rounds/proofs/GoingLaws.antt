@@ -13,7 +13,7 @@ use Rattle.field.specs.Element.{dec, Canon}
 use Rattle.field.specs.Cells.{Clean, cells}
 use Rattle.wire.specs.Words.{allCanonical}
 use Rattle.wire.specs.Bytes.{elem}
-use Rattle.gkr.specs.Transcripts.{Source}
+use Rattle.gkr.specs.Transcripts.{Words, Source}
 use Rattle.stored.specs.declared.LayerClaims.{LayerClaims}
 use Rattle.stored.specs.Shapes.{claimsIn}
 use Rattle.stored.specs.Layout.{cubicsWords}
@@ -23,14 +23,15 @@ use Rattle.gkr.specs.Count.{layers-cost}
 use Rattle.gkr.specs.Gkr as Gkr
 use Rattle.gkr.specs.Gkr.{accepted}
 use Rattle.transcript.specs.declared.Pos.{Pos}
-use Rattle.transcript.specs.Log.{Drawing, Enough, logOf}
+use Rattle.transcript.specs.Log.{Drawing, Enough, logOf, Steps}
+use Rattle.transcript.proofs.Logs.{enough-fewer, enough-after}
 use Rattle.refusal.specs.declared.Refusal.{Refusal}
 use Rattle.verifier_round.specs.declared.Layer.{Layer}
 use Rattle.verifier_round.specs.declared.Advance.{Advance}
 use Rattle.verifier_round.specs.declared.Advance.the-variants.{Next, Stopped}
 use Rattle.verifier_round.specs.Values.{decCubic, decClaims, columns, CanonClaims}
 use Rattle.verifier_round.specs.Rounds.{Goes, Advances, Rooted}
-use Rattle.verifier_rounds.specs.Runs.{entryAt, RoundDone, Readable, Space, going, LayersEnd, Going, RootEnd}
+use Rattle.verifier_rounds.specs.Runs.{entryAt, RoundDone, Readable, Space, RootSpace, going, LayersEnd, Going, RootEnd}
 use Rattle.verifier_rounds.proofs.Messages.{claim-first, claims-rest, entry-first, entries-rest}
 use Rattle.verifier_rounds.proofs.StopLaws.{further, stopped-before, ended-before}
 
@@ -62,21 +63,21 @@ read-next bs claims polys h r =
 -- ---- the room
 pub record NextRoom (lg challenges : List ℕ) (pos : Pos) (h r : ℕ) : Type 0 where
   pub put : pos .put + (16 * r + 24) ≤ length lg
-  pub enough : Enough challenges pos (r + 2)
-  pub rest : (lg' : List ℕ) (pos' : Pos) → length lg' ≡ length lg → pos' .put ≡ pos .put + (16 * r + 24) → pos' .used ≡ pos .used + (r + 2) → Space lg' challenges pos' h (r + 1)
+  pub enough : Enough lg challenges pos (r + 2)
+  pub rest : (lg' : List ℕ) (pos' : Pos) (t : Words) → length lg' ≡ length lg → Steps lg lg' pos pos' (16 * r + 24) (r + 2) t → Space lg' challenges pos' h (r + 1)
 
 room-next : (lg challenges : List ℕ) (pos : Pos) (h r : ℕ) → Space lg challenges pos (suc h) r → NextRoom lg challenges pos h r
 unfolding layers-cost
 room-next lg challenges pos h r s =
     let e : suc r ≡ r + 1 = omega arith in
     let a = s .put in
-    let b = s .enough .room in
+    let k = layers-cost 0 1 (suc h) r in
     let c : layers-cost 4 4 h (suc r) ≡ layers-cost 4 4 h (r + 1) = ap (layers-cost 4 4 h) e in
     let d : layers-cost 0 1 h (suc r) ≡ layers-cost 0 1 h (r + 1) = ap (layers-cost 0 1 h) e in
     record {
       put = omega (arith, a);
-      enough = record { room = omega (arith, b); clean = s .enough .clean };
-      rest = λ lg' pos' l p u. record { put = omega (arith, a, c, l, p); enough = record { room = omega (arith, b, d, u); clean = s .enough .clean } };
+      enough = enough-fewer k (omega arith) (s .enough);
+      rest = λ lg' pos' t l q. record { put = omega (arith, a, c, l, q .put); enough = enough-after k (omega arith) (omega (arith, d)) q (s .enough) };
     }
 
 -- ---- the loop
@@ -88,6 +89,7 @@ going-start bs pt lg ch claims polys n s h r c x y =
       upto = h;
       verdict = refl;
       more = omega arith;
+      drawn = refl;
       rest = refl;
       read = r;
       numer = x;
@@ -138,6 +140,7 @@ module _ (bs pt₀ pt lg₀ lg : List ℕ) (ch : Source E.Ext) (claims₀ claims
           upto = omega arith;
           verdict = unfolded b ∙ g .verdict _ _ ∙ ap (λ k. going bs pt' lg' ch (claims + 64) k h (r + 1) t) p;
           more = omega (arith, i .more, put);
+          drawn = g .steps .drawn ∙ i .drawn;
           rest = g .steps .rest ∙ further lg lg₀ (s .pos .put) (t .pos .put) put (i .rest);
           read = subst (λ k. Readable bs (claims + 64) k h) p (next-read b .rest);
           numer = g .numer;
@@ -150,7 +153,7 @@ module _ (bs pt₀ pt lg₀ lg : List ℕ) (ch : Source E.Ext) (claims₀ claims
     pub space-next : {challenges : List ℕ} (t : Layer) → a ≡ Next t → length lg' ≡ length lg → Space lg challenges (s .pos) (n - r) r → Space lg' challenges (t .pos) h (r + 1)
     space-next t q y p =
         let g = subst (Advances lg lg' pt' ch (s .pos) (r + 1) (16 * r + 24) (r + 2) _) q (d .run) in
-        next-room p b .rest lg' (t .pos) y (g .steps .put) (g .steps .used)
+        next-room p b .rest lg' (t .pos) _ y (g .steps)
 
   pub going-end : {challenges : List ℕ} → Space lg challenges (s .pos) (n - r) r → n ≤ r → LayersEnd bs pt₀ pt lg₀ lg ch claims₀ polys₀ n s₀ (Next s)
   unfolding Gkr.rounds entriesFrom claimsFrom
@@ -162,6 +165,7 @@ module _ (bs pt₀ pt lg₀ lg : List ℕ) (ch : Source E.Ext) (claims₀ claims
         verdict = i .verdict ∙ last ∙ ap (λ k. accepted (columns s) (cells pt 0 k) (logOf lg (s .pos))) e;
         more = i .more;
         room = omega (arith, q .put, i .logs);
+        drawn = i .drawn;
         rest = i .rest;
         numer = i .numer;
         denom = i .denom;
@@ -180,12 +184,13 @@ module _ (bs lg lg₁ : List ℕ) (ch : Source E.Ext) (polys n : ℕ) (pos : Pos
   pub root-goes : (s : Layer) → a ≡ Next s → Goes lg lg₁ pt₁ ch pos 1 24 1 (λ mss cs. Gkr.root Extension (Drawing ch) (dec (elem (drop 5 bs))) (decClaims (claimsOf (drop 22 bs))) cs mss (logOf lg pos)) s
   root-goes s q = subst (Advances lg lg₁ pt₁ ch pos 1 24 1 _) q there
 
-  pub root-end : (pt' lg' : List ℕ) (s : Layer) (r : Advance) → a ≡ Next s → length lg₁ ≡ length lg → LayersEnd bs pt₁ pt' lg₁ lg' ch 86 polys n s r → RootEnd bs pt' lg lg' ch polys n pos r
-  root-end pt' lg' s r q l e =
+  pub root-end : (pt' lg' : List ℕ) (s : Layer) (r : Advance) → a ≡ Next s → length lg₁ ≡ length lg → (ch₁ : Source E.Ext) → ch₁ ≡ ch
+      → LayersEnd bs pt₁ pt' lg₁ lg' ch₁ 86 polys n s r → RootEnd bs pt' lg lg' ch polys n pos r
+  root-end pt' lg' s r q l ch₁ w e =
       let g = root-goes s q in
-      ended-before lg lg₁ lg' ch pos (s .pos) (omega (arith, g .steps .put)) (g .steps .rest) l pt' n _ _ r (g .verdict _ _) e
+      ended-before lg lg₁ lg' ch pos (s .pos) (omega (arith, g .steps .put)) (g .steps .rest) l pt' n _ _ r (g .steps .drawn) (g .verdict _ _) (subst (λ d. LayersEnd bs pt₁ pt' lg₁ lg' d 86 polys n s r) w e)
 
-  pub root-space : {challenges : List ℕ} (s : Layer) → a ≡ Next s → length lg₁ ≡ length lg → (m k : ℕ) → Space lg challenges (record { put = pos .put + 24; used = pos .used + 1 }) m k → Space lg₁ challenges (s .pos) m k
-  root-space s q l m k p =
+  pub root-space : {challenges : List ℕ} (s : Layer) → a ≡ Next s → length lg₁ ≡ length lg → (m : ℕ) → RootSpace lg challenges pos m → Space lg₁ challenges (s .pos) m 1
+  root-space s q l m p =
       let g = root-goes s q in
-      record { put = omega (arith, g .steps .put, p .put, l); enough = record { room = omega (arith, g .steps .used, p .enough .room); clean = p .enough .clean } }
+      record { put = omega (arith, g .steps .put, p .put, l); enough = enough-after (1 + layers-cost 0 1 m 1) (omega arith) (omega arith) (g .steps) (p .enough) }

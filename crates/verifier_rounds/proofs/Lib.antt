@@ -1,3 +1,4 @@
+pub mod Alike
 pub mod Messages
 pub mod SubLaws
 pub mod StopLaws

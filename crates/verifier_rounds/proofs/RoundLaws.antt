@@ -75,9 +75,9 @@ came bs pt pt' lg lg₁ lg₂ ch polys round s o last e a b =
 -- ---- the count is right
 pub round-closed : (bs pt pt₁ pt₂ lg lg₁ lg₂ lg₃ : List ℕ) (ch : Source E.Ext) (claims polys round : ℕ) (s : Layer) (o : Opened) (last : Sums) (c : LayerClaims) (r : Advance)
     → getD bs polys 0 ≡ round → length lg₂ ≡ length lg → Opens pt lg lg₁ ch s o → Summed bs pt pt₁ lg₁ lg₂ ch (polys + 1) round (o .first) last → claimsIn c ≡ claimsOf (drop claims bs)
-    → Closed pt₁ pt₂ lg₂ lg₃ ch (decClaims (claimsIn c)) round (o .lambda) last r → RoundDone bs pt pt₂ lg lg₃ ch claims polys round s r
-round-closed bs pt pt₁ pt₂ lg lg₁ lg₂ lg₃ ch claims polys round s o last c r e l a b q h =
-    let closed : Closed pt₁ pt₂ lg₂ lg₃ ch (decClaims (claimsOf (drop claims bs))) round (o .lambda) last r = subst (λ d. Closed pt₁ pt₂ lg₂ lg₃ ch (decClaims d) round (o .lambda) last r) q h in
+    → (ch₁ : Source E.Ext) → ch₁ ≡ ch → Closed pt₁ pt₂ lg₂ lg₃ ch₁ (decClaims (claimsIn c)) round (o .lambda) last r → RoundDone bs pt pt₂ lg lg₃ ch claims polys round s r
+round-closed bs pt pt₁ pt₂ lg lg₁ lg₂ lg₃ ch claims polys round s o last c r e l a b q ch₁ w h =
+    let closed : Closed pt₁ pt₂ lg₂ lg₃ ch (decClaims (claimsOf (drop claims bs))) round (o .lambda) last r = subst (λ d. Closed pt₁ pt₂ lg₂ lg₃ ch (decClaims d) round (o .lambda) last r) q (subst (λ d. Closed pt₁ pt₂ lg₂ lg₃ d (decClaims (claimsIn c)) round (o .lambda) last r) w h) in
     let steps = then lg lg₁ lg₂ (s .pos) (o .first .pos) (last .pos) 4 1 (16 * round) round _ _ (a .steps) (b .steps) in
     record {
       run =

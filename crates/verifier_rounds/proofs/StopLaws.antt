@@ -39,18 +39,19 @@ module _ (lg₀ lg lg' : List ℕ) (ch : Source E.Ext) (pos₀ pos : Pos) (m : p
         rest = s .rest ∙ further lg lg₀ (pos .put) (s .end) (s .more) d;
       }
 
-  pub ended-before : (pt' : List ℕ) (n : ℕ) (v₀ v : Model ch) (r : Advance) → v₀ ≡ v → Ends lg lg' pt' ch pos n v r → Ends lg₀ lg' pt' ch pos₀ n v₀ r
-  ended-before pt' n v₀ v (Next s) q a =
+  pub ended-before : (pt' : List ℕ) (n : ℕ) (v₀ v : Model ch) (r : Advance) → pos .drawn ≡ pos₀ .drawn → v₀ ≡ v → Ends lg lg' pt' ch pos n v r → Ends lg₀ lg' pt' ch pos₀ n v₀ r
+  ended-before pt' n v₀ v (Next s) w q a =
       record {
         verdict = q ∙ a .verdict;
         more = omega (arith, a .more);
         room = omega (arith, a .room);
+        drawn = a .drawn ∙ w;
         rest = a .rest ∙ further lg lg₀ (pos .put) (s .pos .put) (a .more) d;
         numer = a .numer;
         denom = a .denom;
         clean = a .clean;
       }
-  ended-before pt' n v₀ v (Stopped e) q a = stopped-before v₀ v e q a
+  ended-before pt' n v₀ v (Stopped e) w q a = stopped-before v₀ v e q a
 
 pub advanced-before : (lg₀ lg lg' pt' : List ℕ) (ch : Source E.Ext) (pos₀ pos : Pos) (k n m n' m' N M : ℕ) (t : Words) (v : List (List (Cubic E.Ext)) → List (Claims E.Ext) → Model ch) (r : Advance)
     → Steps lg₀ lg pos₀ pos n m t → length lg ≡ length lg₀ → n + n' ≡ N → m + m' ≡ M → Advances lg lg' pt' ch pos k n' m' v r → Advances lg₀ lg' pt' ch pos₀ k N M v r

@@ -89,7 +89,12 @@ pub record Readable (bs : List ℕ) (claims polys h : ℕ) : Type 0 where
 -- room in the log, and challenges, for h rounds from round r on
 pub record Space (lg challenges : List ℕ) (pos : Pos) (h r : ℕ) : Type 0 where
   pub put : pos .put + layers-cost 4 4 h r ≤ length lg
-  pub enough : Enough challenges pos (layers-cost 0 1 h r)
+  pub enough : Enough lg challenges pos (layers-cost 0 1 h r)
+
+-- the same for round 0 and h rounds after it
+pub record RootSpace (lg challenges : List ℕ) (pos : Pos) (h : ℕ) : Type 0 where
+  pub put : pos .put + 24 + layers-cost 4 4 h 1 ≤ length lg
+  pub enough : Enough lg challenges pos (1 + layers-cost 0 1 h 1)
 
 -- the model over the h rounds from round r on
 abbrev pub going : (bs pt lg : List ℕ) (ch : Source E.Ext) (claims polys h r : ℕ) (s : Layer) → Model ch
@@ -101,6 +106,7 @@ pub record Accepts (lg lg' pt' : List ℕ) (ch : Source E.Ext) (pos : Pos) (n : 
   pub verdict : v ≡ accepted (columns s) (cells pt' 0 n) (logOf lg' (s .pos))
   pub more : pos .put ≤ s .pos .put
   pub room : s .pos .put ≤ length lg
+  pub drawn : s .pos .drawn ≡ pos .drawn
   pub rest : drop (s .pos .put) lg' ≡ drop (s .pos .put) lg
   pub numer : Canon (s .numer)
   pub denom : Canon (s .denom)
@@ -120,6 +126,7 @@ pub record Going (bs pt₀ pt lg₀ lg : List ℕ) (ch : Source E.Ext) (claims�
   pub upto : r ≤ n
   pub verdict : going bs pt₀ lg₀ ch claims₀ polys₀ (n - 1) 1 s₀ ≡ going bs pt lg ch claims polys (n - r) r s
   pub more : s₀ .pos .put ≤ s .pos .put
+  pub drawn : s .pos .drawn ≡ s₀ .pos .drawn
   pub rest : drop (s .pos .put) lg ≡ drop (s .pos .put) lg₀
   pub read : Readable bs claims polys (n - r)
   pub numer : Canon (s .numer)

@@ -9,10 +9,11 @@ ghost use Rattle.wire.specs.Words.{allCanonical};
 ghost use Rattle.wire.specs.Bytes.{elem};
 ghost use Rattle.stored.specs.Layout.{cubicsWords};
 ghost use Rattle.stored.specs.Parse.{cubicOf, claimsOf, cubicsFrom};
-ghost use Rattle.transcript.specs.Log.{supplied, Enough};
+ghost use Rattle.transcript.specs.Source.{source};
+ghost use Rattle.transcript.specs.Log.{Enough};
 ghost use Rattle.verifier_round.specs.Values.{decCubic, CanonCubic, CanonClaims, CanonSums};
 ghost use Rattle.verifier_round.specs.Rounds.{SubRound};
-ghost use Rattle.verifier_rounds.specs.Runs.{Summed, RoundDone, Readable, Space, LayersEnd, RootEnd};
+ghost use Rattle.verifier_rounds.specs.Runs.{Summed, RoundDone, Readable, Space, RootSpace, LayersEnd, RootEnd};
 use refusal::Refusal;
 use transcript::Pos;
 use verifier_round::Advance;
@@ -29,10 +30,10 @@ fn sub_round_at(
     challenges: &[u32],
     s: Sums,
 ) -> Sums
-    requires room { ⌜ (at + 48 ≤ length (now proof)) × (4 * j + 7 < length (now point)) × (s .pos .put + 16 ≤ length (now log)) × Enough (now challenges) (s .pos) 1 ⌝ }
+    requires room { ⌜ (at + 48 ≤ length (now proof)) × (4 * j + 7 < length (now point)) × (s .pos .put + 16 ≤ length (now log)) × Enough (now log) (now challenges) (s .pos) 1 ⌝ }
     requires clean { ⌜ Clean (now point) × CanonCubic (cubicOf (drop at (now proof))) × CanonSums s ⌝ }
     ensures { λ r. ⌜ SubRound (now (point .entry)) (now (point .exit)) (now (log .entry)) (now (log .exit))
-        (supplied (now (challenges .entry))) j (decCubic (cubicOf (drop at (now (proof .entry))))) s r ⌝ }
+        (source (s .pos .drawn) (now (challenges .entry))) j (decCubic (cubicOf (drop at (now (proof .entry))))) s r ⌝ }
 {
     let m = stored::read_subround(proof, at);
     verifier_round::sub_round(m, point, j, log, challenges, s)
@@ -49,9 +50,10 @@ pub fn verify_gkr_sumcheck(
     first: Sums,
 ) -> Sums
     requires room { ⌜ (from + 48 * round ≤ length (now proof)) × (4 * round + 4 ≤ length (now point))
-        × (first .pos .put + 16 * round ≤ length (now log)) × Enough (now challenges) (first .pos) round ⌝ }
+        × (first .pos .put + 16 * round ≤ length (now log)) × Enough (now log) (now challenges) (first .pos) round ⌝ }
     requires clean { ⌜ Clean (now point) × CanonSums first × (allCanonical (cubicsWords (cubicsFrom round (drop from (now proof)))) ≡ true) ⌝ }
-    ensures { λ r. ⌜ Summed (now (proof .entry)) (now (point .entry)) (now (point .exit)) (now (log .entry)) (now (log .exit)) (supplied (now (challenges .entry))) from round first r ⌝ }
+    ensures { λ r. ⌜ Summed (now (proof .entry)) (now (point .entry)) (now (point .exit)) (now (log .entry)) (now (log .exit))
+        (source (first .pos .drawn) (now (challenges .entry))) from round first r ⌝ }
 {
     let mut s = first;
     let mut at = from;
@@ -74,10 +76,11 @@ pub fn verify_round(
     s: Layer,
 ) -> Advance
     requires read { ⌜ (claims + 64 ≤ length (now proof)) × (polys + 1 + 48 * getD (now proof) polys 0 ≤ length (now proof)) ⌝ }
-    requires room { ⌜ (4 * round + 4 ≤ length (now point)) × (s .pos .put + (16 * round + 24) ≤ length (now log)) × Enough (now challenges) (s .pos) (round + 2) ⌝ }
+    requires room { ⌜ (4 * round + 4 ≤ length (now point)) × (s .pos .put + (16 * round + 24) ≤ length (now log)) × Enough (now log) (now challenges) (s .pos) (round + 2) ⌝ }
     requires clean { ⌜ Clean (now point) × Canon (s .numer) × Canon (s .denom) ⌝ }
     requires words { ⌜ CanonClaims (claimsOf (drop claims (now proof))) × (allCanonical (cubicsWords (cubicsFrom (getD (now proof) polys 0) (drop (polys + 1) (now proof)))) ≡ true) ⌝ }
-    ensures { λ r. ⌜ RoundDone (now (proof .entry)) (now (point .entry)) (now (point .exit)) (now (log .entry)) (now (log .exit)) (supplied (now (challenges .entry))) claims polys round s r ⌝ }
+    ensures { λ r. ⌜ RoundDone (now (proof .entry)) (now (point .entry)) (now (point .exit)) (now (log .entry)) (now (log .exit))
+        (source (s .pos .drawn) (now (challenges .entry))) claims polys round s r ⌝ }
 {
     let subrounds = wire::wide(proof[polys]) as usize;
     let o = verifier_round::open_layer(point, log, challenges, s);
@@ -109,7 +112,8 @@ pub fn verify_rounds(
     requires read { ⌜ (1 ≤ rounds) × Readable (now proof) claims polys (rounds - 1) ⌝ }
     requires room { ⌜ (4 * rounds ≤ length (now point)) × Space (now log) (now challenges) (first .pos) (rounds - 1) 1 ⌝ }
     requires clean { ⌜ Clean (now point) × Canon (first .numer) × Canon (first .denom) ⌝ }
-    ensures { λ r. ⌜ LayersEnd (now (proof .entry)) (now (point .entry)) (now (point .exit)) (now (log .entry)) (now (log .exit)) (supplied (now (challenges .entry))) claims polys rounds first r ⌝ }
+    ensures { λ r. ⌜ LayersEnd (now (proof .entry)) (now (point .entry)) (now (point .exit)) (now (log .entry)) (now (log .exit))
+        (source (first .pos .drawn) (now (challenges .entry))) claims polys rounds first r ⌝ }
 {
     let mut s = first;
     let mut c = claims;
@@ -140,10 +144,10 @@ pub fn verify_all(
     pos: Pos,
 ) -> Advance
     requires read { ⌜ (1 ≤ rounds) × (22 + 64 * rounds ≤ length (now proof)) × Readable (now proof) 86 polys (rounds - 1) ⌝ }
-    requires room { ⌜ (4 * rounds ≤ length (now point)) × Space (now log) (now challenges) (record { put = pos .put + 24; used = pos .used + 1 }) (rounds - 1) 1 ⌝ }
+    requires room { ⌜ (4 * rounds ≤ length (now point)) × RootSpace (now log) (now challenges) pos (rounds - 1) ⌝ }
     requires clean { ⌜ Clean (now point) ⌝ }
     requires words { ⌜ Canon (elem (drop 5 (now proof))) × CanonClaims (claimsOf (drop 22 (now proof))) ⌝ }
-    ensures { λ r. ⌜ RootEnd (now (proof .entry)) (now (point .exit)) (now (log .entry)) (now (log .exit)) (supplied (now (challenges .entry))) polys rounds pos r ⌝ }
+    ensures { λ r. ⌜ RootEnd (now (proof .entry)) (now (point .exit)) (now (log .entry)) (now (log .exit)) (source (pos .drawn) (now (challenges .entry))) polys rounds pos r ⌝ }
 {
     let q0 = wire::element_at(proof, 5);
     let c = stored::read_claims(proof, 22);

@@ -1,8 +1,10 @@
 use Prim.Native.Nat.{_+_, _*_, _≤_, _-_, _^_}
 use mathlib.Core.Path.{_≡_, refl, _∙_, ap}
 use lib.ListN.{length}
-use Rattle.transcript.specs.Log.{supplied}
+use Rattle.transcript.specs.Source.{source}
+use Rattle.transcript.proofs.Logs.{enough-fewer}
 use Rattle.prover_layer.proofs.Weights.{double-le, pow-next}
+use Rattle.prover_rounds.proofs.Alike.{one-layer-alike}
 use Rattle.prover_rounds.specs.Layers.{Midway, logUpTo, usedUpTo}
 use Rattle.prover_rounds.proofs.Descent.{midway-none, midway-next, midway-end, log-room, used-room}
 use borrow.Author.Needs.{needs}
@@ -14,7 +16,7 @@ use Rattle.prover_rounds.proofs.gkr_rounds.Lts as lts
 use Rattle.prover_rounds.proofs.gkr_round.Reads as gkr-round-reads
 
 abbrev Inv-loop : tie.InvT-loop
-Inv-loop work₀ eq n xi₀ log₀ challenges p₀ size₀ round₀ work xi log p size round = (length work ≡ length work₀) × (length xi ≡ length xi₀) × (length log ≡ length log₀) × (size ≡ 2 ^ round) × Midway work₀ work xi₀ xi log₀ log (supplied challenges) n round p₀ p
+Inv-loop work₀ eq n xi₀ log₀ challenges p₀ size₀ round₀ work xi log p size round = (length work ≡ length work₀) × (length xi ≡ length xi₀) × (length log ≡ length log₀) × (size ≡ 2 ^ round) × Midway work₀ work xi₀ xi log₀ log (source (p₀ .drawn) challenges) n round p₀ p
 
 abbrev μ-loop : tie.MeasureT-loop
 μ-loop work₀ eq n xi₀ log₀ challenges p₀ size₀ round₀ work xi log p size round = n - round
@@ -38,7 +40,7 @@ gkr-round-requires c κs =
       (
         (omega (arith, p .0, d), omega (arith, p .0, d, l .inv .0)),
         (
-          (omega (arith, p .1 .0, l .inv .1), omega (arith, p .1 .0, l .inv .2, m .put, u), record { room = omega (arith, p .1 .0 .2 .room, m .used, v); clean = p .1 .0 .2 .clean }),
+          (omega (arith, p .1 .0, l .inv .1), omega (arith, p .1 .0, l .inv .2, m .put, u), enough-fewer (usedUpTo n - usedUpTo (l .round)) (omega (arith, v)) (m .enough _ (p .1 .0 .2))),
           (m .clean, m .points),
         ),
       ),
@@ -59,7 +61,7 @@ loop-less c = search needs
 loop-again : tie.Need-loop-again Inv-loop μ-loop
 loop-again c =
     let l = c .before .before .before .before .before .before .before .before .before .before .before .loop in
-    (search needs, search needs, search needs, pow-next (l .size) (l .round) (l .inv .3), midway-next _ (l .work) _ _ (l .xi) _ _ (l .log) _ _ (c .before .before .before .before .before .before .before .before .before .before .before .before .before .before .before .before .args .eq) _ (l .round) (l .size) _ (l .p) _ (l .inv .3) (c .before .before .before .before .before .before .before .before .before .before .loop-test .taken) (c .before .before .before .before .before .before .before .before .before .before .before .before .before .before .before .before .pre .0 .1) (l .inv .4) (c .before .before .before .before .before .before .gkr-round .ensures))
+    (search needs, search needs, search needs, pow-next (l .size) (l .round) (l .inv .3), midway-next _ (l .work) _ _ (l .xi) _ _ (l .log) _ _ (c .before .before .before .before .before .before .before .before .before .before .before .before .before .before .before .before .args .eq) _ (l .round) (l .size) _ (l .p) _ (l .inv .3) (c .before .before .before .before .before .before .before .before .before .before .loop-test .taken) (c .before .before .before .before .before .before .before .before .before .before .before .before .before .before .before .before .pre .0 .1) (l .inv .4) (one-layer-alike (c .before .before .before .before .before .before .before .before .before .before .before .before .before .before .before .before .args .challenges .now) (l .inv .4 .drawn) (c .before .before .before .before .before .before .gkr-round .ensures)))
 
 same-length : tie.Need-same-length Inv-loop μ-loop
 same-length c = search needs

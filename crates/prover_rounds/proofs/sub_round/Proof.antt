@@ -1,4 +1,6 @@
+use Rattle.transcript.proofs.Logs.{sampled-alike, enough-after}
 use Rattle.prover_rounds.proofs.Sending.{sub-done}
+use native.Mathlib.Omega.{arith}
 use borrow.Author.Needs.{needs}
 use Rattle.prover_rounds.proofs.sub_round.Statement.{statement}
 use Rattle.prover_rounds.proofs.sub_round.Tie as tie
@@ -17,7 +19,10 @@ observe-round-poly-requires : tie.Need-observe-round-poly-requires
 observe-round-poly-requires c κs = search needs
 
 sample-ext-requires : tie.Need-sample-ext-requires
-sample-ext-requires c κs = search needs
+sample-ext-requires c κs =
+    let p = c .before .before .before .before .before .before .before .before .before .before .before .pre .1 .0 in
+    let s = c .before .before .before .observe-round-poly .ensures in
+    (omega (arith, p .1, c .before .before .before .observe-round-poly .kept, s .put), enough-after 1 (omega arith) (omega arith) s (p .2))
 
 store-requires : tie.Need-store-requires
 store-requires c κs =
@@ -39,7 +44,10 @@ same-length-3 : tie.Need-same-length-3
 same-length-3 c = search needs
 
 returns : tie.Need-returns
-returns c = λ k e. sub-done _ _ _ _ _ _ _ _ _ _ k _ _ _ _ _ _ _ e (c .before .before .before .before .before .before .before .before .before .before .before .before .before .before .before .before .before .before .sumcheck-round-poly-evals .ensures) (c .before .before .before .before .before .before .before .before .before .before .before .before .before .before .before .before .observe-round-poly .ensures) (c .before .before .before .before .before .before .before .before .before .before .before .before .sample-ext .ensures .0) (c .before .before .before .before .before .before .before .before .before .before .before .before .sample-ext .ensures .1) (c .before .before .before .before .before .before .before .store .ensures) (c .before .before .before .fold-mle-evals .ensures)
+returns c = λ k e.
+    let s = c .before .before .before .before .before .before .before .before .before .before .before .before .before .before .before .before .observe-round-poly .ensures in
+    let d = sampled-alike (c .before .before .before .before .before .before .before .before .before .before .before .before .before .before .before .before .before .before .before .before .before .before .before .before .args .challenges .now) (s .drawn) (c .before .before .before .before .before .before .before .before .before .before .before .before .sample-ext .ensures) in
+    sub-done _ _ _ _ _ _ _ _ _ _ k _ _ _ _ _ _ _ e (c .before .before .before .before .before .before .before .before .before .before .before .before .before .before .before .before .before .before .sumcheck-round-poly-evals .ensures) s (d .0) (d .1) (c .before .before .before .before .before .before .before .store .ensures) (c .before .before .before .fold-mle-evals .ensures)
 
 pub sub-round-spec : {M : Type 1} → statement M
 sub-round-spec =

@@ -23,7 +23,7 @@ weighed-sub-rounds-requires c κs =
     (p .0, ((p .1 .0 .0, omega (arith, p .1 .0 .1, c .before .before .before .before .before .weigh .kept)), (p .1 .1 .0, (c .before .before .before .before .before .weigh .ensures .clean, p .1 .1 .1 .1))))
 
 minus-requires : tie.Need-minus-requires
-minus-requires c κs = search needs
+minus-requires c κs = (zero-is .canon, c .before .before .before .before .before .before .before .before .before .before .before .before .before .before .before .before .before .before .before .pre .1 .1 .1 .2)
 
 weigh-requires-2 : tie.Need-weigh-requires-2
 weigh-requires-2 c κs =

@@ -1,9 +1,11 @@
 use Prim.Native.Nat.{suc, _+_, _≤_, _-_, _^_}
 use mathlib.Core.Path.{_≡_, _∙_, ap, sym}
 use lib.ListN.{length}
-use Rattle.transcript.specs.Log.{supplied}
+use Rattle.transcript.specs.Source.{source}
+use Rattle.transcript.proofs.Logs.{enough-after}
 use Rattle.field.specs.Ext as E
 use Rattle.prover_rounds.specs.SubRounds.{Going}
+use Rattle.prover_rounds.proofs.Alike.{sub-round-alike}
 use Rattle.prover_rounds.proofs.Sending.{going-none, going-next, going-end, half-down}
 use borrow.Author.Needs.{needs}
 use native.Mathlib.Omega.{arith}
@@ -14,7 +16,7 @@ use Rattle.prover_rounds.proofs.weighed_sub_rounds.Lts as lts
 use Rattle.prover_rounds.proofs.sub_round.Reads as sub-round-reads
 
 abbrev Inv-loop : tie.InvT-loop
-Inv-loop work₀ eq pq round size xi₀ log₀ challenges p₀ half₀ j₀ work xi log p half j = (j ≤ round) × (length work ≡ length work₀) × (length xi ≡ length xi₀) × (length log ≡ length log₀) × (half ≡ 2 ^ (round - j)) × (half ≤ size) × Going work₀ work xi₀ xi log₀ log (supplied challenges) eq pq j (round - j) round size E.nil p₀ p
+Inv-loop work₀ eq pq round size xi₀ log₀ challenges p₀ half₀ j₀ work xi log p half j = (j ≤ round) × (length work ≡ length work₀) × (length xi ≡ length xi₀) × (length log ≡ length log₀) × (half ≡ 2 ^ (round - j)) × (half ≤ size) × Going work₀ work xi₀ xi log₀ log (source (p₀ .drawn) challenges) eq pq j (round - j) round size E.nil p₀ p
 
 abbrev μ-loop : tie.MeasureT-loop
 μ-loop work₀ eq pq round size xi₀ log₀ challenges p₀ half₀ j₀ work xi log p half j = round - j
@@ -36,7 +38,7 @@ sub-round-requires c κs =
     let h = half-down (l .half) (c .before .before .before .before .before .before .before .before .before .args .round) (l .j) (c .before .before .before .loop-test .taken) (l .inv .4) in
     let g = l .inv .6 in (
       (omega (arith, h .1), omega (arith, h .1)),
-      ((omega arith, omega (arith, g .steps .put), record { room = omega (arith, p .1 .1 .0 .2 .room, g .steps .used); clean = p .1 .1 .0 .2 .clean }), (g .clean, g .points)),
+      ((omega arith, omega (arith, g .steps .put), enough-after (c .before .before .before .before .before .before .before .before .before .args .round) (omega arith) (omega arith) (g .steps) (p .1 .1 .0 .2)), (g .clean, g .points)),
     )
 
 add-j : tie.Need-add-j Inv-loop μ-loop
@@ -59,7 +61,7 @@ loop-again c =
       search needs,
       h .0,
       omega (arith, h .1),
-      going-next _ (l .work) _ _ (l .xi) _ _ (l .log) _ _ _ _ (l .j) m _ _ _ _ _ (l .p) _ (h .0) (omega (arith, h .1)) (rw e at g) (c .before .before .before .before .before .before .sub-round .ensures m (h .0)),
+      going-next _ (l .work) _ _ (l .xi) _ _ (l .log) _ _ _ _ (l .j) m _ _ _ _ _ (l .p) _ (h .0) (omega (arith, h .1)) (rw e at g) (sub-round-alike (a .challenges .now) (g .steps .drawn) (c .before .before .before .before .before .before .sub-round .ensures m (h .0))),
     )
 
 same-length : tie.Need-same-length Inv-loop μ-loop

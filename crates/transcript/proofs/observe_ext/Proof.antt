@@ -40,14 +40,14 @@ mul-log-4 c = search needs
 slice-write-log-4 : tie.Need-slice-write-log-4
 slice-write-log-4 c = simp length-set (omega arith)
 
-add-t5 : tie.Need-add-t5
-add-t5 c = search needs
+add-next : tie.Need-add-next
+add-next c = search needs
 
 same-length : tie.Need-same-length
 same-length c = search needs
 
 returns : tie.Need-returns
-returns c = observed (c .args .log .now) (c .args .pos) (c .args .e) (search needs) (search needs)
+returns c = observed _ _ (c .args .e) (c .pre .0) (c .pre .1)
 
 pub observe-ext-spec : {M : Type 1} → statement M
 observe-ext-spec =
@@ -64,6 +64,6 @@ observe-ext-spec =
     add-log-3
     mul-log-4
     slice-write-log-4
-    add-t5
+    add-next
     same-length
     returns)

@@ -1,5 +1,6 @@
 use Rattle.stored.specs.Shapes.{cubicIn}
 use Rattle.verifier_round.specs.Values.{decCubic}
+use Rattle.transcript.proofs.Logs.{sampled-alike, enough-after}
 use Rattle.verifier_round.proofs.Observed.{sub-done}
 use native.Mathlib.Omega.{arith}
 use borrow.Author.Needs.{needs}
@@ -24,7 +25,10 @@ observe-cubic-requires : tie.Need-observe-cubic-requires
 observe-cubic-requires c κs = search needs
 
 sample-ext-requires : tie.Need-sample-ext-requires
-sample-ext-requires c κs = search needs
+sample-ext-requires c κs =
+    let p = c .before .before .before .before .before .before .before .before .before .before .pre .0 in
+    let s = c .before .before .before .observe-cubic .ensures in
+    (omega (arith, p .1, c .before .before .before .observe-cubic .kept, s .put), enough-after 1 (omega arith) (omega arith) s (p .2))
 
 store-requires : tie.Need-store-requires
 store-requires c κs = (omega (arith, c .before .before .before .before .before .before .before .before .before .before .before .before .before .before .before .pre .0), (c .before .before .before .before .before .before .before .before .before .before .before .before .before .before .before .pre .1 .0, c .before .before .before .before .sample-ext .ensures .1 .canon))
@@ -42,7 +46,10 @@ same-length-2 : tie.Need-same-length-2
 same-length-2 c = search needs
 
 returns : tie.Need-returns
-returns c = sub-done _ _ _ _ _ _ _ (decCubic (cubicIn (c .before .before .before .before .before .before .before .before .before .before .before .before .before .before .before .before .before .before .before .before .before .args .m))) (c .before .before .before .before .before .before .before .before .before .before .before .before .before .before .before .before .before .before .before .before .before .args .s) _ (c .before .before .before .before .before .before .before .before .before .before .sample-ext .result) _ _ _ (c .before .before .before .before .before .before .before .before .before .before .before .before .before .before .observe-cubic .ensures) (c .before .before .before .before .before .before .before .before .before .before .sample-ext .ensures .0) (c .before .before .before .before .before .before .before .before .before .before .sample-ext .ensures .1) (c .before .before .before .before .before .store .ensures) (c .before .before .before .before .before .before .before .before .before .before .before .before .before .before .before .before .load .ensures) (c .before .next-claim .ensures) (c .eq-step .ensures)
+returns c =
+    let o = c .before .before .before .before .before .before .before .before .before .before .before .before .before .before .observe-cubic .ensures in
+    let d = sampled-alike (c .before .before .before .before .before .before .before .before .before .before .before .before .before .before .before .before .before .before .before .before .before .args .challenges .now) (o .drawn) (c .before .before .before .before .before .before .before .before .before .before .sample-ext .ensures) in
+    sub-done _ _ _ _ _ _ _ (decCubic (cubicIn (c .before .before .before .before .before .before .before .before .before .before .before .before .before .before .before .before .before .before .before .before .before .args .m))) (c .before .before .before .before .before .before .before .before .before .before .before .before .before .before .before .before .before .before .before .before .before .args .s) _ (c .before .before .before .before .before .before .before .before .before .before .sample-ext .result) _ _ _ o (d .0) (d .1) (c .before .before .before .before .before .store .ensures) (c .before .before .before .before .before .before .before .before .before .before .before .before .before .before .before .before .load .ensures) (c .before .next-claim .ensures) (c .eq-step .ensures)
 
 pub sub-round-spec : {M : Type 1} → statement M
 sub-round-spec =

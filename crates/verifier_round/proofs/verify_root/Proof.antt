@@ -1,5 +1,8 @@
+use mathlib.Core.Path.{_∙_}
 use Rattle.stored.specs.Shapes.{claimsIn}
 use Rattle.verifier_round.specs.Values.{decClaims}
+use Rattle.transcript.proofs.Logs.{enough-after}
+use Rattle.verifier_round.proofs.Alike.{descended-alike}
 use Rattle.verifier_round.proofs.Ends.{root-zero, root-differs, root-go}
 use native.Mathlib.Omega.{arith}
 use borrow.Author.Needs.{needs}
@@ -47,7 +50,7 @@ descend-requires c κs =
     let l = c .before .before .before .before .before .before .before .before .observe-layer-claims .kept in
     let s = c .before .before .before .before .before .before .before .before .before .before .before .before .observe-ext .ensures in
     let t = c .before .before .before .before .before .before .before .before .observe-layer-claims .ensures in
-    ((p .0 .0, omega (arith, p .0, k, l, s .put, t .put), record { room = omega (arith, p .0 .2 .room, s .used, t .used); clean = p .0 .2 .clean }), (p .1 .0, p .1 .1))
+    ((p .0 .0, omega (arith, p .0, k, l, s .put, t .put), enough-after 1 (omega arith) (omega arith) t (enough-after 1 (omega arith) (omega arith) s (p .0 .2))), (p .1 .0, p .1 .1))
 
 same-length-3 : tie.Need-same-length-3
 same-length-3 c = search needs
@@ -56,7 +59,7 @@ same-length-4 : tie.Need-same-length-4
 same-length-4 c = omega (arith, c .before .before .before .before .descend .kept, c .before .before .before .before .before .before .before .before .before .before .before .before .before .observe-layer-claims .kept, c .before .before .before .before .before .before .before .before .before .before .before .before .before .before .before .before .before .observe-ext .kept)
 
 returns-3 : tie.Need-returns-3
-returns-3 c = root-go _ _ _ _ _ (c .before .before .before .before .before .before .before .before .before .before .before .before .before .before .before .before .before .before .before .before .before .before .before .before .before .args .q0) (decClaims (claimsIn (c .before .before .before .before .before .before .before .before .before .before .before .before .before .before .before .before .before .before .before .before .before .before .before .before .before .args .c))) _ _ _ (c .before .before .before .before .before .before .before .before .before .before .before .before .before .before .before .before .before .before .before .before .before .compute-recursive-relations .result) (c .before .before .before .before .before .before .before .before .before .before .same-words .result) (c .before .before .before .before .before .before .before .before .before .before .before .before .before .before .before .before .before .before .before .before .before .compute-recursive-relations .ensures) (c .before .before .before .before .before .before .before .before .before .before .before .before .before .before .before .before .before .before .before .before .before .before .before .before .before .pre .1 .2) (c .before .before .before .before .before .before .before .before .before .before .same-words .ensures) (c .before .before .before .before .before .before .before .before .before .before .before .before .before .before .before .before .before .observe-ext .ensures) (c .before .before .before .before .before .before .before .before .before .before .before .before .before .observe-layer-claims .ensures) (c .before .before .before .before .before .before .before .before .same-words2 .result) (c .before .before .before .before .before .before .before .before .before .if1 .left) (c .before .before .before .before .before .before .before .before .same-words2 .ensures) _ _ _ (c .before .before .before .before .before .before .before .if2 .left) (c .before .before .before .before .descend .ensures)
+returns-3 c = root-go _ _ _ _ _ (c .before .before .before .before .before .before .before .before .before .before .before .before .before .before .before .before .before .before .before .before .before .before .before .before .before .args .q0) (decClaims (claimsIn (c .before .before .before .before .before .before .before .before .before .before .before .before .before .before .before .before .before .before .before .before .before .before .before .before .before .args .c))) _ _ _ (c .before .before .before .before .before .before .before .before .before .before .before .before .before .before .before .before .before .before .before .before .before .compute-recursive-relations .result) (c .before .before .before .before .before .before .before .before .before .before .same-words .result) (c .before .before .before .before .before .before .before .before .before .before .before .before .before .before .before .before .before .before .before .before .before .compute-recursive-relations .ensures) (c .before .before .before .before .before .before .before .before .before .before .before .before .before .before .before .before .before .before .before .before .before .before .before .before .before .pre .1 .2) (c .before .before .before .before .before .before .before .before .before .before .same-words .ensures) (c .before .before .before .before .before .before .before .before .before .before .before .before .before .before .before .before .before .observe-ext .ensures) (c .before .before .before .before .before .before .before .before .before .before .before .before .before .observe-layer-claims .ensures) (c .before .before .before .before .before .before .before .before .same-words2 .result) (c .before .before .before .before .before .before .before .before .before .if1 .left) (c .before .before .before .before .before .before .before .before .same-words2 .ensures) _ _ _ (c .before .before .before .before .before .before .before .if2 .left) (descended-alike (c .before .before .before .before .before .before .before .before .before .before .before .before .before .before .before .before .before .before .before .before .before .before .before .before .before .args .challenges .now) (c .before .before .before .before .before .before .before .before .before .before .before .before .before .observe-layer-claims .ensures .drawn ∙ c .before .before .before .before .before .before .before .before .before .before .before .before .before .before .before .before .before .observe-ext .ensures .drawn) (c .before .before .before .before .descend .ensures))
 
 pub verify-root-spec : {M : Type 1} → statement M
 verify-root-spec =

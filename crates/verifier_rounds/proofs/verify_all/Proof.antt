@@ -1,3 +1,8 @@
+use mathlib.Core.Path.{ap}
+use Prim.Native.Nat.{_+_, _-_}
+use Rattle.gkr.specs.Count.{layers-cost}
+use Rattle.transcript.specs.Source.{source}
+use Rattle.transcript.proofs.Logs.{enough-fewer}
 use Rattle.verifier_rounds.proofs.GoingLaws.{root-goes, root-space, root-end, root-stop}
 use Rattle.verifier_rounds.proofs.RoundLaws.{claims-told, canon-told}
 use native.Mathlib.Omega.{arith}
@@ -20,7 +25,7 @@ read-claims-requires c κs = search needs
 verify-root-requires : tie.Need-verify-root-requires
 verify-root-requires c κs =
     let p = c .before .before .before .before .before .before .before .before .pre in
-    ((omega (arith, p .0, p .1 .0 .0), omega (arith, p .1 .0 .1 .put), record { room = omega (arith, p .1 .0 .1 .enough .room); clean = p .1 .0 .1 .enough .clean }), (p .1 .1 .0, claims-told _ _ (c .before .before .read-claims .ensures) (p .1 .1 .1 .1), canon-told _ _ (c .before .before .before .element-at .ensures) (p .1 .1 .1 .0)))
+    ((omega (arith, p .0, p .1 .0 .0), omega (arith, p .1 .0 .1 .put), enough-fewer (1 + layers-cost 0 1 (c .before .before .before .before .before .before .before .before .args .rounds - 1) 1) (omega arith) (p .1 .0 .1 .enough)), (p .1 .1 .0, claims-told _ _ (c .before .before .read-claims .ensures) (p .1 .1 .1 .1), canon-told _ _ (c .before .before .before .element-at .ensures) (p .1 .1 .1 .0)))
 
 enum-known-s : tie.Need-enum-known-s
 enum-known-s c = search needs
@@ -30,7 +35,7 @@ verify-rounds-requires c κs =
     let p = c .before .before .before .before .before .before .before .before .before .before .before .before .before .before .before .before .before .before .pre in
     let k = c .before .before .before .before .before .before .before .before .before .verify-root .kept in
     let g = root-goes (c .before .before .before .before .before .before .before .before .before .before .before .before .before .before .before .before .before .before .args .proof .now) _ _ _ (c .before .before .before .before .before .before .before .before .before .before .before .before .before .before .before .before .before .before .args .polys) (c .before .before .before .before .before .before .before .before .before .before .before .before .before .before .before .before .before .before .args .rounds) (c .before .before .before .before .before .before .before .before .before .before .before .before .before .before .before .before .before .before .args .pos) _ _ _ _ (c .before .before .before .before .before .before .before .before .before .before .before .before .before .element-at .ensures) (c .before .before .before .before .before .before .before .before .before .before .before .before .read-claims .ensures) (c .before .before .before .before .before .before .before .before .before .verify-root .ensures) _ (c .before .before .before .s .given .1) in
-    ((p .0 .0, p .0 .2), ((omega (arith, p .1 .0 .0, k), root-space (c .before .before .before .before .before .before .before .before .before .before .before .before .before .before .before .before .before .before .args .proof .now) _ _ _ (c .before .before .before .before .before .before .before .before .before .before .before .before .before .before .before .before .before .before .args .polys) (c .before .before .before .before .before .before .before .before .before .before .before .before .before .before .before .before .before .before .args .rounds) (c .before .before .before .before .before .before .before .before .before .before .before .before .before .before .before .before .before .before .args .pos) _ _ _ _ (c .before .before .before .before .before .before .before .before .before .before .before .before .before .element-at .ensures) (c .before .before .before .before .before .before .before .before .before .before .before .before .read-claims .ensures) (c .before .before .before .before .before .before .before .before .before .verify-root .ensures) _ (c .before .before .before .s .given .1) (k .1 .1 .1 .0) _ _ (p .1 .0 .1)), (g .clean, g .numer, g .denom)))
+    ((p .0 .0, p .0 .2), ((omega (arith, p .1 .0 .0, k), root-space (c .before .before .before .before .before .before .before .before .before .before .before .before .before .before .before .before .before .before .args .proof .now) _ _ _ (c .before .before .before .before .before .before .before .before .before .before .before .before .before .before .before .before .before .before .args .polys) (c .before .before .before .before .before .before .before .before .before .before .before .before .before .before .before .before .before .before .args .rounds) (c .before .before .before .before .before .before .before .before .before .before .before .before .before .before .before .before .before .before .args .pos) _ _ _ _ (c .before .before .before .before .before .before .before .before .before .before .before .before .before .element-at .ensures) (c .before .before .before .before .before .before .before .before .before .before .before .before .read-claims .ensures) (c .before .before .before .before .before .before .before .before .before .verify-root .ensures) _ (c .before .before .before .s .given .1) (k .1 .1 .1 .0) _ (p .1 .0 .1)), (g .clean, g .numer, g .denom)))
 
 enum-known-refusal : tie.Need-enum-known-refusal
 enum-known-refusal c = search needs
@@ -42,7 +47,9 @@ same-length-2 : tie.Need-same-length-2
 same-length-2 c = omega (arith, c .before .before .before .before .before .before .before .before .before .before .before .before .before .before .verify-root .kept, c .before .before .before .before .verify-rounds .kept)
 
 returns : tie.Need-returns
-returns c = root-end (c .before .before .before .before .before .before .before .before .before .before .before .before .before .before .before .before .before .before .before .before .before .before .before .args .proof .now) _ _ _ (c .before .before .before .before .before .before .before .before .before .before .before .before .before .before .before .before .before .before .before .before .before .before .before .args .polys) (c .before .before .before .before .before .before .before .before .before .before .before .before .before .before .before .before .before .before .before .before .before .before .before .args .rounds) (c .before .before .before .before .before .before .before .before .before .before .before .before .before .before .before .before .before .before .before .before .before .before .before .args .pos) _ _ _ _ (c .before .before .before .before .before .before .before .before .before .before .before .before .before .before .before .before .before .before .element-at .ensures) (c .before .before .before .before .before .before .before .before .before .before .before .before .before .before .before .before .before .read-claims .ensures) (c .before .before .before .before .before .before .before .before .before .before .before .before .before .before .verify-root .ensures) (c .before .before .before .before .verify-rounds .last .1 .1 .1 .1 .0) (c .before .before .before .before .verify-rounds .last .1 .1 .1 .1 .1 .0) _ (c .before .before .before .before .verify-rounds .result) (c .before .before .before .before .before .before .before .before .s .given .1) (c .before .before .before .before .before .before .before .before .before .before .before .before .before .before .verify-root .kept .1 .1 .1 .0) (c .before .before .before .before .verify-rounds .ensures)
+returns c =
+    let g = root-goes (c .before .before .before .before .before .before .before .before .before .before .before .before .before .before .before .before .before .before .before .before .before .before .before .args .proof .now) _ _ _ (c .before .before .before .before .before .before .before .before .before .before .before .before .before .before .before .before .before .before .before .before .before .before .before .args .polys) (c .before .before .before .before .before .before .before .before .before .before .before .before .before .before .before .before .before .before .before .before .before .before .before .args .rounds) (c .before .before .before .before .before .before .before .before .before .before .before .before .before .before .before .before .before .before .before .before .before .before .before .args .pos) _ _ _ _ (c .before .before .before .before .before .before .before .before .before .before .before .before .before .before .before .before .before .before .element-at .ensures) (c .before .before .before .before .before .before .before .before .before .before .before .before .before .before .before .before .before .read-claims .ensures) (c .before .before .before .before .before .before .before .before .before .before .before .before .before .before .verify-root .ensures) _ (c .before .before .before .before .before .before .before .before .s .given .1) in
+    root-end (c .before .before .before .before .before .before .before .before .before .before .before .before .before .before .before .before .before .before .before .before .before .before .before .args .proof .now) _ _ _ (c .before .before .before .before .before .before .before .before .before .before .before .before .before .before .before .before .before .before .before .before .before .before .before .args .polys) (c .before .before .before .before .before .before .before .before .before .before .before .before .before .before .before .before .before .before .before .before .before .before .before .args .rounds) (c .before .before .before .before .before .before .before .before .before .before .before .before .before .before .before .before .before .before .before .before .before .before .before .args .pos) _ _ _ _ (c .before .before .before .before .before .before .before .before .before .before .before .before .before .before .before .before .before .before .element-at .ensures) (c .before .before .before .before .before .before .before .before .before .before .before .before .before .before .before .before .before .read-claims .ensures) (c .before .before .before .before .before .before .before .before .before .before .before .before .before .before .verify-root .ensures) (c .before .before .before .before .verify-rounds .last .1 .1 .1 .1 .0) (c .before .before .before .before .verify-rounds .last .1 .1 .1 .1 .1 .0) _ (c .before .before .before .before .verify-rounds .result) (c .before .before .before .before .before .before .before .before .s .given .1) (c .before .before .before .before .before .before .before .before .before .before .before .before .before .before .verify-root .kept .1 .1 .1 .0) _ (ap (λ b. source b (c .before .before .before .before .before .before .before .before .before .before .before .before .before .before .before .before .before .before .before .before .before .before .before .args .challenges .now)) (g .steps .drawn)) (c .before .before .before .before .verify-rounds .ensures)
 
 same-length-3 : tie.Need-same-length-3
 same-length-3 c = search needs

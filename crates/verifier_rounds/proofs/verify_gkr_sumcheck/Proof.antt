@@ -1,4 +1,6 @@
-use Rattle.transcript.specs.Log.{supplied}
+use Rattle.transcript.specs.Source.{source}
+use Rattle.transcript.proofs.Logs.{enough-after}
+use Rattle.verifier_round.proofs.Alike.{sub-round-alike}
 use Rattle.verifier_rounds.proofs.SubLaws.{sub-start, sub-canon, sub-turn, sub-end}
 use Rattle.verifier_rounds.specs.Runs.{Summing}
 use Prim.Native.Nat.{_-_}
@@ -11,7 +13,7 @@ use Rattle.verifier_rounds.proofs.verify_gkr_sumcheck.Lts as lts
 use Rattle.verifier_rounds.proofs.sub_round_at.Reads as sub-round-at-reads
 
 abbrev Inv-loop : tie.InvT-loop
-Inv-loop proof from round point₀ log₀ challenges s₀ at₀ j₀ point log s at j = Summing proof point₀ point log₀ log (supplied challenges) from at round j s₀ s
+Inv-loop proof from round point₀ log₀ challenges s₀ at₀ j₀ point log s at j = Summing proof point₀ point log₀ log (source (s₀ .pos .drawn) challenges) from at round j s₀ s
 
 abbrev μ-loop : tie.MeasureT-loop
 μ-loop proof from round point₀ log₀ challenges s₀ at₀ j₀ point log s at j = round - j
@@ -24,10 +26,10 @@ sub-round-at-requires c κs =
     let p = c .before .before .before .before .before .before .before .before .pre in
     let i = c .before .before .before .loop .inv in
     let t = c .before .before .loop-test .taken in
-    ((omega (arith, p .0, i .place, t), omega (arith, p .0, i .points, t), omega (arith, p .0, i .logs, i .steps .put, t), record { room = omega (arith, p .0 .3 .room, i .steps .used, t); clean = p .0 .3 .clean }), (i .clean, sub-canon _ _ _ _ _ _ _ _ _ _ _ _ i t, i .canon))
+    ((omega (arith, p .0, i .place, t), omega (arith, p .0, i .points, t), omega (arith, p .0, i .logs, i .steps .put, t), enough-after (c .before .before .before .before .before .before .before .before .args .round) (omega arith) (omega (arith, t)) (i .steps) (p .0 .3)), (i .clean, sub-canon _ _ _ _ _ _ _ _ _ _ _ _ i t, i .canon))
 
 add-at : tie.Need-add-at Inv-loop μ-loop
-add-at c = omega (arith, c .before .before .before .before .before .before .before .before .loop .inv .place, c .before .before .before .before .before .before .before .before .before .before .before .before .before .pre .0, c .before .before .before .before .before .before .before .loop-test .taken)
+add-at c = omega (arith, c .before .before .before .before .before .before .before .before .loop .inv .place, c .before .before .before .before .before .before .before .before .before .before .before .before .before .pre .0, c .before .before .before .before .before .before .before .loop-test .taken, c .before .before .before .before .before .before .before .before .before .before .before .before .before .good .0)
 
 add-j : tie.Need-add-j Inv-loop μ-loop
 add-j c = search needs
@@ -36,7 +38,7 @@ loop-less : tie.Need-loop-less Inv-loop μ-loop
 loop-less c = search needs
 
 loop-again : tie.Need-loop-again Inv-loop μ-loop
-loop-again c = sub-turn _ _ _ _ _ _ _ _ _ _ _ _ (c .before .before .before .before .before .before .before .before .loop .inv) _ _ _ (c .before .before .before .before .before .before .before .loop-test .taken) (c .before .before .before .before .sub-round-at .kept .1 .1 .0) (c .before .before .before .before .sub-round-at .kept .1 .1 .1 .1 .0) (c .before .before .before .before .sub-round-at .ensures)
+loop-again c = sub-turn _ _ _ _ _ _ _ _ _ _ _ _ (c .before .before .before .before .before .before .before .before .loop .inv) _ _ _ (c .before .before .before .before .before .before .before .loop-test .taken) (c .before .before .before .before .sub-round-at .kept .1 .1 .0) (c .before .before .before .before .sub-round-at .kept .1 .1 .1 .1 .0) (sub-round-alike (c .before .before .before .before .before .before .before .before .before .before .before .before .before .args .challenges .now) (c .before .before .before .before .before .before .before .before .loop .inv .steps .drawn) (c .before .before .before .before .sub-round-at .ensures))
 
 same-length : tie.Need-same-length Inv-loop μ-loop
 same-length c = c .before .loop .inv .points

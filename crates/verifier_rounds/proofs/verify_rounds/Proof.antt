@@ -1,4 +1,5 @@
-use Rattle.transcript.specs.Log.{supplied}
+use Rattle.transcript.specs.Source.{source}
+use Rattle.verifier_rounds.proofs.Alike.{round-done-alike}
 use Rattle.verifier_rounds.proofs.GoingLaws.{going-start, next-read, next-room, going-stop, going-next, space-next, going-end}
 use Rattle.verifier_rounds.specs.Runs.{Going, Space}
 use Prim.Native.Nat.{_-_}
@@ -11,7 +12,7 @@ use Rattle.verifier_rounds.proofs.verify_rounds.Lts as lts
 use Rattle.verifier_rounds.proofs.verify_round.Reads as verify-round-reads
 
 abbrev Inv-loop : tie.InvT-loop
-Inv-loop proof claims polys rounds point₀ log₀ challenges s₀ c₀ p₀ round₀ point log s c p round = Going proof point₀ point log₀ log (supplied challenges) claims c polys p rounds round s₀ s × Space log challenges (s .pos) (rounds - round) round
+Inv-loop proof claims polys rounds point₀ log₀ challenges s₀ c₀ p₀ round₀ point log s c p round = Going proof point₀ point log₀ log (source (s₀ .pos .drawn) challenges) claims c polys p rounds round s₀ s × Space log challenges (s .pos) (rounds - round) round
 
 abbrev μ-loop : tie.MeasureT-loop
 μ-loop proof claims polys rounds point₀ log₀ challenges s₀ c₀ p₀ round₀ point log s c p round = rounds - round
@@ -41,7 +42,7 @@ same-length-2 : tie.Need-same-length-2 Inv-loop μ-loop
 same-length-2 c = omega (arith, c .before .before .before .before .before .before .before .verify-round .kept, c .before .before .before .before .before .before .before .before .before .before .before .loop .inv .0 .logs)
 
 returns : tie.Need-returns Inv-loop μ-loop
-returns c = going-stop _ _ _ _ _ _ _ _ _ _ _ _ _ _ (c .before .before .before .before .before .before .before .before .before .before .before .loop .inv .0) _ _ _ (c .before .before .before .before .before .before .before .before .before .before .loop-test .taken) (c .before .before .before .before .before .before .before .verify-round .ensures) _ (c .before .refusal .given .1)
+returns c = going-stop _ _ _ _ _ _ _ _ _ _ _ _ _ _ (c .before .before .before .before .before .before .before .before .before .before .before .loop .inv .0) _ _ _ (c .before .before .before .before .before .before .before .before .before .before .loop-test .taken) (round-done-alike (c .before .before .before .before .before .before .before .before .before .before .before .before .before .before .before .before .args .challenges .now) (c .before .before .before .before .before .before .before .before .before .before .before .loop .inv .0 .drawn) (c .before .before .before .before .before .before .before .verify-round .ensures)) _ (c .before .refusal .given .1)
 
 add-c : tie.Need-add-c Inv-loop μ-loop
 add-c c =
@@ -71,8 +72,8 @@ loop-less c = omega (arith, c .before .before .before .before .before .before .b
 
 loop-again : tie.Need-loop-again Inv-loop μ-loop
 loop-again c = (
-  going-next _ _ _ _ _ _ _ _ _ _ _ _ _ _ (c .before .before .before .before .before .before .before .before .before .before .before .loop .inv .0) _ _ _ (c .before .before .before .before .before .before .before .before .before .before .loop-test .taken) (c .before .before .before .before .before .before .before .verify-round .ensures) _ (c .before .t .given .1) (c .before .before .before .before .before .before .before .verify-round .kept .1 .1 .1 .1 .0) (c .before .before .before .before .before .before .before .verify-round .kept .1 .1 .1 .1 .1 .0),
-  space-next _ _ _ _ _ _ _ _ _ _ _ _ _ _ (c .before .before .before .before .before .before .before .before .before .before .before .loop .inv .0) _ _ _ (c .before .before .before .before .before .before .before .before .before .before .loop-test .taken) (c .before .before .before .before .before .before .before .verify-round .ensures) _ (c .before .t .given .1) (c .before .before .before .before .before .before .before .verify-round .kept .1 .1 .1 .1 .1 .0) (c .before .before .before .before .before .before .before .before .before .before .before .loop .inv .1),
+  going-next _ _ _ _ _ _ _ _ _ _ _ _ _ _ (c .before .before .before .before .before .before .before .before .before .before .before .loop .inv .0) _ _ _ (c .before .before .before .before .before .before .before .before .before .before .loop-test .taken) (round-done-alike (c .before .before .before .before .before .before .before .before .before .before .before .before .before .before .before .before .args .challenges .now) (c .before .before .before .before .before .before .before .before .before .before .before .loop .inv .0 .drawn) (c .before .before .before .before .before .before .before .verify-round .ensures)) _ (c .before .t .given .1) (c .before .before .before .before .before .before .before .verify-round .kept .1 .1 .1 .1 .0) (c .before .before .before .before .before .before .before .verify-round .kept .1 .1 .1 .1 .1 .0),
+  space-next _ _ _ _ _ _ _ _ _ _ _ _ _ _ (c .before .before .before .before .before .before .before .before .before .before .before .loop .inv .0) _ _ _ (c .before .before .before .before .before .before .before .before .before .before .loop-test .taken) (round-done-alike (c .before .before .before .before .before .before .before .before .before .before .before .before .before .before .before .before .args .challenges .now) (c .before .before .before .before .before .before .before .before .before .before .before .loop .inv .0 .drawn) (c .before .before .before .before .before .before .before .verify-round .ensures)) _ (c .before .t .given .1) (c .before .before .before .before .before .before .before .verify-round .kept .1 .1 .1 .1 .1 .0) (c .before .before .before .before .before .before .before .before .before .before .before .loop .inv .1),
 )
 
 same-length-3 : tie.Need-same-length-3 Inv-loop μ-loop
