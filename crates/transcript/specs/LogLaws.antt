@@ -1,17 +1,25 @@
--- No second log fits: one start and the same events lead to one buffer and one position, but for its sponge, of which any that follows the log will do.
+-- No second start and no second log fit: the same events lead from one start to one buffer and one position, but for its sponge, of which any that holds will do.
 -- Assumes nothing.
 use mathlib.Core.Path.{_≡_, sym, _∙_, ap, ap₂}
+use mathlib.Core.Bool.{Bool}
 use mathlib.Core.List.{List, _++_}
 use Prim.Native.Nat.{ℕ}
 use lib.ListN.{drop, take-append-drop}
 use Rattle.field.specs.Ext as E
 use Rattle.field.specs.Element.{Is}
 use Rattle.field.specs.ElementLaws.{is-unique}
-use Rattle.field.specs.declared.Ext.{Ext}
 use Rattle.gkr.specs.Transcripts.{Words}
+use Rattle.shake.specs.Drawn.{Holds}
+use Rattle.shake.specs.HoldsLaws.{start-unique as sponge-unique}
 use Rattle.transcript.specs.declared.Pos.{Pos}
 use Rattle.transcript.specs.declared.Drawn.{Drawn}
 use Rattle.transcript.specs.Log.{logOf, Steps}
+
+pub start-unique : {d : Bool} {p p' : Pos} → (p .put ≡ 0) × (p .used ≡ 0) × (p .drawn ≡ d) × ((m : List ℕ) → Holds (p .sponge) m)
+    → (p' .put ≡ 0) × (p' .used ≡ 0) × (p' .drawn ≡ d) × ((m : List ℕ) → Holds (p' .sponge) m) → p ≡ p'
+start-unique h h' =
+    let s = sponge-unique (h .3) (h' .3) in
+    λ i. record { put = (h .0 ∙ sym (h' .0)) i; used = (h .1 ∙ sym (h' .1)) i; drawn = (h .2 ∙ sym (h' .2)) i; sponge = s i }
 
 -- the same position, but for the sponge
 pub record SamePos (p p' : Pos) : Type 0 where

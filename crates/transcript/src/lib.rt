@@ -117,7 +117,7 @@ fn draw_ext(log: &mut [u32], pos: Pos) -> Drawn
     }
 }
 
-// The next challenge, drawn or supplied.
+// The next challenge, drawn or supplied, goes into the log, with the top bits of its words set.
 pub fn sample_ext(log: &mut [u32], challenges: &[u32], pos: Pos) -> Drawn
     requires room { ⌜ (pos .put + 4 ≤ length (now log)) × Enough (now log) (now challenges) pos 1 ⌝ }
     ensures steps { λ r. ⌜ Steps (now (log .entry)) (now (log .exit)) pos (r .pos) 4 1 (Drawing (source (pos .drawn) (now (challenges .entry))) .drawn (logOf (now (log .entry)) pos)) ⌝ }
