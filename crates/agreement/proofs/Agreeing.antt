@@ -33,6 +33,7 @@ use Rattle.stored.specs.Elements.{encoded, decoded, overZero}
 use Rattle.prover_tree.specs.Nodes.{node}
 use Rattle.sizes.specs.Sizes.{rowCount, roundsOf}
 use Rattle.refusal.specs.declared.Verifying.{Verifying}
+use Rattle.refusal.specs.Tests.{passed, firstOf}
 use Rattle.prover_gate.specs.Refusals.{Call}
 use Rattle.prover.specs.Proved as Prover
 use Rattle.prover.specs.Companions.{in-mode, Sound}
@@ -81,12 +82,12 @@ module _ (c : Call) (how : Verifying) (m : ℕ) (b : Prover.Buffers) (v : Lent) 
     bytes = layout (encoded (run .proof))
 
     -- the front of its proof buffer is the proof's layout
-    front : take (proof-bytes (suc m)) (Prover.proved c b .buffers .proof) ≡ bytes
+    pub front : take (proof-bytes (suc m)) (Prover.proved c b .buffers .proof) ≡ bytes
     front =
         ap (λ o. take (proof-bytes (suc m)) (o .buffers .proof)) proved-run
         ∙ take-at bytes (drop (length bytes) (b .proof)) (proof-bytes (suc m)) (honest-size S m rows t)
 
-    back : Answered bytes (encoded (run .proof))
+    pub back : Answered bytes (encoded (run .proof))
     back = parse-reads bytes (encoded (run .proof)) (write-read (encoded (run .proof)))
 
     -- no row is over zero where the verifier is live, and so the root is not
@@ -99,15 +100,17 @@ module _ (c : Call) (how : Verifying) (m : ℕ) (b : Prover.Buffers) (v : Lent) 
         absurd (rows-and-sum (c .rows) (suc m) (counted (c .rows) (suc m) (h .rows)) .0 (sound (l .0)) (sym q ∙ root-nil bytes z))
     root-passes false e = refl
 
+    pub opened-run : firstOf (Verifier.tests (Verifier.asked bytes (suc m) how (c .challenges)) (length (v .point)) (length (v .log))) ≡ passed
+    opened-run =
+        let canon = ap (λ π. allCanonical (proofWords π)) (back .proof) ∙ encoded-canonical (run .proof) in
+        opens-all (Verifier.asked bytes (suc m) how (c .challenges)) _ _ (back .reads)
+        (record { some = h .some; few = h .few; chals = h .enough; room = r .point-again; log-room = r .log-again; canon = canon; clean = h .valid-challenges }) (root-passes _ refl)
+
     -- which the verifier reads as that proof
     verified-run : Verifier.verified (Verifier.asked bytes (suc m) how (c .challenges)) v ≡ ended v (Gkr.verify-gkr Extension S (suc m) (run .proof) empty)
     unfolding Verifier.verified
     verified-run =
-        let a = Verifier.asked bytes (suc m) how (c .challenges) in
-        let canon = ap (λ π. allCanonical (proofWords π)) (back .proof) ∙ encoded-canonical (run .proof) in
-        ap (λ w. Verifier.laid (Verifier.fronts a w) v)
-        (opens-all a _ _ (back .reads)
-        (record { some = h .some; few = h .few; chals = h .enough; room = r .point-again; log-room = r .log-again; canon = canon; clean = h .valid-challenges }) (root-passes _ refl))
+        ap (λ w. Verifier.laid (Verifier.fronts (Verifier.asked bytes (suc m) how (c .challenges)) w) v) opened-run
         ∙ ap (λ π. ended v (Gkr.verify-gkr Extension S (suc m) (decoded π) empty)) (back .proof)
         ∙ ap (λ π. ended v (Gkr.verify-gkr Extension S (suc m) π empty)) (decoded-encoded (run .proof))
 
@@ -132,10 +135,10 @@ module _ (c : Call) (how : Verifying) (m : ℕ) (b : Prover.Buffers) (v : Lent) 
       × (Gkr.verify-gkr Extension (Drawing ch) (suc m) (P .proof) empty ≡ accepted (Tree.value ExtRing (node (c .rows)) (P .point)) (P .point) (P .log))
   theorem = Honest.honest Extension (Drawing ch) m (node (c .rows)) empty z
 
-  is-done : Gkr.fractional-sumcheck Extension (Drawing ch) (c .modes .«assert_zero») m (node (c .rows)) empty ≡ done P
+  pub is-done : Gkr.fractional-sumcheck Extension (Drawing ch) (c .modes .«assert_zero») m (node (c .rows)) empty ≡ done P
   is-done = ap (λ s. Gkr.fractional-sumcheck Extension (Drawing ch) s m (node (c .rows)) empty) a ∙ theorem .0
 
-  r′ : Room (c .modes .«assert_zero») (suc m) b v
+  pub r′ : Room (c .modes .«assert_zero») (suc m) b v
   r′ = subst (λ s. Room s (suc m) b v) (sym a) r
 
   run-is : Prover.proved c b ≡ Prover.laid (Prover.finished ch (suc m) P) b

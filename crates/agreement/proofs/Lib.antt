@@ -2,5 +2,6 @@
 pub mod HonestSize
 pub mod Opening
 pub mod Agreeing
+pub mod ZeroRows
 pub mod Joining
 pub mod KTableHolds

@@ -1,4 +1,4 @@
--- What stands beside demand 3: another sum, and the premise of a live verifier.
+-- What stands beside demand 3: another sum, a row over zero, and the premise of a live verifier.
 -- Assumes nothing.
 use mathlib.Core.Path.{_≡_}
 use mathlib.Core.Bool.{true, false}
@@ -6,7 +6,7 @@ use Prim.Native.Nat.{ℕ}
 use Rattle.field.specs.Ext as E
 use Rattle.field.specs.Element.{enc}
 use Rattle.refusal.specs.declared.Verifying.{Verifying}
-use Rattle.refusal.specs.declared.Refusal.the-variants.{ZeroCheckFailed}
+use Rattle.refusal.specs.declared.Refusal.the-variants.{ZeroCheckFailed, ZeroRoot}
 use Rattle.step.specs.declared.Frac.{Frac}
 use Rattle.prover_gate.specs.Refusals.{Call}
 use Rattle.prover.specs.Proved.{Buffers, encFrac, proved}
@@ -21,6 +21,12 @@ abbrev pub OtherSum : Type 0
 OtherSum =
     (c : Call) (how : Verifying) (n : ℕ) (b : Buffers) (v : Lent) → Taken c n → c .modes .«assert_zero» ≡ false → (root c n .p ≡ E.nil → ⊥) → Room false n b v → (how .live ≡ true → Sound (c .rows))
     → (proved c b .answer ≡ Done n (encFrac (root c n))) × (verdict c how n (proved c b) v .answer ≡ TurnedAway (ZeroCheckFailed (enc (root c n .p))))
+
+-- A ROW OVER ZERO: the sandbox proves such a sheet, and a live verifier refuses its proof by 27
+abbrev pub RowOverZero : Type 0
+RowOverZero =
+    (c : Call) (n : ℕ) (b : Buffers) (v : Lent) → Taken c n → c .modes .«assert_zero» ≡ true → root c n .p ≡ E.nil → Room true n b v → ¬ (Sound (c .rows))
+    → verdict c (record { live = true }) n (proved c b) v .answer ≡ TurnedAway ZeroRoot
 
 -- PROVED LIVE: what a live verifier asks of the rows follows from done
 abbrev pub ProvedLive : Type 0
