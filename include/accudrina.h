@@ -99,8 +99,8 @@ uint32_t accudrina_prove(const uint32_t *rows, size_t rows_len,
                          uint32_t answer[ACCUDRINA_ANSWER_WORDS]);
 
 /* Verifies a proof that the sum of 2^rounds rows is zero. proof_len is the proof's exact length.
- * Modes. LIVE: a proof whose q0, the sum's denominator, is 0 is refused as 27. Otherwise it is accepted too, and says nothing about
- * the rows: q0 is the first element, in the proof's bytes 5 to 20.
+ * Modes. LIVE: a proof whose q0, the sum's denominator, is 0 is refused as 27. Otherwise that is no reason to refuse, and such a proof
+ * says nothing about the rows: q0 is the first element, in the proof's bytes 5 to 20.
  * Done, accepted: two claims in [4] to [7] and [8] to [11]; the point and the log stand at the front of their buffers. Of every accepted
  * proof that is all: the sheet was not seen, and the caller compares the claims with the values of its columns p and q at the
  * point, which accudrina_evaluate answers.
