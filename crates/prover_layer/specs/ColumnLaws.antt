@@ -22,7 +22,7 @@ claims-cell l m b y (suc (suc (suc zero))) h e = let q : 2 * b + 4 * y + 3 ≡ 2
 claims-cell l m b y (suc (suc (suc (suc r)))) h e = absurd (omega arith)
 
 -- the cells of the first n entries
-in-nodes : (l m : List ℕ) (b n : ℕ) → ((y : ℕ) → y < n → claims l b y ≡ claims m b y) → (j : ℕ) → 2 * b ≤ j → j < 2 * b + 4 * n → cell l j ≡ cell m j
+pub in-nodes : (l m : List ℕ) (b n : ℕ) → ((y : ℕ) → y < n → claims l b y ≡ claims m b y) → (j : ℕ) → 2 * b ≤ j → j < 2 * b + 4 * n → cell l j ≡ cell m j
 in-nodes l m b n h j u v =
     let y : ℕ = (j - 2 * b) / 4 in
     let r : ℕ = (j - 2 * b) % 4 in

@@ -15,7 +15,26 @@ ghost use Rattle.prover_tree.specs.Nodes.{Filled};
 ghost use Rattle.prover_layer.specs.Columns.{eqs, claims, summand, GrownEntry, Grown, Weighed, StoredEntry, Folded};
 use field::Ext;
 use step::Entry;
+use step::Frac;
 use step::Three;
+
+pub mod heap; // the eq tables of all sub-rounds
+pub mod message; // a sub-round's polynomial from three values
+pub mod passes; // sums, differences and folds
+
+// The claims on a left and a right child.
+pub struct Pair {
+    pub l: Frac,
+    pub r: Frac,
+}
+
+// What a sub-round begins with: eq of the coordinates and challenges before it, the old point's coordinate, and the values at 0 and 1 of the sum h.
+pub struct Turn {
+    pub c: Ext,
+    pub x: Ext,
+    pub h0: Ext,
+    pub h1: Ext,
+}
 
 // Entry i of an eq table of `size` entries becomes two: times 1 - x, and times x.
 fn grow_entry(work: &mut [u32], eq: usize, size: usize, i: usize, x: Ext)
