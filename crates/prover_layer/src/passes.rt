@@ -65,17 +65,25 @@ fn side_sum(work: &[u32], at: usize, pq: usize, off: usize, half: usize) -> Ext
     acc
 }
 
-// What the sub-round after t begins with: eq goes on by rho, x is the old point's coordinate, and h(0) and h(1) are the sums of even and of odd entries.
+// What a sub-round begins with after eq of c and at the old point's coordinate x: h(0) and h(1) are the sums of even and of odd entries.
+pub fn open_turn(work: &[u32], at: usize, pq: usize, half: usize, c: Ext, x: Ext) -> Turn
+    requires room { ⌜ (8 * (pq + 4 * half) ≤ length (now work)) × (4 * (at + half) ≤ length (now work)) ⌝ }
+    requires clean { ⌜ Clean (now work) × Canon c × Canon x ⌝ }
+    ensures { λ r. ⌜ IsTurn r (dec c) (dec x) (sideSum (now (work .entry)) at pq 0 half) (sideSum (now (work .entry)) at pq 1 half) ⌝ }
+{
+    let h0 = side_sum(work, at, pq, 0, half);
+    let h1 = side_sum(work, at, pq, 1, half);
+    Turn { c, x, h0, h1 }
+}
+
+// What the sub-round after t begins with: eq goes on by the agreement of t's coordinate and rho.
 pub fn next_turn(work: &[u32], at: usize, pq: usize, half: usize, t: Turn, rho: Ext, x: Ext) -> Turn
     requires room { ⌜ (8 * (pq + 4 * half) ≤ length (now work)) × (4 * (at + half) ≤ length (now work)) ⌝ }
     requires clean { ⌜ Clean (now work) × CanonTurn t × Canon rho × Canon x ⌝ }
     ensures { λ r. ⌜ IsTurn r (E.mul (dec (t .c)) (Forms.agree ExtRing (dec (t .x)) (dec rho))) (dec x)
         (sideSum (now (work .entry)) at pq 0 half) (sideSum (now (work .entry)) at pq 1 half) ⌝ }
 {
-    let c = step::eq::eq_step(t.c, t.x, rho);
-    let h0 = side_sum(work, at, pq, 0, half);
-    let h1 = side_sum(work, at, pq, 1, half);
-    Turn { c, x, h0, h1 }
+    open_turn(work, at, pq, half, step::eq::eq_step(t.c, t.x, rho), x)
 }
 
 // Entry 2y + 1 becomes its difference from entry 2y.

@@ -2,7 +2,7 @@ use mathlib.Core.Path.{_∙_, ap}
 use lib.Pow.{pow-pos}
 use Rattle.field.specs.Element.{dec}
 use Rattle.step.specs.Values.{minus}
-use Rattle.prover_layer.proofs.Entries.{zero-is}
+use Rattle.field.specs.ElementLaws.{zero-is}
 use Rattle.prover_rounds.proofs.Weighing.{weighed-rounds}
 use native.Mathlib.Omega.{arith}
 use borrow.Author.Needs.{needs}
