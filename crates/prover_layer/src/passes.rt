@@ -132,20 +132,20 @@ pub fn sumcheck_round_poly_evals(
 
 // Entry 2y and rho times the difference in entry 2y + 1 go into entry y.
 fn fold_entry(work: &mut [u32], pq: usize, y: usize, rho: Ext)
-    requires room { ⌜ 8 * (pq + 4 * y) + 31 < length (now work) ⌝ }
+    requires room { ⌜ 8 * (pq + 4 * y + 4) ≤ length (now work) ⌝ }
     requires clean { ⌜ Clean (now work) × Canon rho ⌝ }
     ensures { λ _. ⌜ StoredPair (now (work .entry)) (now (work .exit)) pq y (rise (dec rho) (claims (now (work .entry)) pq) y) ⌝ }
 {
-    let a = load_pair(work, pq, 2 * y);
+    let low = load_pair(work, pq, 2 * y);
     let d = load_pair(work, pq, 2 * y + 1);
     let t = Pair {
         l: Frac {
-            p: d.l.p.times_plus(rho, a.l.p),
-            q: d.l.q.times_plus(rho, a.l.q),
+            p: d.l.p.times_plus(rho, low.l.p),
+            q: d.l.q.times_plus(rho, low.l.q),
         },
         r: Frac {
-            p: d.r.p.times_plus(rho, a.r.p),
-            q: d.r.q.times_plus(rho, a.r.q),
+            p: d.r.p.times_plus(rho, low.r.p),
+            q: d.r.q.times_plus(rho, low.r.q),
         },
     };
     store_pair(work, pq, y, t);
