@@ -40,18 +40,18 @@ use Rattle.prover_rounds.proofs.Speaking.{said-true}
 abbrev obs : E.Ext → Words → Words
 obs x t = Observing .observe x t
 
-pub three-observed : (l l₁ l₂ l₃ : List ℕ) (p p₁ p₂ p₃ : Pos) (m : Three) → Steps l l₁ p p₁ 4 0 (obs (dec (m .s1)) (logOf l p))
-    → Steps l₁ l₂ p₁ p₂ 4 0 (obs (dec (m .s2)) (logOf l₁ p₁)) → Steps l₂ l₃ p₂ p₃ 4 0 (obs (dec (m .s3)) (logOf l₂ p₂)) → Steps l l₃ p p₃ 12 0 (observedThree m (logOf l p))
+pub three-observed : (l l₁ l₂ l₃ : List ℕ) {ls ls₁ ls₂ ls₃ : List ℕ} (p p₁ p₂ p₃ : Pos) (m : Three) → Steps l l₁ ls ls₁ p p₁ 4 0 (obs (dec (m .s1)) (logOf l p))
+    → Steps l₁ l₂ ls₁ ls₂ p₁ p₂ 4 0 (obs (dec (m .s2)) (logOf l₁ p₁)) → Steps l₂ l₃ ls₂ ls₃ p₂ p₃ 4 0 (obs (dec (m .s3)) (logOf l₂ p₂)) → Steps l l₃ ls ls₃ p p₃ 12 0 (observedThree m (logOf l p))
 three-observed l l₁ l₂ l₃ p p₁ p₂ p₃ m a b c =
     let b' = retold l₁ l₂ p₁ p₂ 4 0 4 0 _ _ refl refl (ap (obs (dec (m .s2))) (a .log)) b in
     let c' = retold l₂ l₃ p₂ p₃ 4 0 4 0 _ _ refl refl (ap (obs (dec (m .s3))) (b' .log)) c in
     then l l₁ l₃ p p₁ p₃ 4 0 8 0 _ _ a (then l₁ l₂ l₃ p₁ p₂ p₃ 4 0 4 0 _ _ b' c')
 
 -- ONE SUB-ROUND
-pub sub-done : (ws ws₁ ws₂ pt pt' lg lg₁ lg₂ : List ℕ) (ch : Source E.Ext) (at b half i : ℕ) (t : Turn) (pos p : Pos) (d : Drawn) (m : Three)
+pub sub-done : (ws ws₁ ws₂ pt pt' lg lg₁ lg₂ : List ℕ) {ls ls₁ ls₂ : List ℕ} (ch : Source E.Ext) (at b half i : ℕ) (t : Turn) (pos p : Pos) (d : Drawn) (m : Three)
     → IsThree m (said t (lead ws at b half) E.one) (said t (lead ws at b half) two) (said t (lead ws at b half) three) → Risen ws ws₁ b half
-    → Steps lg lg₁ pos p 12 0 (observedThree m (logOf lg pos)) → Steps lg₁ lg₂ p (d .pos) 4 1 (Drawing ch .drawn (logOf lg₁ p)) → Is (d .x) (ch (logOf lg₁ p))
-    → Stored pt pt' i (dec (d .x)) → Folded ws₁ ws₂ b half (dec (d .x)) → SubRound ws ws₂ pt pt' lg lg₂ ch at b half i t pos (d .pos)
+    → Steps lg lg₁ ls ls₁ pos p 12 0 (observedThree m (logOf lg pos)) → Steps lg₁ lg₂ ls₁ ls₂ p (d .pos) 4 1 (Drawing ch .drawn (logOf lg₁ p)) → Is (d .x) (ch (logOf lg₁ p))
+    → Stored pt pt' i (dec (d .x)) → Folded ws₁ ws₂ b half (dec (d .x)) → SubRound ws ws₂ pt pt' lg lg₂ ls ls₂ ch at b half i t pos (d .pos)
 sub-done ws ws₁ ws₂ pt pt' lg lg₁ lg₂ ch at b half i t pos p d m v h a c x s f =
     let M : _≡_ {A = Cubic E.Ext} (record { at1 = dec (m .s1); at2 = dec (m .s2); at3 = dec (m .s3) }) (spoken ws at b half t) =
     (λ i. record { at1 = v .s1 .value i; at2 = v .s2 .value i; at3 = v .s3 .value i }) in
@@ -71,8 +71,8 @@ sub-done ws ws₁ ws₂ pt pt' lg lg₁ lg₂ ch at b half i t pos p d m v h a c
 faced-none : (ws : List ℕ) (at b off n : ℕ) → faced ws at b off n E.nil ≡ sideSum ws at b off n
 faced-none ws at b off n = TableLaws.sum-cong ExtRing n (λ y. ap (E.mul (cell ws (at + y))) (sym (numerator-cross (claims ws b (2 * y + off)))))
 
-pub going-none : (ws pt lg : List ℕ) (ch : Source E.Ext) (at b m k half size : ℕ) (t : Turn) (pos : Pos) → m ≡ k → half ≡ size / 2 → Clean ws → Clean pt → CanonTurn t
-    → Going ws ws pt pt lg lg ch at b 0 m k half size t t pos pos
+pub going-none : (ws pt lg : List ℕ) {ls : List ℕ} (ch : Source E.Ext) (at b m k half size : ℕ) (t : Turn) (pos : Pos) → m ≡ k → half ≡ size / 2 → Clean ws → Clean pt → CanonTurn t
+    → Going ws ws pt pt lg lg ls ls ch at b 0 m k half size t t pos pos
 going-none ws pt lg ch at b m k half size t pos e eh h q n = record {
   clean = h;
   points = q;
@@ -95,10 +95,10 @@ going-none ws pt lg ch at b m k half size t pos e eh h q n = record {
       };
 }
 
-module _ (ws₀ ws ws' pt₀ pt pt' lg₀ lg lg' : List ℕ) (ch : Source E.Ext) (at b j m k half half' size : ℕ) (t₀ t t' : Turn) (old rho : Ext) (pos₀ pos pos' : Pos)
+module _ (ws₀ ws ws' pt₀ pt pt' lg₀ lg lg' : List ℕ) {ls₀ ls ls' : List ℕ} (ch : Source E.Ext) (at b j m k half half' size : ℕ) (t₀ t t' : Turn) (old rho : Ext) (pos₀ pos pos' : Pos)
     (ek : j + suc m ≡ k) (eh : half ≡ 2 ^ m) (room : 2 * b + 4 * size ≤ at) (fits : 2 * half ≤ size)
-    (g : Going ws₀ ws pt₀ pt lg₀ lg ch at b j (suc m) k half size t₀ t pos₀ pos)
-    (s : SubRound ws ws' pt pt' lg lg' ch (at + half) b half (j + 1) t pos pos')
+    (g : Going ws₀ ws pt₀ pt lg₀ lg ls₀ ls ch at b j (suc m) k half size t₀ t pos₀ pos)
+    (s : SubRound ws ws' pt pt' lg lg' ls ls' ch (at + half) b half (j + 1) t pos pos')
     (o : Is old (cell pt (j + 1))) (r : Is rho (cell pt' (j + 1)))
     (n : IsTurn t' (E.mul (dec (t .c)) (Forms.agree ExtRing (dec (t .x)) (dec rho))) (dec old) (sideSum ws' (at + half') b 0 half') (sideSum ws' (at + half') b 1 half')) where
   told-next : Facing ws₀ pt₀ at b k (size / 2) E.nil t₀ → Told ws₀ ws' pt₀ pt' lg₀ lg' ch at b (j + 1) m k half' t' pos₀ pos'
@@ -140,7 +140,7 @@ module _ (ws₀ ws ws' pt₀ pt pt' lg₀ lg lg' : List ℕ) (ch : Source E.Ext)
         log = ap (λ s. s .log) same ∙ T .log;
       }
 
-  pub going-next : Going ws₀ ws' pt₀ pt' lg₀ lg' ch at b (j + 1) m k half' size t₀ t' pos₀ pos'
+  pub going-next : Going ws₀ ws' pt₀ pt' lg₀ lg' ls₀ ls' ch at b (j + 1) m k half' size t₀ t' pos₀ pos'
   going-next = record {
     clean = s .clean;
     points = s .stored .clean;
@@ -151,8 +151,8 @@ module _ (ws₀ ws ws' pt₀ pt pt' lg₀ lg lg' : List ℕ) (ch : Source E.Ext)
     run = told-next;
   }
 
-pub going-end : (ws₀ ws pt₀ pt lg₀ lg : List ℕ) (ch : Source E.Ext) (at b j m k half size : ℕ) (t₀ t : Turn) (pos₀ pos : Pos) → j ≡ k → m ≡ 0
-    → Going ws₀ ws pt₀ pt lg₀ lg ch at b j m k half size t₀ t pos₀ pos → SubRounds ws₀ ws pt₀ pt lg₀ lg ch at b k size E.nil t₀ pos₀ pos
+pub going-end : (ws₀ ws pt₀ pt lg₀ lg : List ℕ) {ls₀ ls : List ℕ} (ch : Source E.Ext) (at b j m k half size : ℕ) (t₀ t : Turn) (pos₀ pos : Pos) → j ≡ k → m ≡ 0
+    → Going ws₀ ws pt₀ pt lg₀ lg ls₀ ls ch at b j m k half size t₀ t pos₀ pos → SubRounds ws₀ ws pt₀ pt lg₀ lg ls₀ ls ch at b k size E.nil t₀ pos₀ pos
 unfolding Sumcheck.send
 going-end ws₀ ws pt₀ pt lg₀ lg ch at b j m k half size t₀ t pos₀ pos e z g =
     record {

@@ -113,9 +113,9 @@ module _ (ws ws₁ : List ℕ) (at b k size : ℕ) (l : E.Ext) (z : size ≡ 2 ^
     h1 = F .h1 ∙ faced-weighed 1 (omega arith);
   }
 
-pub weighed-rounds : (ws ws₁ ws₂ ws₃ pt pt' lg lg' : List ℕ) (ch : Source E.Ext) (at b k size : ℕ) (l n : E.Ext) (t : Turn) (pos pos' : Pos) → size ≡ 2 ^ k → 2 * b + 4 * size ≤ at → n ≡ minus E.nil l
-    → Weighed ws ws₁ b size l → SubRounds ws₁ ws₂ pt pt' lg lg' ch at b k size E.nil t pos pos' → Weighed ws₂ ws₃ b 1 n
-    → SubRounds ws ws₃ pt pt' lg lg' ch at b k size l t pos pos'
+pub weighed-rounds : (ws ws₁ ws₂ ws₃ pt pt' lg lg' : List ℕ) {ls ls' : List ℕ} (ch : Source E.Ext) (at b k size : ℕ) (l n : E.Ext) (t : Turn) (pos pos' : Pos) → size ≡ 2 ^ k → 2 * b + 4 * size ≤ at → n ≡ minus E.nil l
+    → Weighed ws ws₁ b size l → SubRounds ws₁ ws₂ pt pt' lg lg' ls ls' ch at b k size E.nil t pos pos' → Weighed ws₂ ws₃ b 1 n
+    → SubRounds ws ws₃ pt pt' lg lg' ls ls' ch at b k size l t pos pos'
 weighed-rounds ws ws₁ ws₂ ws₃ pt pt' lg lg' ch at b k size l n t pos pos' z u o w s v =
     let g = Table.weight ExtRing (cells pt 0 k) in
     let e : sends g ws₁ lg ch b k E.nil pos ≡ Sumcheck.send Extension (Drawing ch) k E.nil g (weighs l (claims ws b)) (logOf lg pos) =

@@ -35,8 +35,8 @@ abbrev pub told : (ws lg : List ℕ) (ch : Source E.Ext) (at b half : ℕ) (t : 
 told ws lg ch at b half t pos = Sumcheck.observe-cubic Extension (Drawing ch) (spoken ws at b half t) (logOf lg pos)
 
 -- the message is in the log, rho in the log and in cell i of the point, and the claims are folded at rho
-pub record SubRound (ws ws' pt pt' lg lg' : List ℕ) (ch : Source E.Ext) (at b half i : ℕ) (t : Turn) (pos pos' : Pos) : Type 0 where
-  pub steps : Steps lg lg' pos pos' 16 1 (Drawing ch .drawn (told ws lg ch at b half t pos))
+pub record SubRound (ws ws' pt pt' lg lg' ls ls' : List ℕ) (ch : Source E.Ext) (at b half i : ℕ) (t : Turn) (pos pos' : Pos) : Type 0 where
+  pub steps : Steps lg lg' ls ls' pos pos' 16 1 (Drawing ch .drawn (told ws lg ch at b half t pos))
   pub stored : Stored pt pt' i (ch (told ws lg ch at b half t pos))
   pub clean : Clean ws'
   pub nodes : (y : ℕ) → y < half → claims ws' b y ≡ RoundSum.folded ExtRing (claims ws b) (ch (told ws lg ch at b half t pos)) y
@@ -74,12 +74,12 @@ pub record Told (ws₀ ws pt₀ pt lg₀ lg : List ℕ) (ch : Source E.Ext) (at 
   pub log : sends (eqFrom t pt₀ j m) ws lg ch b m E.nil pos .log ≡ sends (Table.weight ExtRing (cells pt₀ 0 k)) ws₀ lg₀ ch b k E.nil pos₀ .log
 
 -- the loop, the levels below and the old point's later coordinates as before
-pub record Going (ws₀ ws pt₀ pt lg₀ lg : List ℕ) (ch : Source E.Ext) (at b j m k half size : ℕ) (t₀ t : Turn) (pos₀ pos : Pos) : Type 0 where
+pub record Going (ws₀ ws pt₀ pt lg₀ lg ls₀ ls : List ℕ) (ch : Source E.Ext) (at b j m k half size : ℕ) (t₀ t : Turn) (pos₀ pos : Pos) : Type 0 where
   pub clean : Clean ws
   pub points : Clean pt
   pub canon : CanonTurn t
   pub later : (i : ℕ) → j < i → cell pt i ≡ cell pt₀ i
-  pub steps : Steps lg₀ lg pos₀ pos (16 * j) j (logOf lg pos)
+  pub steps : Steps lg₀ lg ls₀ ls pos₀ pos (16 * j) j (logOf lg pos)
   pub kept : (i : ℕ) → 2 * b + 4 * size ≤ i → cell ws i ≡ cell ws₀ i
   pub run : Facing ws₀ pt₀ at b k (size / 2) E.nil t₀ → Told ws₀ ws pt₀ pt lg₀ lg ch at b j m k half t pos₀ pos
 
@@ -90,9 +90,9 @@ pub record Sent (ws ws' pt pt' lg lg' : List ℕ) (ch : Source E.Ext) (b k : ℕ
   pub log : logOf lg' pos' ≡ sends (Table.weight ExtRing (cells pt 0 k)) ws lg ch b k lambda pos .log
 
 -- all sub-rounds, the levels below as before
-pub record SubRounds (ws ws' pt pt' lg lg' : List ℕ) (ch : Source E.Ext) (at b k size : ℕ) (lambda : E.Ext) (t : Turn) (pos pos' : Pos) : Type 0 where
+pub record SubRounds (ws ws' pt pt' lg lg' ls ls' : List ℕ) (ch : Source E.Ext) (at b k size : ℕ) (lambda : E.Ext) (t : Turn) (pos pos' : Pos) : Type 0 where
   pub clean : Clean ws'
   pub points : Clean pt'
-  pub steps : Steps lg lg' pos pos' (16 * k) k (logOf lg' pos')
+  pub steps : Steps lg lg' ls ls' pos pos' (16 * k) k (logOf lg' pos')
   pub kept : (i : ℕ) → 2 * b + 4 * size ≤ i → cell ws' i ≡ cell ws i
   pub sent : Facing ws pt at b k (size / 2) lambda t → Sent ws ws' pt pt' lg lg' ch b k lambda pos pos'
