@@ -109,5 +109,5 @@ module _ (c : Call) (r : Rooms) where
             both (λ m. other BadWord i (λ z. omega arith)) (λ u6.
             both (λ m. other BadWord i (λ z. omega arith)) (λ u7.
             both (λ m. absurd (never m)) (λ u8.
-            each-end (λ f. f .answer ≡ Refused (ZeroDenominator i) → ⊥) (c .rows) (c .modes .«assert_zero») (c .challenges) (roundsOf count) (seven i))))))))));
+            each-end (λ f. f .answer ≡ Refused (ZeroDenominator i) → ⊥) (c .rows) (in-mode false c .modes) (c .challenges) (roundsOf count) (seven i))))))))));
       }
