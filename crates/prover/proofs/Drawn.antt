@@ -59,7 +59,7 @@ module _ (c : Call) (r : Rooms) where
   module _ (h : c .modes .drawn ≡ true) where
     -- none are too few, and none are taken
     plenty : (lent : List ℕ) → ltb (length lent) (need rounds) ≡ false
-    plenty lent = let e : need rounds ≡ 0 = pass _ _ _ h in le-ltb _ _ (omega arith)
+    plenty lent = let e : need rounds ≡ 0 = pass _ _ _ h in le-ltb (length lent) (need rounds) (omega arith)
 
     taken : (n : ℕ) (lent : List ℕ) → take (need n) lent ≡ []
     taken n lent = ap (λ k. take k lent) (pass _ _ _ h)
