@@ -1,10 +1,11 @@
--- The lanes' list tells the state: no second one has it.
+-- The lanes' list tells the state: no second one has it. A state read from a list is the one that has its values, and the one whose list it is.
 -- Assumes nothing.
-use mathlib.Core.Path.{_≡_, sym, _∙_}
+use mathlib.Core.Path.{_≡_, refl, sym, _∙_}
 use mathlib.Core.List.{List}
 use Prim.Native.Nat.{ℕ}
 use lib.ListN.{getD}
-use Rattle.keccak.specs.State.{asList}
+use Rattle.keccak.specs.Values.{values}
+use Rattle.keccak.specs.State.{asList, lanesOf}
 use Rattle.keccak.specs.declared.Lanes.{Lanes}
 
 pub lanes-unique : {s t : Lanes} {l : List ℕ} → asList s ≡ l → asList t ≡ l → s ≡ t
@@ -38,3 +39,9 @@ lanes-unique {s} {t} e f =
       a23 = getD (p i) 23 0;
       a24 = getD (p i) 24 0;
     }
+
+pub lanes-read : {s : Lanes} (ls : List ℕ) → asList s ≡ values (λ i. getD ls i 0) 0 25 → s ≡ lanesOf ls
+lanes-read ls e = lanes-unique e refl
+
+pub lanes-of-list : (s : Lanes) → lanesOf (asList s) ≡ s
+lanes-of-list s = refl

@@ -12,23 +12,23 @@ use Rattle.prover_rounds.specs.SubRounds.{SubRound, SubRounds}
 use Rattle.prover_rounds.specs.Layers.{Closed, OneLayer, AllLayers}
 
 module _ (ch : List ℕ) {u v : Bool} (e : u ≡ v) where
-  pub sub-round-alike : {ws ws' pt pt' lg lg' : List ℕ} {at b k half i : ℕ} {l : E.Ext} {pos pos' : Pos} → SubRound ws ws' pt pt' lg lg' (source u ch) at b k half i l pos pos'
-      → SubRound ws ws' pt pt' lg lg' (source v ch) at b k half i l pos pos'
-  sub-round-alike {ws} {ws'} {pt} {pt'} {lg} {lg'} {at} {b} {k} {half} {i} {l} {pos} {pos'} h =
-      subst (λ (d : Bool). SubRound ws ws' pt pt' lg lg' (source d ch) at b k half i l pos pos') e h
+  pub sub-round-alike : {ws ws' pt pt' lg lg' ls ls' : List ℕ} {at b k half i : ℕ} {l : E.Ext} {pos pos' : Pos} → SubRound ws ws' pt pt' lg lg' ls ls' (source u ch) at b k half i l pos pos'
+      → SubRound ws ws' pt pt' lg lg' ls ls' (source v ch) at b k half i l pos pos'
+  sub-round-alike {ws} {ws'} {pt} {pt'} {lg} {lg'} {ls} {ls'} {at} {b} {k} {half} {i} {l} {pos} {pos'} h =
+      subst (λ (d : Bool). SubRound ws ws' pt pt' lg lg' ls ls' (source d ch) at b k half i l pos pos') e h
 
-  pub sub-rounds-alike : {ws ws' pt pt' lg lg' : List ℕ} {at b k size : ℕ} {l : E.Ext} {pos pos' : Pos} → SubRounds ws ws' pt pt' lg lg' (source u ch) at b k size l pos pos'
-      → SubRounds ws ws' pt pt' lg lg' (source v ch) at b k size l pos pos'
-  sub-rounds-alike {ws} {ws'} {pt} {pt'} {lg} {lg'} {at} {b} {k} {size} {l} {pos} {pos'} h =
-      subst (λ (d : Bool). SubRounds ws ws' pt pt' lg lg' (source d ch) at b k size l pos pos') e h
+  pub sub-rounds-alike : {ws ws' pt pt' lg lg' ls ls' : List ℕ} {at b k size : ℕ} {l : E.Ext} {pos pos' : Pos} → SubRounds ws ws' pt pt' lg lg' ls ls' (source u ch) at b k size l pos pos'
+      → SubRounds ws ws' pt pt' lg lg' ls ls' (source v ch) at b k size l pos pos'
+  sub-rounds-alike {ws} {ws'} {pt} {pt'} {lg} {lg'} {ls} {ls'} {at} {b} {k} {size} {l} {pos} {pos'} h =
+      subst (λ (d : Bool). SubRounds ws ws' pt pt' lg lg' ls ls' (source d ch) at b k size l pos pos') e h
 
-  pub closed-alike : {ws pt pt' lg lg' : List ℕ} {b : ℕ} {pos pos' : Pos} → Closed ws pt pt' lg lg' (source u ch) b pos pos' → Closed ws pt pt' lg lg' (source v ch) b pos pos'
-  closed-alike {ws} {pt} {pt'} {lg} {lg'} {b} {pos} {pos'} h = subst (λ (d : Bool). Closed ws pt pt' lg lg' (source d ch) b pos pos') e h
+  pub closed-alike : {ws pt pt' lg lg' ls ls' : List ℕ} {b : ℕ} {pos pos' : Pos} → Closed ws pt pt' lg lg' ls ls' (source u ch) b pos pos' → Closed ws pt pt' lg lg' ls ls' (source v ch) b pos pos'
+  closed-alike {ws} {pt} {pt'} {lg} {lg'} {ls} {ls'} {b} {pos} {pos'} h = subst (λ (d : Bool). Closed ws pt pt' lg lg' ls ls' (source d ch) b pos pos') e h
 
-  pub one-layer-alike : {ws ws' pt pt' lg lg' : List ℕ} {at k size : ℕ} {pos pos' : Pos} → OneLayer ws ws' pt pt' lg lg' (source u ch) at k size pos pos'
-      → OneLayer ws ws' pt pt' lg lg' (source v ch) at k size pos pos'
-  one-layer-alike {ws} {ws'} {pt} {pt'} {lg} {lg'} {at} {k} {size} {pos} {pos'} h =
-      subst (λ (d : Bool). OneLayer ws ws' pt pt' lg lg' (source d ch) at k size pos pos') e h
+  pub one-layer-alike : {ws ws' pt pt' lg lg' ls ls' : List ℕ} {at k size : ℕ} {pos pos' : Pos} → OneLayer ws ws' pt pt' lg lg' ls ls' (source u ch) at k size pos pos'
+      → OneLayer ws ws' pt pt' lg lg' ls ls' (source v ch) at k size pos pos'
+  one-layer-alike {ws} {ws'} {pt} {pt'} {lg} {lg'} {ls} {ls'} {at} {k} {size} {pos} {pos'} h =
+      subst (λ (d : Bool). OneLayer ws ws' pt pt' lg lg' ls ls' (source d ch) at k size pos pos') e h
 
   pub all-layers-alike : {f : ℕ → Frac E.Ext} {pt pt' lg lg' : List ℕ} {n g : ℕ} {pos pos' : Pos} → AllLayers f pt pt' lg lg' (source u ch) n g pos pos' → AllLayers f pt pt' lg lg' (source v ch) n g pos pos'
   all-layers-alike {f} {pt} {pt'} {lg} {lg'} {n} {g} {pos} {pos'} h = subst (λ (d : Bool). AllLayers f pt pt' lg lg' (source d ch) n g pos pos') e h

@@ -38,15 +38,15 @@ use Rattle.prover_rounds.specs.Layers.{observedFrac, observedClaims, Clo
 abbrev obs : E.Ext → Words → Words
 obs x t = Observing .observe x t
 
-pub node-observed : (l l₁ l₂ : List ℕ) (p p₁ p₂ : Pos) (f : FracW) → Steps l l₁ p p₁ 4 0 (obs (dec (f .p)) (logOf l p))
-    → Steps l₁ l₂ p₁ p₂ 4 0 (obs (dec (f .q)) (logOf l₁ p₁)) → Steps l l₂ p p₂ 8 0 (observedFrac (decFrac f) (logOf l p))
+pub node-observed : (l l₁ l₂ : List ℕ) {ls ls₁ ls₂ : List ℕ} (p p₁ p₂ : Pos) (f : FracW) → Steps l l₁ ls ls₁ p p₁ 4 0 (obs (dec (f .p)) (logOf l p))
+    → Steps l₁ l₂ ls₁ ls₂ p₁ p₂ 4 0 (obs (dec (f .q)) (logOf l₁ p₁)) → Steps l l₂ ls ls₂ p p₂ 8 0 (observedFrac (decFrac f) (logOf l p))
 node-observed l l₁ l₂ p p₁ p₂ f a b =
     then l l₁ l₂ p p₁ p₂ 4 0 4 0 _ _ a (retold l₁ l₂ p₁ p₂ 4 0 4 0 _ _ refl refl (ap (obs (dec (f .q))) (a .log)) b)
 
-pub layer-closed : (ws pt pt' lg lg₁ lg₂ lg₃ : List ℕ) (ch : Source E.Ext) (b : ℕ) (pos p q : Pos) (d : Drawn) (fa fb : FracW) → IsFrac fa (node ws b) → IsFrac fb (node ws (b + 1))
-    → Steps lg lg₁ pos p 8 0 (observedFrac (decFrac fa) (logOf lg pos)) → Steps lg₁ lg₂ p q 8 0 (observedFrac (decFrac fb) (logOf lg₁ p))
-    → Steps lg₂ lg₃ q (d .pos) 4 1 (Drawing ch .drawn (logOf lg₂ q)) → Is (d .x) (ch (logOf lg₂ q)) → Stored pt pt' 0 (dec (d .x))
-    → Closed ws pt pt' lg lg₃ ch b pos (d .pos)
+pub layer-closed : (ws pt pt' lg lg₁ lg₂ lg₃ : List ℕ) {ls ls₁ ls₂ ls₃ : List ℕ} (ch : Source E.Ext) (b : ℕ) (pos p q : Pos) (d : Drawn) (fa fb : FracW) → IsFrac fa (node ws b) → IsFrac fb (node ws (b + 1))
+    → Steps lg lg₁ ls ls₁ pos p 8 0 (observedFrac (decFrac fa) (logOf lg pos)) → Steps lg₁ lg₂ ls₁ ls₂ p q 8 0 (observedFrac (decFrac fb) (logOf lg₁ p))
+    → Steps lg₂ lg₃ ls₂ ls₃ q (d .pos) 4 1 (Drawing ch .drawn (logOf lg₂ q)) → Is (d .x) (ch (logOf lg₂ q)) → Stored pt pt' 0 (dec (d .x))
+    → Closed ws pt pt' lg lg₃ ls ls₃ ch b pos (d .pos)
 layer-closed ws pt pt' lg lg₁ lg₂ lg₃ ch b pos p q d fa fb ha hb s₁ s₂ s₃ v st =
     let e : logOf lg₂ q ≡ observedClaims (claims ws b 0) (logOf lg pos) =
     s₂ .log ∙ ap₂ observedFrac (frac-path hb) (s₁ .log ∙ ap (λ f. observedFrac f (logOf lg pos)) (frac-path ha ∙ ap (node ws) (sym (add-zero b)))) in
@@ -55,12 +55,12 @@ layer-closed ws pt pt' lg lg₁ lg₂ lg₃ ch b pos p q d fa fb ha hb s₁ s₂
       stored = subst (Stored pt pt' 0) (v .value ∙ ap ch e) st;
     }
 
-pub one-layer : (ws ws₁ ws₂ pt pt₁ pt₂ lg lg₁ lg₂ lg₃ : List ℕ) (ch : Source E.Ext) (at k size : ℕ) (pos p pos' : Pos) (d : Drawn) → size ≡ 2 ^ k → 8 * size ≤ at
-    → Steps lg lg₁ pos (d .pos) 4 1 (Drawing ch .drawn (logOf lg pos)) → Is (d .x) (ch (logOf lg pos))
+pub one-layer : (ws ws₁ ws₂ pt pt₁ pt₂ lg lg₁ lg₂ lg₃ : List ℕ) {ls ls₁ ls₂ ls₃ : List ℕ} (ch : Source E.Ext) (at k size : ℕ) (pos p pos' : Pos) (d : Drawn) → size ≡ 2 ^ k → 8 * size ≤ at
+    → Steps lg lg₁ ls ls₁ pos (d .pos) 4 1 (Drawing ch .drawn (logOf lg pos)) → Is (d .x) (ch (logOf lg pos))
     → Filled ws ws₁ at size (Table.weight ExtRing (cells pt 0 k))
-    → SubRounds ws₁ ws₂ pt pt₁ lg₁ lg₂ ch at (2 * size) k size (dec (d .x)) (d .pos) p
-    → Closed ws₂ pt₁ pt₂ lg₂ lg₃ ch (2 * size) p pos'
-    → OneLayer ws ws₂ pt pt₂ lg lg₃ ch at k size pos pos'
+    → SubRounds ws₁ ws₂ pt pt₁ lg₁ lg₂ ls₁ ls₂ ch at (2 * size) k size (dec (d .x)) (d .pos) p
+    → Closed ws₂ pt₁ pt₂ lg₂ lg₃ ls₂ ls₃ ch (2 * size) p pos'
+    → OneLayer ws ws₂ pt pt₂ lg lg₃ ls ls₃ ch at k size pos pos'
 one-layer ws ws₁ ws₂ pt pt₁ pt₂ lg lg₁ lg₂ lg₃ ch at k size pos p pos' d e u s₁ v f L C =
     let b = 2 * size in
     let P = layerSends ws pt lg ch b k pos in
@@ -88,8 +88,8 @@ pow-le d n h = pow-le-pow-right (le-by-compare 1 2 tt) h
 
 -- THE LAYERS IN TURN
 module _ (f : ℕ → Frac E.Ext) (ws ws' pt₀ pt pt' lg₀ lg lg' : List ℕ) (ch : Source E.Ext) (at n r h g size : ℕ) (pos₀ pos pos' : Pos) where
-  pub running-next : size ≡ 2 ^ r → r + suc h ≡ n → 4 * 2 ^ n ≤ at → Running f ws pt₀ pt lg₀ lg ch n r (suc h) g pos₀ pos
-      → OneLayer ws ws' pt pt' lg lg' ch at r size pos pos' → Running f ws' pt₀ pt' lg₀ lg' ch n (r + 1) h g pos₀ pos'
+  pub running-next : {ls ls' : List ℕ} → size ≡ 2 ^ r → r + suc h ≡ n → 4 * 2 ^ n ≤ at → Running f ws pt₀ pt lg₀ lg ch n r (suc h) g pos₀ pos
+      → OneLayer ws ws' pt pt' lg lg' ls ls' ch at r size pos pos' → Running f ws' pt₀ pt' lg₀ lg' ch n (r + 1) h g pos₀ pos'
   unfolding Gkr.send
   running-next e q u R L =
       let z = cells pt 0 r in
@@ -148,7 +148,7 @@ used-room r n h =
     let e : n - suc r + suc r ≡ n = omega arith in
     subst (λ k. usedUpTo (suc r) ≤ usedUpTo k) e (grows usedUpTo (λ r. omega arith) (suc r) (n - suc r))
 
-pub midway-none : (ws pt lg : List ℕ) (ch : Source E.Ext) (n : ℕ) (pos : Pos) → 1 ≤ n → Clean ws → Clean pt → Midway ws ws pt pt lg lg ch n 1 pos pos
+pub midway-none : (ws pt lg : List ℕ) {ls : List ℕ} (ch : Source E.Ext) (n : ℕ) (pos : Pos) → 1 ≤ n → Clean ws → Clean pt → Midway ws ws pt pt lg lg ls ls ch n 1 pos pos
 midway-none ws pt lg ch n pos h c d = record {
   from = omega arith;
   upto = h;
@@ -166,8 +166,8 @@ midway-none ws pt lg ch n pos h c d = record {
   };
 }
 
-pub midway-next : (ws₀ ws ws' pt₀ pt pt' lg₀ lg lg' : List ℕ) (ch : Source E.Ext) (at n r size : ℕ) (pos₀ pos pos' : Pos) → size ≡ 2 ^ r → r < n → 4 * 2 ^ n ≤ at
-    → Midway ws₀ ws pt₀ pt lg₀ lg ch n r pos₀ pos → OneLayer ws ws' pt pt' lg lg' ch at r size pos pos' → Midway ws₀ ws' pt₀ pt' lg₀ lg' ch n (r + 1) pos₀ pos'
+pub midway-next : (ws₀ ws ws' pt₀ pt pt' lg₀ lg lg' : List ℕ) {ls₀ ls ls' : List ℕ} (ch : Source E.Ext) (at n r size : ℕ) (pos₀ pos pos' : Pos) → size ≡ 2 ^ r → r < n → 4 * 2 ^ n ≤ at
+    → Midway ws₀ ws pt₀ pt lg₀ lg ls₀ ls ch n r pos₀ pos → OneLayer ws ws' pt pt' lg lg' ls ls' ch at r size pos pos' → Midway ws₀ ws' pt₀ pt' lg₀ lg' ls₀ ls' ch n (r + 1) pos₀ pos'
 midway-next ws₀ ws ws' pt₀ pt pt' lg₀ lg lg' ch at n r size pos₀ pos pos' e l u M L =
     let p = L .steps .put in
     let q = M .put in
@@ -190,7 +190,7 @@ midway-next ws₀ ws ws' pt₀ pt pt' lg₀ lg lg' ch at n r size pos₀ pos pos
           running-next f ws ws' pt₀ pt pt' lg₀ lg lg' ch at n r m g size pos₀ pos pos' e (omega arith) u (subst (λ h. Running f ws pt₀ pt lg₀ lg ch n r h g pos₀ pos) z (M .run f g en Lv)) L;
     }
 
-pub midway-end : (ws₀ ws pt₀ pt lg₀ lg : List ℕ) (ch : Source E.Ext) (n r : ℕ) (pos₀ pos : Pos) → n ≤ r → Midway ws₀ ws pt₀ pt lg₀ lg ch n r pos₀ pos
+pub midway-end : (ws₀ ws pt₀ pt lg₀ lg : List ℕ) {ls₀ ls : List ℕ} (ch : Source E.Ext) (n r : ℕ) (pos₀ pos : Pos) → n ≤ r → Midway ws₀ ws pt₀ pt lg₀ lg ls₀ ls ch n r pos₀ pos
     → (f : ℕ → Frac E.Ext) (g : ℕ) → n ≡ suc g → Levels f ws₀ n 1 → AllLayers f pt₀ pt lg₀ lg ch n g pos₀ pos
 unfolding Gkr.send
 midway-end ws₀ ws pt₀ pt lg₀ lg ch n r pos₀ pos h M f g e L =

@@ -30,8 +30,8 @@ use Rattle.prover_rounds.specs.SubRounds.{observedThree, told, SubRound,
 abbrev obs : E.Ext → Words → Words
 obs x t = Observing .observe x t
 
-pub three-observed : (l l₁ l₂ l₃ : List ℕ) (p p₁ p₂ p₃ : Pos) (m : Three) → Steps l l₁ p p₁ 4 0 (obs (dec (m .s1)) (logOf l p))
-    → Steps l₁ l₂ p₁ p₂ 4 0 (obs (dec (m .s2)) (logOf l₁ p₁)) → Steps l₂ l₃ p₂ p₃ 4 0 (obs (dec (m .s3)) (logOf l₂ p₂)) → Steps l l₃ p p₃ 12 0 (observedThree m (logOf l p))
+pub three-observed : (l l₁ l₂ l₃ : List ℕ) {ls ls₁ ls₂ ls₃ : List ℕ} (p p₁ p₂ p₃ : Pos) (m : Three) → Steps l l₁ ls ls₁ p p₁ 4 0 (obs (dec (m .s1)) (logOf l p))
+    → Steps l₁ l₂ ls₁ ls₂ p₁ p₂ 4 0 (obs (dec (m .s2)) (logOf l₁ p₁)) → Steps l₂ l₃ ls₂ ls₃ p₂ p₃ 4 0 (obs (dec (m .s3)) (logOf l₂ p₂)) → Steps l l₃ ls ls₃ p p₃ 12 0 (observedThree m (logOf l p))
 three-observed l l₁ l₂ l₃ p p₁ p₂ p₃ m a b c =
     let b' = retold l₁ l₂ p₁ p₂ 4 0 4 0 _ _ refl refl (ap (obs (dec (m .s2))) (a .log)) b in
     let c' = retold l₂ l₃ p₂ p₃ 4 0 4 0 _ _ refl refl (ap (obs (dec (m .s3))) (b' .log)) c in
@@ -42,10 +42,10 @@ s-is : (ws : List ℕ) (at b k half : ℕ) (l x v : E.Ext) → half ≡ 2 ^ k �
 unfolding RoundSum.s RoundSum.total
 s-is ws at b k half l x v e h = h ∙ ap (λ n. Table.sum ExtRing n (summand ws at b l x)) e
 
-pub sub-done : (ws ws' pt pt' lg lg₁ lg₂ : List ℕ) (ch : Source E.Ext) (at b k half i : ℕ) (l : E.Ext) (pos p : Pos) (d : Drawn) (m : Three) → half ≡ 2 ^ k
+pub sub-done : (ws ws' pt pt' lg lg₁ lg₂ : List ℕ) {ls ls₁ ls₂ : List ℕ} (ch : Source E.Ext) (at b k half i : ℕ) (l : E.Ext) (pos p : Pos) (d : Drawn) (m : Three) → half ≡ 2 ^ k
     → IsThree m (Table.sum ExtRing half (summand ws at b l E.one)) (Table.sum ExtRing half (summand ws at b l two)) (Table.sum ExtRing half (summand ws at b l three))
-    → Steps lg lg₁ pos p 12 0 (observedThree m (logOf lg pos)) → Steps lg₁ lg₂ p (d .pos) 4 1 (Drawing ch .drawn (logOf lg₁ p)) → Is (d .x) (ch (logOf lg₁ p))
-    → Stored pt pt' i (dec (d .x)) → Folded ws ws' at b half (dec (d .x)) → SubRound ws ws' pt pt' lg lg₂ ch at b k half i l pos (d .pos)
+    → Steps lg lg₁ ls ls₁ pos p 12 0 (observedThree m (logOf lg pos)) → Steps lg₁ lg₂ ls₁ ls₂ p (d .pos) 4 1 (Drawing ch .drawn (logOf lg₁ p)) → Is (d .x) (ch (logOf lg₁ p))
+    → Stored pt pt' i (dec (d .x)) → Folded ws ws' at b half (dec (d .x)) → SubRound ws ws' pt pt' lg lg₂ ls ls₂ ch at b k half i l pos (d .pos)
 sub-done ws ws' pt pt' lg lg₁ lg₂ ch at b k half i l pos p d m e t a c v s f =
     let W : Cubic E.Ext = record { at1 = dec (m .s1); at2 = dec (m .s2); at3 = dec (m .s3) } in
     let M : W ≡ Sumcheck.message Extension (Drawing ch) k l (eqs ws at) (claims ws b) = (λ i. record {
@@ -62,7 +62,7 @@ sub-done ws ws' pt pt' lg lg₁ lg₂ ch at b k half i l pos p d m e t a c v s f
     }
 
 -- THE LOOP
-pub going-none : (ws pt lg : List ℕ) (ch : Source E.Ext) (at b m k size : ℕ) (l : E.Ext) (pos : Pos) → m ≡ k → Clean ws → Clean pt → Going ws ws pt pt lg lg ch at b 0 m k size l pos pos
+pub going-none : (ws pt lg : List ℕ) {ls : List ℕ} (ch : Source E.Ext) (at b m k size : ℕ) (l : E.Ext) (pos : Pos) → m ≡ k → Clean ws → Clean pt → Going ws ws pt pt lg lg ls ls ch at b 0 m k size l pos pos
 going-none ws pt lg ch at b m k size l pos e h q =
     let p : sends ws lg ch at b m l pos ≡ sends ws lg ch at b k l pos = ap (λ m. sends ws lg ch at b m l pos) e in
     record {
@@ -77,8 +77,8 @@ going-none ws pt lg ch at b m k size l pos e h q =
     }
 
 module _ (ws₀ ws ws' pt₀ pt pt' lg₀ lg lg' : List ℕ) (ch : Source E.Ext) (at b j m k half size : ℕ) (l : E.Ext) (pos₀ pos pos' : Pos) where
-  pub going-next : half ≡ 2 ^ m → half ≤ size → Going ws₀ ws pt₀ pt lg₀ lg ch at b j (suc m) k size l pos₀ pos
-      → SubRound ws ws' pt pt' lg lg' ch at b m half (j + 1) l pos pos' → Going ws₀ ws' pt₀ pt' lg₀ lg' ch at b (j + 1) m k size l pos₀ pos'
+  pub going-next : {ls₀ ls ls' : List ℕ} → half ≡ 2 ^ m → half ≤ size → Going ws₀ ws pt₀ pt lg₀ lg ls₀ ls ch at b j (suc m) k size l pos₀ pos
+      → SubRound ws ws' pt pt' lg lg' ls ls' ch at b m half (j + 1) l pos pos' → Going ws₀ ws' pt₀ pt' lg₀ lg' ls₀ ls' ch at b (j + 1) m k size l pos₀ pos'
   unfolding Sumcheck.send
   going-next e u g s =
       let t₁ = told ws lg ch at b m l pos in
@@ -103,8 +103,8 @@ module _ (ws₀ ws ws' pt₀ pt pt' lg₀ lg lg' : List ℕ) (ch : Source E.Ext)
         kept = λ i a c. s .folded .mid i (omega arith) c ∙ g .kept i a c;
       }
 
-pub going-end : (ws₀ ws pt₀ pt lg₀ lg : List ℕ) (ch : Source E.Ext) (at b j m k size : ℕ) (l : E.Ext) (pos₀ pos : Pos) → j ≡ k → m ≡ 0
-    → Going ws₀ ws pt₀ pt lg₀ lg ch at b j m k size l pos₀ pos → SubRounds ws₀ ws pt₀ pt lg₀ lg ch at b k size l pos₀ pos
+pub going-end : (ws₀ ws pt₀ pt lg₀ lg : List ℕ) {ls₀ ls : List ℕ} (ch : Source E.Ext) (at b j m k size : ℕ) (l : E.Ext) (pos₀ pos : Pos) → j ≡ k → m ≡ 0
+    → Going ws₀ ws pt₀ pt lg₀ lg ls₀ ls ch at b j m k size l pos₀ pos → SubRounds ws₀ ws pt₀ pt lg₀ lg ls₀ ls ch at b k size l pos₀ pos
 unfolding Sumcheck.send
 going-end ws₀ ws pt₀ pt lg₀ lg ch at b j m k size l pos₀ pos e z g =
     let none : sends ws lg ch at b m l pos ≡ record { polys = []; point = []; last = claims ws b 0; log = logOf lg pos } = ap (λ m. sends ws lg ch at b m l pos) z in

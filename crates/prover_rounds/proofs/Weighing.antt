@@ -95,9 +95,9 @@ weigh-back l n c e = λ i. record {
 }
 
 -- weighed before, taken back after
-pub weighed-rounds : (ws ws₁ ws₂ ws₃ pt pt' lg lg' : List ℕ) (ch : Source E.Ext) (at b k size : ℕ) (l n : E.Ext) (pos pos' : Pos) → size ≡ 2 ^ k → 2 * b + 4 * size ≤ at → n ≡ minus E.nil l
-    → Weighed ws ws₁ b size l → SubRounds ws₁ ws₂ pt pt' lg lg' ch at b k size E.nil pos pos' → Weighed ws₂ ws₃ b 1 n
-    → SubRounds ws ws₃ pt pt' lg lg' ch at b k size l pos pos'
+pub weighed-rounds : (ws ws₁ ws₂ ws₃ pt pt' lg lg' : List ℕ) {ls ls' : List ℕ} (ch : Source E.Ext) (at b k size : ℕ) (l n : E.Ext) (pos pos' : Pos) → size ≡ 2 ^ k → 2 * b + 4 * size ≤ at → n ≡ minus E.nil l
+    → Weighed ws ws₁ b size l → SubRounds ws₁ ws₂ pt pt' lg lg' ls ls' ch at b k size E.nil pos pos' → Weighed ws₂ ws₃ b 1 n
+    → SubRounds ws ws₃ pt pt' lg lg' ls ls' ch at b k size l pos pos'
 weighed-rounds ws ws₁ ws₂ ws₃ pt pt' lg lg' ch at b k size l n pos pos' z u o w s v =
     let e : sends ws₁ lg ch at b k E.nil pos ≡ Sumcheck.send Extension (Drawing ch) k E.nil (eqs ws at) (weighs l (claims ws b)) (logOf lg pos) =
     send-same Extension (Drawing ch) k E.nil (eqs ws₁ at) (eqs ws at) (claims ws₁ b) (weighs l (claims ws b)) (logOf lg pos)

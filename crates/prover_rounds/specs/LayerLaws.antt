@@ -1,4 +1,4 @@
--- No second answer fits the end of a round, or all of them, but for the sponge of the position.
+-- No second answer fits the end of a round, or all of them, but for the sponge.
 -- Assumes nothing.
 use mathlib.Core.Path.{_≡_, sym, _∙_}
 use mathlib.Core.List.{List}
@@ -13,7 +13,7 @@ use Rattle.transcript.specs.declared.Pos.{Pos}
 use Rattle.transcript.specs.LogLaws.{SamePos, log-unique, steps-unique}
 use Rattle.prover_rounds.specs.Layers.{Closed, AllLayers}
 
-pub closed-unique : {ws pt pt' pt″ lg lg' lg″ : List ℕ} {ch : Source E.Ext} {b : ℕ} {pos r s : Pos} → Closed ws pt pt' lg lg' ch b pos r → Closed ws pt pt″ lg lg″ ch b pos s → SamePos r s × (pt' ≡ pt″) × (lg' ≡ lg″)
+pub closed-unique : {ws pt pt' pt″ lg lg' lg″ ls ls' ls″ : List ℕ} {ch : Source E.Ext} {b : ℕ} {pos r s : Pos} → Closed ws pt pt' lg lg' ls ls' ch b pos r → Closed ws pt pt″ lg lg″ ls ls″ ch b pos s → SamePos r s × (pt' ≡ pt″) × (lg' ≡ lg″)
 closed-unique h k = let e = steps-unique (h .steps) (k .steps) in (e .0, stored-unique (h .stored) (k .stored), e .1)
 
 -- all layers over the rows f: where the run stands, the point and the log

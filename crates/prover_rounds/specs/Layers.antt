@@ -28,8 +28,8 @@ abbrev pub observedClaims : Claims E.Ext → Words → Words
 observedClaims c t = Gkr.observe-layer-claims Extension Observing c t
 
 -- the end of a layer: the claims in the log, the challenge in the log and in cell 0 of the point
-pub record Closed (ws pt pt' lg lg' : List ℕ) (ch : Source E.Ext) (b : ℕ) (pos pos' : Pos) : Type 0 where
-  pub steps : Steps lg lg' pos pos' 20 1 (Drawing ch .drawn (observedClaims (claims ws b 0) (logOf lg pos)))
+pub record Closed (ws pt pt' lg lg' ls ls' : List ℕ) (ch : Source E.Ext) (b : ℕ) (pos pos' : Pos) : Type 0 where
+  pub steps : Steps lg lg' ls ls' pos pos' 20 1 (Drawing ch .drawn (observedClaims (claims ws b 0) (logOf lg pos)))
   pub stored : Stored pt pt' 0 (ch (observedClaims (claims ws b 0) (logOf lg pos)))
 
 -- what a layer of 2^k entries sends, from the old point and the claims on the nodes from b on
@@ -40,11 +40,11 @@ layerSends ws pt lg ch b k pos =
 abbrev pub layerTold : (ws pt lg : List ℕ) (ch : Source E.Ext) (b k : ℕ) (pos : Pos) → Words
 layerTold ws pt lg ch b k pos = let P = layerSends ws pt lg ch b k pos in Gkr.observe-layer-claims Extension (Drawing ch) (P .last) (P .log)
 
-pub record OneLayer (ws ws' pt pt' lg lg' : List ℕ) (ch : Source E.Ext) (at k size : ℕ) (pos pos' : Pos) : Type 0 where
+pub record OneLayer (ws ws' pt pt' lg lg' ls ls' : List ℕ) (ch : Source E.Ext) (at k size : ℕ) (pos pos' : Pos) : Type 0 where
   pub clean : Clean ws'
   pub points : Clean pt'
   pub point : cells pt' 0 (suc k) ≡ ch (layerTold ws pt lg ch (2 * size) k pos) ∷ layerSends ws pt lg ch (2 * size) k pos .point
-  pub steps : Steps lg lg' pos pos' (16 * k + 24) (k + 2) (Drawing ch .drawn (layerTold ws pt lg ch (2 * size) k pos))
+  pub steps : Steps lg lg' ls ls' pos pos' (16 * k + 24) (k + 2) (Drawing ch .drawn (layerTold ws pt lg ch (2 * size) k pos))
   pub kept : (i : ℕ) → 8 * size ≤ i → i < at → cell ws' i ≡ cell ws i
 
 -- the levels below level r are the model's tree over the rows f
@@ -77,7 +77,7 @@ pub record AllLayers (f : ℕ → Frac E.Ext) (pt pt' lg lg' : List ℕ) (ch : S
   pub drawn : pos' .drawn ≡ pos .drawn
 
 -- the loop over the layers before layer r
-pub record Midway (ws₀ ws pt₀ pt lg₀ lg : List ℕ) (ch : Source E.Ext) (n r : ℕ) (pos₀ pos : Pos) : Type 0 where
+pub record Midway (ws₀ ws pt₀ pt lg₀ lg ls₀ ls : List ℕ) (ch : Source E.Ext) (n r : ℕ) (pos₀ pos : Pos) : Type 0 where
   pub from : 1 ≤ r
   pub upto : r ≤ n
   pub clean : Clean ws
@@ -86,5 +86,5 @@ pub record Midway (ws₀ ws pt₀ pt lg₀ lg : List ℕ) (ch : Source E.Ext) (n
   pub used : pos .used + usedUpTo 1 ≡ pos₀ .used + usedUpTo r
   pub drawn : pos .drawn ≡ pos₀ .drawn
   pub rest : drop (pos .put) lg ≡ drop (pos .put) lg₀
-  pub enough : (buffer : List ℕ) → Enough lg₀ buffer pos₀ (usedUpTo n - usedUpTo 1) → Enough lg buffer pos (usedUpTo n - usedUpTo r)
+  pub enough : (buffer : List ℕ) → Enough lg₀ ls₀ buffer pos₀ (usedUpTo n - usedUpTo 1) → Enough lg ls buffer pos (usedUpTo n - usedUpTo r)
   pub run : (f : ℕ → Frac E.Ext) (g : ℕ) → n ≡ suc g → Levels f ws₀ n 1 → Running f ws pt₀ pt lg₀ lg ch n r (n - r) g pos₀ pos

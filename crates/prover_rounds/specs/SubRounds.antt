@@ -22,8 +22,8 @@ abbrev pub told : (ws lg : List ℕ) (ch : Source E.Ext) (at b k : ℕ) (lambda 
 told ws lg ch at b k lambda pos = Sumcheck.observe-cubic Extension (Drawing ch) (Sumcheck.message Extension (Drawing ch) k lambda (eqs ws at) (claims ws b)) (logOf lg pos)
 
 -- one sub-round: the message is in the log, rho in the log and in cell i of the point, and the columns are folded at rho
-pub record SubRound (ws ws' pt pt' lg lg' : List ℕ) (ch : Source E.Ext) (at b k half i : ℕ) (lambda : E.Ext) (pos pos' : Pos) : Type 0 where
-  pub steps : Steps lg lg' pos pos' 16 1 (Drawing ch .drawn (told ws lg ch at b k lambda pos))
+pub record SubRound (ws ws' pt pt' lg lg' ls ls' : List ℕ) (ch : Source E.Ext) (at b k half i : ℕ) (lambda : E.Ext) (pos pos' : Pos) : Type 0 where
+  pub steps : Steps lg lg' ls ls' pos pos' 16 1 (Drawing ch .drawn (told ws lg ch at b k lambda pos))
   pub stored : Stored pt pt' i (ch (told ws lg ch at b k lambda pos))
   pub folded : Folded ws ws' at b half (ch (told ws lg ch at b k lambda pos))
 
@@ -32,22 +32,22 @@ abbrev pub sends : (ws lg : List ℕ) (ch : Source E.Ext) (at b k : ℕ) (lambda
 sends ws lg ch at b k lambda pos = Sumcheck.send Extension (Drawing ch) k lambda (eqs ws at) (claims ws b) (logOf lg pos)
 
 -- After j of the k sub-rounds, with m still to come: what is there and what the model still sends make up what it sends from the start, and the levels below are as before.
-pub record Going (ws₀ ws pt₀ pt lg₀ lg : List ℕ) (ch : Source E.Ext) (at b j m k size : ℕ) (lambda : E.Ext) (pos₀ pos : Pos) : Type 0 where
+pub record Going (ws₀ ws pt₀ pt lg₀ lg ls₀ ls : List ℕ) (ch : Source E.Ext) (at b j m k size : ℕ) (lambda : E.Ext) (pos₀ pos : Pos) : Type 0 where
   pub clean : Clean ws
   pub points : Clean pt
   pub first : cell pt 0 ≡ cell pt₀ 0
   pub point : cells pt 1 j ++ sends ws lg ch at b m lambda pos .point ≡ sends ws₀ lg₀ ch at b k lambda pos₀ .point
   pub last : sends ws lg ch at b m lambda pos .last ≡ sends ws₀ lg₀ ch at b k lambda pos₀ .last
   pub log : sends ws lg ch at b m lambda pos .log ≡ sends ws₀ lg₀ ch at b k lambda pos₀ .log
-  pub steps : Steps lg₀ lg pos₀ pos (16 * j) j (logOf lg pos)
+  pub steps : Steps lg₀ lg ls₀ ls pos₀ pos (16 * j) j (logOf lg pos)
   pub kept : (i : ℕ) → 2 * b + 4 * size ≤ i → i < at → cell ws i ≡ cell ws₀ i
 
 -- all sub-rounds: the model's rhos, last claims and log, and the levels below as before
-pub record SubRounds (ws ws' pt pt' lg lg' : List ℕ) (ch : Source E.Ext) (at b k size : ℕ) (lambda : E.Ext) (pos pos' : Pos) : Type 0 where
+pub record SubRounds (ws ws' pt pt' lg lg' ls ls' : List ℕ) (ch : Source E.Ext) (at b k size : ℕ) (lambda : E.Ext) (pos pos' : Pos) : Type 0 where
   pub clean : Clean ws'
   pub points : Clean pt'
   pub first : cell pt' 0 ≡ cell pt 0
   pub point : cells pt' 1 k ≡ sends ws lg ch at b k lambda pos .point
   pub last : claims ws' b 0 ≡ sends ws lg ch at b k lambda pos .last
-  pub steps : Steps lg lg' pos pos' (16 * k) k (sends ws lg ch at b k lambda pos .log)
+  pub steps : Steps lg lg' ls ls' pos pos' (16 * k) k (sends ws lg ch at b k lambda pos .log)
   pub kept : (i : ℕ) → 2 * b + 4 * size ≤ i → i < at → cell ws' i ≡ cell ws i

@@ -1,5 +1,6 @@
 // The GKR rounds over lent buffers: the tree and the eq table in one workspace, the point, the log and the challenges.
 ghost use mathlib.Core.Path.{_≡_};
+ghost use mathlib.Core.List.{List};
 ghost use Prim.Native.Nat.{ℕ, suc, _+_, _*_, _-_, _^_, _<_, _≤_};
 ghost use lib.ListN.{length, drop};
 ghost use Rattle.field.specs.Ext as E;
@@ -20,7 +21,7 @@ use transcript::Pos;
 fn observe_round_poly(log: &mut [u32], pos: Pos, s: Three) -> Pos
     requires room { ⌜ pos .put + 12 ≤ length (now log) ⌝ }
     requires canon { ⌜ CanonThree s ⌝ }
-    ensures { λ r. ⌜ Steps (now (log .entry)) (now (log .exit)) pos r 12 0 (observedThree s (logOf (now (log .entry)) pos)) ⌝ }
+    ensures { λ r. ⌜ ((ls : List ℕ) → Steps (now (log .entry)) (now (log .exit)) ls ls pos r 12 0 (observedThree s (logOf (now (log .entry)) pos))) ⌝ }
 {
     let a = transcript::observe_ext(log, pos, s.s1);
     let b = transcript::observe_ext(log, a, s.s2);
@@ -36,19 +37,20 @@ fn sub_round(
     xi: &mut [u32],
     i: usize,
     log: &mut [u32],
+    lanes: &mut [u64; 25],
     challenges: &[u32],
     pos: Pos,
 ) -> Pos
     requires layer { ⌜ (2 * pq + 8 * half ≤ eq) × (4 * (eq + 2 * half) ≤ length (now work)) ⌝ }
-    requires room { ⌜ (4 * i + 3 < length (now xi)) × (pos .put + 16 ≤ length (now log)) × Enough (now log) (now challenges) pos 1 ⌝ }
+    requires room { ⌜ (4 * i + 3 < length (now xi)) × (pos .put + 16 ≤ length (now log)) × Enough (now log) (now lanes) (now challenges) pos 1 ⌝ }
     requires clean { ⌜ Clean (now work) × Clean (now xi) ⌝ }
     ensures { λ r. ⌜ ((k : ℕ) → half ≡ 2 ^ k →
-        SubRound (now (work .entry)) (now (work .exit)) (now (xi .entry)) (now (xi .exit)) (now (log .entry)) (now (log .exit))
+        SubRound (now (work .entry)) (now (work .exit)) (now (xi .entry)) (now (xi .exit)) (now (log .entry)) (now (log .exit)) (now (lanes .entry)) (now (lanes .exit))
         (source (pos .drawn) (now (challenges .entry))) eq pq k half i E.nil pos r) ⌝ }
 {
     let s = prover_layer::sumcheck_round_poly_evals(work, eq, pq, half);
     let p = observe_round_poly(log, pos, s);
-    let d = transcript::sample_ext(log, challenges, p);
+    let d = transcript::sample_ext(log, lanes, challenges, p);
     let rho = d.x;
     field::store(xi, i, rho);
     prover_layer::fold_mle_evals(work, eq, pq, half, rho);
@@ -64,21 +66,22 @@ fn weighed_sub_rounds(
     size: usize,
     xi: &mut [u32],
     log: &mut [u32],
+    lanes: &mut [u64; 25],
     challenges: &[u32],
     pos: Pos,
 ) -> Pos
     requires size { ⌜ size ≡ 2 ^ round ⌝ }
     requires layer { ⌜ (2 * pq + 4 * size ≤ eq) × (4 * (eq + size) ≤ length (now work)) ⌝ }
-    requires room { ⌜ (4 * round + 4 ≤ length (now xi)) × (pos .put + 16 * round ≤ length (now log)) × Enough (now log) (now challenges) pos round ⌝ }
+    requires room { ⌜ (4 * round + 4 ≤ length (now xi)) × (pos .put + 16 * round ≤ length (now log)) × Enough (now log) (now lanes) (now challenges) pos round ⌝ }
     requires clean { ⌜ Clean (now work) × Clean (now xi) ⌝ }
-    ensures { λ r. ⌜ SubRounds (now (work .entry)) (now (work .exit)) (now (xi .entry)) (now (xi .exit)) (now (log .entry)) (now (log .exit))
+    ensures { λ r. ⌜ SubRounds (now (work .entry)) (now (work .exit)) (now (xi .entry)) (now (xi .exit)) (now (log .entry)) (now (log .exit)) (now (lanes .entry)) (now (lanes .exit))
         (source (pos .drawn) (now (challenges .entry))) eq pq round size E.nil pos r ⌝ }
 {
     let mut p = pos;
     let mut half = size;
     for j in 0..round {
         half = half / 2;
-        p = sub_round(work, eq, pq, half, xi, j + 1, log, challenges, p);
+        p = sub_round(work, eq, pq, half, xi, j + 1, log, lanes, challenges, p);
     }
     p
 }
@@ -93,18 +96,19 @@ fn sub_rounds(
     lambda: Ext,
     xi: &mut [u32],
     log: &mut [u32],
+    lanes: &mut [u64; 25],
     challenges: &[u32],
     pos: Pos,
 ) -> Pos
     requires size { ⌜ size ≡ 2 ^ round ⌝ }
     requires layer { ⌜ (2 * pq + 4 * size ≤ eq) × (4 * (eq + size) ≤ length (now work)) ⌝ }
-    requires room { ⌜ (4 * round + 4 ≤ length (now xi)) × (pos .put + 16 * round ≤ length (now log)) × Enough (now log) (now challenges) pos round ⌝ }
+    requires room { ⌜ (4 * round + 4 ≤ length (now xi)) × (pos .put + 16 * round ≤ length (now log)) × Enough (now log) (now lanes) (now challenges) pos round ⌝ }
     requires clean { ⌜ Clean (now work) × Clean (now xi) × Canon lambda ⌝ }
-    ensures { λ r. ⌜ SubRounds (now (work .entry)) (now (work .exit)) (now (xi .entry)) (now (xi .exit)) (now (log .entry)) (now (log .exit))
+    ensures { λ r. ⌜ SubRounds (now (work .entry)) (now (work .exit)) (now (xi .entry)) (now (xi .exit)) (now (log .entry)) (now (log .exit)) (now (lanes .entry)) (now (lanes .exit))
         (source (pos .drawn) (now (challenges .entry))) eq pq round size (dec lambda) pos r ⌝ }
 {
     prover_layer::weigh(work, pq, size, lambda);
-    let p = weighed_sub_rounds(work, eq, pq, round, size, xi, log, challenges, pos);
+    let p = weighed_sub_rounds(work, eq, pq, round, size, xi, log, lanes, challenges, pos);
     prover_layer::weigh(work, pq, 1, Ext::ZERO.minus(lambda));
     p
 }
@@ -113,7 +117,7 @@ fn sub_rounds(
 fn observe_fraction(log: &mut [u32], pos: Pos, f: Frac) -> Pos
     requires room { ⌜ pos .put + 8 ≤ length (now log) ⌝ }
     requires canon { ⌜ CanonFrac f ⌝ }
-    ensures { λ r. ⌜ Steps (now (log .entry)) (now (log .exit)) pos r 8 0 (observedFrac (decFrac f) (logOf (now (log .entry)) pos)) ⌝ }
+    ensures { λ r. ⌜ ((ls : List ℕ) → Steps (now (log .entry)) (now (log .exit)) ls ls pos r 8 0 (observedFrac (decFrac f) (logOf (now (log .entry)) pos))) ⌝ }
 {
     let a = transcript::observe_ext(log, pos, f.p);
     transcript::observe_ext(log, a, f.q)
@@ -125,16 +129,18 @@ pub fn close_round(
     pq: usize,
     xi: &mut [u32],
     log: &mut [u32],
+    lanes: &mut [u64; 25],
     challenges: &[u32],
     pos: Pos,
 ) -> Pos
-    requires room { ⌜ (8 * pq + 15 < length (now work)) × (4 ≤ length (now xi)) × (pos .put + 20 ≤ length (now log)) × Enough (now log) (now challenges) pos 1 ⌝ }
+    requires room { ⌜ (8 * pq + 15 < length (now work)) × (4 ≤ length (now xi)) × (pos .put + 20 ≤ length (now log)) × Enough (now log) (now lanes) (now challenges) pos 1 ⌝ }
     requires clean { ⌜ Clean (now work) × Clean (now xi) ⌝ }
-    ensures { λ r. ⌜ Closed (now (work .entry)) (now (xi .entry)) (now (xi .exit)) (now (log .entry)) (now (log .exit)) (source (pos .drawn) (now (challenges .entry))) pq pos r ⌝ }
+    ensures { λ r. ⌜ Closed (now (work .entry)) (now (xi .entry)) (now (xi .exit)) (now (log .entry)) (now (log .exit)) (now (lanes .entry)) (now (lanes .exit))
+        (source (pos .drawn) (now (challenges .entry))) pq pos r ⌝ }
 {
     let p = observe_fraction(log, pos, prover_tree::load_node(work, pq));
     let q = observe_fraction(log, p, prover_tree::load_node(work, pq + 1));
-    let d = transcript::sample_ext(log, challenges, q);
+    let d = transcript::sample_ext(log, lanes, challenges, q);
     field::store(xi, 0, d.x);
     d.pos
 }
@@ -147,18 +153,19 @@ fn gkr_round(
     size: usize,
     xi: &mut [u32],
     log: &mut [u32],
+    lanes: &mut [u64; 25],
     challenges: &[u32],
     pos: Pos,
 ) -> Pos
     requires size { ⌜ size ≡ 2 ^ round ⌝ }
     requires layer { ⌜ (8 * size ≤ eq) × (4 * (eq + size) ≤ length (now work)) ⌝ }
-    requires room { ⌜ (4 * round + 4 ≤ length (now xi)) × (pos .put + 16 * round + 24 ≤ length (now log)) × Enough (now log) (now challenges) pos (round + 2) ⌝ }
+    requires room { ⌜ (4 * round + 4 ≤ length (now xi)) × (pos .put + 16 * round + 24 ≤ length (now log)) × Enough (now log) (now lanes) (now challenges) pos (round + 2) ⌝ }
     requires clean { ⌜ Clean (now work) × Clean (now xi) ⌝ }
-    ensures { λ r. ⌜ OneLayer (now (work .entry)) (now (work .exit)) (now (xi .entry)) (now (xi .exit)) (now (log .entry)) (now (log .exit))
+    ensures { λ r. ⌜ OneLayer (now (work .entry)) (now (work .exit)) (now (xi .entry)) (now (xi .exit)) (now (log .entry)) (now (log .exit)) (now (lanes .entry)) (now (lanes .exit))
         (source (pos .drawn) (now (challenges .entry))) eq round size pos r ⌝ }
 {
     let pq = 2 * size;
-    let lambda = transcript::sample_ext(log, challenges, pos);
+    let lambda = transcript::sample_ext(log, lanes, challenges, pos);
     prover_layer::evals_eq_hypercube(work, eq, xi, round, size);
     let p = sub_rounds(
         work,
@@ -169,10 +176,11 @@ fn gkr_round(
         lambda.x,
         xi,
         log,
+        lanes,
         challenges,
         lambda.pos,
     );
-    close_round(work, pq, xi, log, challenges, p)
+    close_round(work, pq, xi, log, lanes, challenges, p)
 }
 
 // The rounds from 1 to n - 1.
@@ -182,11 +190,12 @@ pub fn gkr_rounds(
     n: usize,
     xi: &mut [u32],
     log: &mut [u32],
+    lanes: &mut [u64; 25],
     challenges: &[u32],
     pos: Pos,
 ) -> Pos
     requires layer { ⌜ (1 ≤ n) × (4 * 2 ^ n ≤ eq) × (4 * eq + 2 * 2 ^ n ≤ length (now work)) ⌝ }
-    requires room { ⌜ (4 * n ≤ length (now xi)) × (pos .put + logUpTo n ≤ length (now log) + logUpTo 1) × Enough (now log) (now challenges) pos (usedUpTo n - usedUpTo 1) ⌝ }
+    requires room { ⌜ (4 * n ≤ length (now xi)) × (pos .put + logUpTo n ≤ length (now log) + logUpTo 1) × Enough (now log) (now lanes) (now challenges) pos (usedUpTo n - usedUpTo 1) ⌝ }
     requires clean { ⌜ Clean (now work) × Clean (now xi) ⌝ }
     ensures run { λ r. ⌜ ((f : ℕ → Fraction E.Ext) (g : ℕ) → n ≡ suc g → Levels f (now (work .entry)) n 1 →
         AllLayers f (now (xi .entry)) (now (xi .exit)) (now (log .entry)) (now (log .exit)) (source (pos .drawn) (now (challenges .entry))) n g pos r) ⌝ }
@@ -196,7 +205,7 @@ pub fn gkr_rounds(
     let mut p = pos;
     let mut size = 2;
     for round in 1..n {
-        p = gkr_round(work, eq, round, size, xi, log, challenges, p);
+        p = gkr_round(work, eq, round, size, xi, log, lanes, challenges, p);
         size = 2 * size;
     }
     p

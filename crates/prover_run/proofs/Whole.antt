@@ -37,11 +37,11 @@ planted rows ws ws' size root B R = record {
 
 -- THE START OF THE LOG
 
-pub begun-asserted : (lg : List ℕ) (pos : Pos) (b : Bool) (x : E.Ext) → b ≡ true → Steps lg lg pos pos (cond b 0 4) 0 (begun b x (logOf lg pos))
+pub begun-asserted : (lg : List ℕ) {ls : List ℕ} (pos : Pos) (b : Bool) (x : E.Ext) → b ≡ true → Steps lg lg ls ls pos pos (cond b 0 4) 0 (begun b x (logOf lg pos))
 begun-asserted lg pos b x h = rw h (no-steps lg pos)
 
-pub begun-open : (lg lg' : List ℕ) (pos : Pos) (b : Bool) (x : E.Ext) (r : Pos) → b ≡ false → Steps lg lg' pos r 4 0 (Observing .observe x (logOf lg pos))
-    → Steps lg lg' pos r (cond b 0 4) 0 (begun b x (logOf lg pos))
+pub begun-open : (lg lg' : List ℕ) {ls ls' : List ℕ} (pos : Pos) (b : Bool) (x : E.Ext) (r : Pos) → b ≡ false → Steps lg lg' ls ls' pos r 4 0 (Observing .observe x (logOf lg pos))
+    → Steps lg lg' ls ls' pos r (cond b 0 4) 0 (begun b x (logOf lg pos))
 begun-open lg lg' pos b x r h s = rw h s
 
 -- what is as before from i on is so from k on
@@ -58,8 +58,8 @@ firstTold f m ch t = Gkr.observe-layer-claims Extension (Drawing ch) (Tree.child
 
 -- ALL
 
-pub run-of : (ws pt pt' pt'' lg lg₁ lg₂ lg₃ : List ℕ) (ch : Source E.Ext) (n : ℕ) (pos p r z : Pos) (q : Ext)
-    → Steps lg lg₁ pos p 4 0 (Observing .observe (dec q) (logOf lg pos)) → Closed ws pt pt' lg₁ lg₂ ch 2 p r
+pub run-of : (ws pt pt' pt'' lg lg₁ lg₂ lg₃ : List ℕ) {ls ls₁ ls₂ : List ℕ} (ch : Source E.Ext) (n : ℕ) (pos p r z : Pos) (q : Ext)
+    → Steps lg lg₁ ls ls₁ pos p 4 0 (Observing .observe (dec q) (logOf lg pos)) → Closed ws pt pt' lg₁ lg₂ ls₁ ls₂ ch 2 p r
     → ((f : ℕ → Frac E.Ext) (g : ℕ) → n ≡ suc g → Levels f ws n 1 → AllLayers f pt' pt'' lg₂ lg₃ ch n g r z)
     → drop (z .put) lg₃ ≡ drop (z .put) lg₂ → r .put ≤ z .put
     → (f : ℕ → Frac E.Ext) (m : ℕ) → n ≡ suc m → Levels f ws n 0 → dec q ≡ Tree.tree ExtRing f (suc m) 0 .q → RunOf f pt'' lg lg₃ ch m pos z

@@ -1,4 +1,4 @@
--- No second answer and no second log fit a run, but for the sponge of the position. Of the point only the coordinates are said, of the workspace only the tree: the entry point clears both.
+-- No second answer and no second log fit a run, but for the sponge. Of the point only the coordinates are said, of the workspace only the tree: the entry point clears both.
 -- Assumes nothing.
 use mathlib.Core.Path.{_≡_, sym, _∙_}
 use mathlib.Core.List.{List}

@@ -4,17 +4,21 @@ use mathlib.Core.Path.{_≡_, refl, sym, _∙_, ap, subst}
 use mathlib.Core.List.{List, [], _∷_, _++_}
 use Prim.Native.Nat.{ℕ, suc, _+_, _<_, _≤_}
 use native.Mathlib.Omega.{arith}
-use lib.ListN.{length, take, set, length-set}
+use lib.ListN.{length, getD, take, set, length-set}
 use lib.Seq.{take-suc-set}
 use Rattle.field.specs.Cells.{cell}
 use Rattle.field.specs.Element.{Is}
 use Rattle.gkr.specs.Transcripts.{mark}
+use Rattle.keccak.specs.declared.Lanes.{Lanes}
+use Rattle.keccak.specs.Values.{values}
+use Rattle.keccak.specs.State.{asList, lanesOf}
+use Rattle.keccak.specs.StateLaws.{lanes-read}
 use Rattle.shake.specs.Drawn.{message, drawn, Holds}
 use Rattle.shake.proofs.SpongeLaws.{holds-grown}
 use Rattle.transcript.specs.declared.Pos.{Pos}
 use Rattle.transcript.specs.declared.DrawnWord.{DrawnWord}
 use Rattle.transcript.specs.Source.{label, drawnWords, drawnSource}
-use Rattle.transcript.specs.Log.{Drawing, logOf, Steps, WordDrawn}
+use Rattle.transcript.specs.Log.{Drawing, logOf, spongeOf, Steps, WordDrawn}
 use Rattle.transcript.proofs.Logs.{four, sampled}
 
 -- ---- one word: the log with it, and its sponge
@@ -35,6 +39,10 @@ module _ {l l' : List ℕ} {put : ℕ} {r : DrawnWord} (w : WordDrawn l l' put r
   unfolding drawnWords
   first-of k n e h =
       (λ i. sym (w .word) i ∷ drawnWords k (take put l ++ (mark (sym (w .word) i) ∷ []))) ∙ ap (λ (u : List ℕ). r .word ∷ drawnWords k u) (sym (log-with n e h))
+
+-- the sponge that is read from its lanes
+pub loaded-holds : (ls : List ℕ) (pos : Pos) {s : Lanes} {m : List ℕ} → asList s ≡ values (λ i. getD ls i 0) 0 25 → Holds (spongeOf ls pos) m → Holds (record { lanes = s; blocks = pos .blocks }) m
+loaded-holds ls pos {s} {m} e h = subst (λ (t : Lanes). Holds (record { lanes = t; blocks = pos .blocks }) m) (sym (lanes-read ls e)) h
 
 -- ---- four words
 
@@ -73,10 +81,14 @@ module _ (l l₁ l₂ l₃ l₄ : List ℕ) (pos : Pos) (a b c d : DrawnWord) (h
       ∙ ap (λ (u : List ℕ). set u (put + 3) (mark (d .word)))
       (wc .log ∙ ap (λ (u : List ℕ). set u (put + 2) (mark (c .word))) (wb .log ∙ ap (λ (u : List ℕ). set u (put + 1) (mark (b .word))) (wa .log)))
 
-  pub drawn-steps : Steps l l₄ pos (record { put = put + 4; used = pos .used + 1; drawn = pos .drawn; sponge = d .sponge }) 4 1 (Drawing drawnSource .drawn (logOf l pos))
-  drawn-steps =
+  -- the lanes that the sponge of the last word is left in
+  pub drawn-steps : (ls ls' : List ℕ) → ls' ≡ asList (d .sponge .lanes)
+      → Steps l l₄ ls ls' pos (record { put = put + 4; used = pos .used + 1; drawn = pos .drawn; blocks = d .sponge .blocks }) 4 1 (Drawing drawnSource .drawn (logOf l pos))
+  drawn-steps ls ls' e =
       subst
-      (λ (u : List ℕ). Steps l u pos (record { put = put + 4; used = pos .used + 1; drawn = pos .drawn; sponge = d .sponge }) 4 1 (Drawing drawnSource .drawn (logOf l pos)))
+      (λ (u : List ℕ). Steps l u ls ls' pos (record { put = put + 4; used = pos .used + 1; drawn = pos .drawn; blocks = d .sponge .blocks }) 4 1 (Drawing drawnSource .drawn (logOf l pos)))
       (sym logged)
-      (sampled l drawnSource pos (record { c0 = a .word; c1 = b .word; c2 = c .word; c3 = d .word }) (d .sponge) h drawn-is
-      (λ k. subst (λ (u : List ℕ). Holds (d .sponge) (message label (take (put + 4) u))) logged (holds-with wd (put + 4) (omega arith) (omega (arith, len₃)))))
+      (sampled l ls ls' drawnSource pos (record { c0 = a .word; c1 = b .word; c2 = c .word; c3 = d .word }) (d .sponge .blocks) h drawn-is
+      (λ k.
+      subst (λ (u : List ℕ). Holds (record { lanes = lanesOf u; blocks = d .sponge .blocks }) (message label (take (put + 4) (four l put (mark (a .word)) (mark (b .word)) (mark (c .word)) (mark (d .word)))))) (sym e)
+      (subst (λ (u : List ℕ). Holds (d .sponge) (message label (take (put + 4) u))) logged (holds-with wd (put + 4) (omega arith) (omega (arith, len₃))))))

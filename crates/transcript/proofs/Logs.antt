@@ -6,7 +6,7 @@ use mathlib.Core.List.{List, [], _∷_, _++_, map}
 use Prim.Native.Nat.{ℕ, zero, suc, _+_, _*_, _-_, _^_, _<_, _≤_}
 use native.Mathlib.Nat.{mod-eq-of-lt}
 use native.Mathlib.Omega.{arith}
-use lib.ListN.{length, take, drop, set, length-append}
+use lib.ListN.{length, take, drop, set, replicate, length-append}
 use lib.Seq.{sets-eq, take-at, drop-at, length-take-le, drop-drop}
 use native.Mathlib.Numerals.{add-one}
 use Rattle.field.specs.Base.{P, of}
@@ -15,13 +15,15 @@ use Rattle.field.specs.Ext as E
 use Rattle.gkr.specs.Transcripts.{Words, mark, Source}
 use Rattle.field.specs.declared.Ext.{Ext}
 use Rattle.field.specs.Element.{dec, words, Canon, Is}
+use Rattle.keccak.specs.State.{lanesOf}
 use Rattle.shake.specs.declared.Sponge.{Sponge}
+use Rattle.shake.specs.Sponge.{absorbed}
 use Rattle.shake.specs.Drawn.{message, Holds}
 use Rattle.shake.proofs.SpongeLaws.{holds-grown}
 use Rattle.transcript.specs.declared.Pos.{Pos}
 use Rattle.transcript.specs.declared.Drawn.{Drawn}
 use Rattle.transcript.specs.Source.{label, source}
-use Rattle.transcript.specs.Log.{Drawing, Enough, logOf, Steps}
+use Rattle.transcript.specs.Log.{Drawing, Enough, logOf, spongeOf, Steps}
 
 abbrev pub four : List ℕ → ℕ → ℕ → ℕ → ℕ → ℕ → List ℕ
 four l put a b c d = set (set (set (set l put a) (put + 1) b) (put + 2) c) (put + 3) d
@@ -59,24 +61,24 @@ words-of e x h =
     word : (n : ℕ) → n < P → of n .val ≡ n
     word n l = val-of n ∙ mod-eq-of-lt l
 
-pub observed : (l : List ℕ) (pos : Pos) (e : Ext) → pos .put + 4 ≤ length l → Canon e
-    → Steps l (four l (pos .put) (e .c0) (e .c1) (e .c2) (e .c3)) pos (record { put = pos .put + 4; used = pos .used; drawn = pos .drawn; sponge = pos .sponge }) 4 0
+pub observed : (l : List ℕ) (pos : Pos) (e : Ext) → pos .put + 4 ≤ length l → Canon e → (ls : List ℕ)
+    → Steps l (four l (pos .put) (e .c0) (e .c1) (e .c2) (e .c3)) ls ls pos (record { put = pos .put + 4; used = pos .used; drawn = pos .drawn; blocks = pos .blocks }) 4 0
     (record { log = take (pos .put) l ++ words (dec e); used = pos .used })
-observed l pos e h k = record {
+observed l pos e h k ls = record {
   put = refl;
   used = omega arith;
   drawn = refl;
   log = λ i. record { log = (four-take l (pos .put) (e .c0) (e .c1) (e .c2) (e .c3) h ∙ ap (λ w. take (pos .put) l ++ w) (sym (words-of e (dec e) (record { canon = k; value = refl })))) i; used = pos .used };
   rest = four-drop l (pos .put) (e .c0) (e .c1) (e .c2) (e .c3) h;
-  holds = four-grown l (pos .put) (e .c0) (e .c1) (e .c2) (e .c3) h (pos .sponge);
+  holds = four-grown l (pos .put) (e .c0) (e .c1) (e .c2) (e .c3) h (spongeOf ls pos);
 }
 
--- a challenge is written, and the sponge s has taken in blocks of the log with it
-pub sampled : (l : List ℕ) (ch : Source E.Ext) (pos : Pos) (e : Ext) (s : Sponge) → pos .put + 4 ≤ length l → Is e (ch (logOf l pos))
-    → (Holds (pos .sponge) (message label (take (pos .put) l)) → Holds s (message label (take (pos .put + 4) (four l (pos .put) (mark (e .c0)) (mark (e .c1)) (mark (e .c2)) (mark (e .c3))))))
-    → Steps l (four l (pos .put) (mark (e .c0)) (mark (e .c1)) (mark (e .c2)) (mark (e .c3))) pos (record { put = pos .put + 4; used = pos .used + 1; drawn = pos .drawn; sponge = s }) 4 1
+-- a challenge is written, and the sponge, of lanes ls' and k blocks now, has taken in blocks of the log with it
+pub sampled : (l ls ls' : List ℕ) (ch : Source E.Ext) (pos : Pos) (e : Ext) (k : ℕ) → pos .put + 4 ≤ length l → Is e (ch (logOf l pos))
+    → (Holds (spongeOf ls pos) (message label (take (pos .put) l)) → Holds (record { lanes = lanesOf ls'; blocks = k }) (message label (take (pos .put + 4) (four l (pos .put) (mark (e .c0)) (mark (e .c1)) (mark (e .c2)) (mark (e .c3))))))
+    → Steps l (four l (pos .put) (mark (e .c0)) (mark (e .c1)) (mark (e .c2)) (mark (e .c3))) ls ls' pos (record { put = pos .put + 4; used = pos .used + 1; drawn = pos .drawn; blocks = k }) 4 1
     (Drawing ch .drawn (logOf l pos))
-sampled l ch pos e s h k g =
+sampled l ls ls' ch pos e k h i g =
     let a = mark (e .c0) in
     let b = mark (e .c1) in
     let c = mark (e .c2) in
@@ -85,19 +87,20 @@ sampled l ch pos e s h k g =
       put = refl;
       used = refl;
       drawn = refl;
-      log = λ i. record { log = (four-take l (pos .put) a b c d h ∙ ap (λ w. take (pos .put) l ++ map mark w) (sym (words-of e _ k))) i; used = add-one (pos .used) i };
+      log = λ j. record { log = (four-take l (pos .put) a b c d h ∙ ap (λ w. take (pos .put) l ++ map mark w) (sym (words-of e _ i))) j; used = add-one (pos .used) j };
       rest = four-drop l (pos .put) a b c d h;
       holds = g;
     }
 
 -- what is sampled where it is drawn, or is not, is sampled by the source that is told so
-pub sampled-alike : (ch : List ℕ) {l l' : List ℕ} {p : Pos} {d : Drawn} {b b' : Bool} → b ≡ b' → Steps l l' p (d .pos) 4 1 (Drawing (source b ch) .drawn (logOf l p)) × Is (d .x) (source b ch (logOf l p))
-    → Steps l l' p (d .pos) 4 1 (Drawing (source b' ch) .drawn (logOf l p)) × Is (d .x) (source b' ch (logOf l p))
-sampled-alike ch {l} {l'} {p} {d} e h =
-    subst (λ (b : Bool). Steps l l' p (d .pos) 4 1 (Drawing (source b ch) .drawn (logOf l p)) × Is (d .x) (source b ch (logOf l p))) e h
+pub sampled-alike : (ch : List ℕ) {l l' ls ls' : List ℕ} {p : Pos} {d : Drawn} {b b' : Bool} → b ≡ b' → Steps l l' ls ls' p (d .pos) 4 1 (Drawing (source b ch) .drawn (logOf l p)) × Is (d .x) (source b ch (logOf l p))
+    → Steps l l' ls ls' p (d .pos) 4 1 (Drawing (source b' ch) .drawn (logOf l p)) × Is (d .x) (source b' ch (logOf l p))
+sampled-alike ch {l} {l'} {ls} {ls'} {p} {d} e h =
+    subst (λ (b : Bool). Steps l l' ls ls' p (d .pos) 4 1 (Drawing (source b ch) .drawn (logOf l p)) × Is (d .x) (source b ch (logOf l p))) e h
 
 -- one after the other
-pub then : (l₀ l₁ l₂ : List ℕ) (p₀ p₁ p₂ : Pos) (n m n' m' : ℕ) (t t' : Words) → Steps l₀ l₁ p₀ p₁ n m t → Steps l₁ l₂ p₁ p₂ n' m' t' → Steps l₀ l₂ p₀ p₂ (n + n') (m + m') t'
+pub then : (l₀ l₁ l₂ : List ℕ) {ls₀ ls₁ ls₂ : List ℕ} (p₀ p₁ p₂ : Pos) (n m n' m' : ℕ) (t t' : Words)
+    → Steps l₀ l₁ ls₀ ls₁ p₀ p₁ n m t → Steps l₁ l₂ ls₁ ls₂ p₁ p₂ n' m' t' → Steps l₀ l₂ ls₀ ls₂ p₀ p₂ (n + n') (m + m') t'
 then l₀ l₁ l₂ p₀ p₁ p₂ n m n' m' t t' s s' =
     let e : p₂ .put ≡ p₁ .put + n' = s' .put in
     record {
@@ -111,7 +114,7 @@ then l₀ l₁ l₂ p₀ p₁ p₂ n m n' m' t t' s s' =
     }
 
 -- the same with the log told otherwise
-pub retold : (l l' : List ℕ) (p p' : Pos) (n m n' m' : ℕ) (t t' : Words) → n ≡ n' → m ≡ m' → t ≡ t' → Steps l l' p p' n m t → Steps l l' p p' n' m' t'
+pub retold : (l l' : List ℕ) {ls ls' : List ℕ} (p p' : Pos) (n m n' m' : ℕ) (t t' : Words) → n ≡ n' → m ≡ m' → t ≡ t' → Steps l l' ls ls' p p' n m t → Steps l l' ls ls' p p' n' m' t'
 retold l l' p p' n m n' m' t t' en em e s = record {
   put = omega (arith, s .put);
   used = omega (arith, s .used);
@@ -121,19 +124,24 @@ retold l l' p p' n m n' m' t t' en em e s = record {
   holds = s .holds;
 }
 
-pub no-steps : (l : List ℕ) (p : Pos) → Steps l l p p 0 0 (logOf l p)
+pub no-steps : (l : List ℕ) {ls : List ℕ} (p : Pos) → Steps l l ls ls p p 0 0 (logOf l p)
 no-steps l p = record { put = omega arith; used = omega arith; drawn = refl; log = refl; rest = refl; holds = λ h. h }
 
 -- ---- challenges that can still be had
 
-pub enough-fewer : {l ch : List ℕ} {p : Pos} (k : ℕ) {j : ℕ} → j ≤ k → Enough l ch p k → Enough l ch p j
+pub enough-fewer : {l ls ch : List ℕ} {p : Pos} (k : ℕ) {j : ℕ} → j ≤ k → Enough l ls ch p k → Enough l ls ch p j
 enough-fewer k h e = record { room = λ f. omega (arith, e .room f); clean = e .clean; counted = e .counted; holds = e .holds }
 
 -- after steps that took m of them, each into the log
-pub enough-after : {l l' ch : List ℕ} {p p' : Pos} {n m : ℕ} {t : Words} (k : ℕ) {j : ℕ} → m ≤ n → m + j ≤ k → Steps l l' p p' n m t → Enough l ch p k → Enough l' ch p' j
+pub enough-after : {l l' ls ls' ch : List ℕ} {p p' : Pos} {n m : ℕ} {t : Words} (k : ℕ) {j : ℕ} → m ≤ n → m + j ≤ k → Steps l l' ls ls' p p' n m t → Enough l ls ch p k → Enough l' ls' ch p' j
 enough-after k i h s e = record {
   room = λ f. omega (arith, e .room (sym (s .drawn) ∙ f), s .used);
   clean = λ f. e .clean (sym (s .drawn) ∙ f);
   counted = omega (arith, e .counted, s .put, s .used);
   holds = s .holds (e .holds);
 }
+
+-- lanes of zeros are those of a sponge that has taken in nothing, of whatever message
+pub nothing-taken : (p : Pos) → p .blocks ≡ 0 → (m : List ℕ) → Holds (spongeOf (replicate 25 0) p) m
+unfolding absorbed
+nothing-taken p e m = record { within = omega (arith, e); state = ap (λ (k : ℕ). absorbed k m) (sym e) }

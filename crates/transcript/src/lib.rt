@@ -7,16 +7,17 @@ ghost use Rattle.field.specs.Cells.{Clean};
 ghost use Rattle.field.specs.Element.{dec, Canon, Is};
 ghost use Rattle.shake.specs.Drawn.{message, Holds};
 ghost use Rattle.transcript.specs.Source.{supplied, label, drawnSource, source};
-ghost use Rattle.transcript.specs.Log.{Drawing, Enough, Observing, logOf, Steps, WordDrawn};
+ghost use Rattle.transcript.specs.Log.{Drawing, Enough, Observing, logOf, spongeOf, Steps, WordDrawn};
 use field::Ext;
 use shake::Sponge;
 
-// How many words of the log are written, how many challenges are used, whether they are drawn, and the whole blocks of label and log that were taken in.
+// How many words of the log are written, how many challenges are used, whether they are drawn, and how many whole blocks of label and log were taken in,
+// by a sponge whose lanes are lent beside the log.
 pub struct Pos {
     pub put: usize,
     pub used: usize,
     pub drawn: bool,
-    pub sponge: Sponge,
+    pub blocks: usize,
 }
 
 // A challenge, and where the run stands after it.
@@ -31,15 +32,15 @@ pub struct DrawnWord {
     pub word: u32,
 }
 
-// Nothing is written or used yet, and nothing taken in, of whatever log.
+// Nothing is written or used yet, and nothing taken in.
 pub fn start(drawn: bool) -> Pos
-    ensures { λ r. ⌜ (r .put ≡ 0) × (r .used ≡ 0) × (r .drawn ≡ drawn) × ((m : List ℕ) → Holds (r .sponge) m) ⌝ }
+    ensures { λ r. ⌜ (r .put ≡ 0) × (r .used ≡ 0) × (r .drawn ≡ drawn) × (r .blocks ≡ 0) ⌝ }
 {
     Pos {
         put: 0,
         used: 0,
         drawn,
-        sponge: shake::start(),
+        blocks: 0,
     }
 }
 
@@ -47,7 +48,7 @@ pub fn start(drawn: bool) -> Pos
 pub fn observe_ext(log: &mut [u32], pos: Pos, e: Ext) -> Pos
     requires room { ⌜ pos .put + 4 ≤ length (now log) ⌝ }
     requires canon { ⌜ Canon e ⌝ }
-    ensures { λ r. ⌜ Steps (now (log .entry)) (now (log .exit)) pos r 4 0 (Observing .observe (dec e) (logOf (now (log .entry)) pos)) ⌝ }
+    ensures { λ r. ⌜ ((ls : List ℕ) → Steps (now (log .entry)) (now (log .exit)) ls ls pos r 4 0 (Observing .observe (dec e) (logOf (now (log .entry)) pos))) ⌝ }
 {
     let put = pos.put;
     log[put] = e.c0;
@@ -62,7 +63,7 @@ pub fn observe_ext(log: &mut [u32], pos: Pos, e: Ext) -> Pos
 // The next challenge that was supplied goes into the log, with the top bits of its words set.
 fn take_ext(log: &mut [u32], challenges: &[u32], pos: Pos) -> Drawn
     requires room { ⌜ (pos .put + 4 ≤ length (now log)) × (4 * (pos .used + 1) ≤ length (now challenges)) × Clean (now challenges) ⌝ }
-    ensures steps { λ r. ⌜ Steps (now (log .entry)) (now (log .exit)) pos (r .pos) 4 1 (Drawing (supplied (now (challenges .entry))) .drawn (logOf (now (log .entry)) pos)) ⌝ }
+    ensures steps { λ r. ⌜ ((ls : List ℕ) → Steps (now (log .entry)) (now (log .exit)) ls ls pos (r .pos) 4 1 (Drawing (supplied (now (challenges .entry))) .drawn (logOf (now (log .entry)) pos))) ⌝ }
     ensures value { λ r. ⌜ Is (r .x) (supplied (now (challenges .entry)) (logOf (now (log .entry)) pos)) ⌝ }
 {
     let put = pos.put;
@@ -89,24 +90,29 @@ fn draw_word(log: &mut [u32], put: usize, s: Sponge) -> DrawnWord
     DrawnWord { sponge: t, word: v }
 }
 
-// The next challenge is drawn, word by word.
-fn draw_ext(log: &mut [u32], pos: Pos) -> Drawn
-    requires room { ⌜ (pos .put + 4 ≤ length (now log)) × (pos .used ≤ pos .put) × Holds (pos .sponge) (message label (logOf (now log) pos .log)) ⌝ }
-    ensures steps { λ r. ⌜ Steps (now (log .entry)) (now (log .exit)) pos (r .pos) 4 1 (Drawing drawnSource .drawn (logOf (now (log .entry)) pos)) ⌝ }
+// The next challenge is drawn, word by word, from the sponge whose lanes are lent.
+fn draw_ext(log: &mut [u32], lanes: &mut [u64; 25], pos: Pos) -> Drawn
+    requires room { ⌜ (pos .put + 4 ≤ length (now log)) × (pos .used ≤ pos .put) × Holds (spongeOf (now lanes) pos) (message label (logOf (now log) pos .log)) ⌝ }
+    ensures steps { λ r. ⌜ Steps (now (log .entry)) (now (log .exit)) (now (lanes .entry)) (now (lanes .exit)) pos (r .pos) 4 1 (Drawing drawnSource .drawn (logOf (now (log .entry)) pos)) ⌝ }
     ensures value { λ r. ⌜ Is (r .x) (drawnSource (logOf (now (log .entry)) pos)) ⌝ }
 {
     let put = pos.put;
-    let a = draw_word(log, put, pos.sponge);
+    let s = Sponge {
+        lanes: keccak::load(lanes),
+        blocks: pos.blocks,
+    };
+    let a = draw_word(log, put, s);
     let b = draw_word(log, put + 1, a.sponge);
     let c = draw_word(log, put + 2, b.sponge);
     let d = draw_word(log, put + 3, c.sponge);
-    let sponge = d.sponge;
+    let t = d.sponge;
+    keccak::store(lanes, t.lanes);
     Drawn {
         pos: Pos {
             put: put + 4,
             used: pos.used + 1,
             drawn: pos.drawn,
-            sponge,
+            blocks: t.blocks,
         },
         x: Ext {
             c0: a.word,
@@ -118,13 +124,14 @@ fn draw_ext(log: &mut [u32], pos: Pos) -> Drawn
 }
 
 // The next challenge, drawn or supplied, goes into the log, with the top bits of its words set.
-pub fn sample_ext(log: &mut [u32], challenges: &[u32], pos: Pos) -> Drawn
-    requires room { ⌜ (pos .put + 4 ≤ length (now log)) × Enough (now log) (now challenges) pos 1 ⌝ }
-    ensures steps { λ r. ⌜ Steps (now (log .entry)) (now (log .exit)) pos (r .pos) 4 1 (Drawing (source (pos .drawn) (now (challenges .entry))) .drawn (logOf (now (log .entry)) pos)) ⌝ }
+pub fn sample_ext(log: &mut [u32], lanes: &mut [u64; 25], challenges: &[u32], pos: Pos) -> Drawn
+    requires room { ⌜ (pos .put + 4 ≤ length (now log)) × Enough (now log) (now lanes) (now challenges) pos 1 ⌝ }
+    ensures steps { λ r. ⌜ Steps (now (log .entry)) (now (log .exit)) (now (lanes .entry)) (now (lanes .exit)) pos (r .pos) 4 1
+        (Drawing (source (pos .drawn) (now (challenges .entry))) .drawn (logOf (now (log .entry)) pos)) ⌝ }
     ensures value { λ r. ⌜ Is (r .x) (source (pos .drawn) (now (challenges .entry)) (logOf (now (log .entry)) pos)) ⌝ }
 {
     if pos.drawn {
-        return draw_ext(log, pos);
+        return draw_ext(log, lanes, pos);
     }
     take_ext(log, challenges, pos)
 }

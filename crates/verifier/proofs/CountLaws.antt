@@ -7,7 +7,7 @@ use Prim.Native.Nat.{ℕ, suc, _+_, _*_, _-_, _≤_}
 use native.Mathlib.Omega.{arith}
 use borrow.Author.Tests.{eq-eqb, ne-eqb}
 use lib.Dec.{eqb}
-use lib.ListN.{length, take, drop}
+use lib.ListN.{length, take, drop, replicate}
 use Rattle.field.specs.Ext as E
 use Rattle.field.specs.Extension.{Extension}
 use Rattle.field.specs.Element.{dec, Canon}
@@ -20,6 +20,7 @@ use Rattle.gkr.specs.Gkr as Gkr
 use Rattle.gkr.specs.Gkr.{layer-count, poly-count}
 use Rattle.transcript.specs.declared.Pos.{Pos}
 use Rattle.transcript.specs.Log.{Drawing, logOf}
+use Rattle.transcript.proofs.Logs.{nothing-taken}
 use Rattle.refusal.specs.declared.Refusal.{Refusal}
 use Rattle.refusal.specs.declared.Refusal.the-variants.{IncorrectLayerCount, IncorrectSumcheckPolyCount}
 use Rattle.sizes.specs.Sizes.{neededWords, logRoom}
@@ -139,7 +140,7 @@ module _ (bs pt lg ch : List ℕ) (drawn : Bool) (n : ℕ) (o : Outline) (r : Re
   k-is : n ≡ suc k
   k-is = omega (arith, r .some)
 
-  pub ready-space : (pos : Pos) → pos .drawn ≡ drawn → Starts pos → RootSpace lg ch pos k
+  pub ready-space : (pos : Pos) → pos .drawn ≡ drawn → Starts pos → RootSpace lg (replicate 25 0) ch pos k
   unfolding run-cost
   ready-space pos p st =
       let w = words k in
@@ -149,7 +150,7 @@ module _ (bs pt lg ch : List ℕ) (drawn : Bool) (n : ℕ) (o : Outline) (r : Re
       let g : pos .drawn ≡ false → 4 * challenges n ≤ length ch = λ h. subst (λ b. neededWords b n ≤ length ch) (sym p ∙ h) (r .chals) in
       record {
         put = omega (arith, w, e, r .log-room, st .put);
-        enough = record { room = λ h. omega (arith, d, f, g h, st .used); clean = λ _. r .clean; counted = omega (arith, st .put, st .used); holds = st .holds _ };
+        enough = record { room = λ h. omega (arith, d, f, g h, st .used); clean = λ _. r .clean; counted = omega (arith, st .put, st .used); holds = nothing-taken pos (st .blocks) _ };
       }
 
   q0-part : allCanonical (extWords (elem (drop 5 bs))) ≡ true

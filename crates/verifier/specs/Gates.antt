@@ -10,7 +10,6 @@ use Rattle.field.specs.Extension.{Extension}
 use Rattle.field.specs.Cells.{Clean}
 use Rattle.gkr.specs.Transcripts.{Source, empty}
 use Rattle.gkr.specs.Gkr as Gkr
-use Rattle.shake.specs.Drawn.{Holds}
 use Rattle.transcript.specs.declared.Pos.{Pos}
 use Rattle.transcript.specs.Log.{Drawing}
 use Rattle.refusal.specs.declared.Verifying.{Verifying}
@@ -64,11 +63,11 @@ pub record Ready (bs pt lg ch : List ℕ) (drawn : Bool) (n : ℕ) (o : Outline)
   pub points : Clean pt
   pub clean : Clean ch
 
--- nothing is written or used yet, and the sponge has taken in nothing
+-- nothing is written or used yet, and nothing taken in
 pub record Starts (pos : Pos) : Type 0 where
   pub put : pos .put ≡ 0
   pub used : pos .used ≡ 0
-  pub holds : (m : List ℕ) → Holds (pos .sponge) m
+  pub blocks : pos .blocks ≡ 0
 
 -- the model's verifier over the proof that stands in the bytes
 abbrev pub verdict : (bs : List ℕ) (n : ℕ) (ch : Source E.Ext) → Model ch

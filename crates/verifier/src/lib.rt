@@ -135,7 +135,17 @@ fn verify_counted(
             actual: entries,
         });
     }
-    verifier_rounds::verify_all(proof, outline.polys, rounds, xi, log, challenges, pos)
+    let mut lanes = [0u64; 25]; // of a sponge that has taken in nothing
+    verifier_rounds::verify_all(
+        proof,
+        outline.polys,
+        rounds,
+        xi,
+        log,
+        &mut lanes,
+        challenges,
+        pos,
+    )
 }
 
 // The first n words of the point found go to the front of the room for it.

@@ -49,9 +49,9 @@ onward ch mss cs c z t =
     Gkr.rounds Extension (Drawing ch) mss cs (Tree.reduce-to-single-evaluation ExtRing c (ch (after c t))) (ch (after c t) ∷ z) (Drawing ch .drawn (after c t))
 
 -- past a check that holds: mu sampled
-pub goes-on : (lg lg₁ lg₂ pt pt' : List ℕ) (ch : Source E.Ext) (k n m : ℕ) (c : Claims E.Ext) (pos₀ p : Pos) (r : Layer) (t : Words) (v : List (List (Cubic E.Ext)) → List (Claims E.Ext) → Model ch)
-    → ((mss : List (List (Cubic E.Ext))) (cs : List (Claims E.Ext)) → v mss cs ≡ onward ch mss cs c (cells pt 1 k) t) → Steps lg lg₁ pos₀ p n m (after c t)
-    → Descended pt pt' lg₁ lg₂ ch c p r → Goes lg lg₂ pt' ch pos₀ (k + 1) (n + 4) (m + 1) v r
+pub goes-on : (lg lg₁ lg₂ pt pt' : List ℕ) {ls ls₁ ls₂ : List ℕ} (ch : Source E.Ext) (k n m : ℕ) (c : Claims E.Ext) (pos₀ p : Pos) (r : Layer) (t : Words) (v : List (List (Cubic E.Ext)) → List (Claims E.Ext) → Model ch)
+    → ((mss : List (List (Cubic E.Ext))) (cs : List (Claims E.Ext)) → v mss cs ≡ onward ch mss cs c (cells pt 1 k) t) → Steps lg lg₁ ls ls₁ pos₀ p n m (after c t)
+    → Descended pt pt' lg₁ lg₂ ls₁ ls₂ ch c p r → Goes lg lg₂ ls ls₂ pt' ch pos₀ (k + 1) (n + 4) (m + 1) v r
 goes-on lg lg₁ lg₂ pt pt' ch k n m c pos₀ p r t v e a d =
     let g : logOf lg₁ p ≡ after c t = a .log in
     let z : cells pt' 0 (k + 1) ≡ ch (after c t) ∷ cells pt 1 k = headed pt pt' k _ (d .mu) ∙ ap (λ u. ch u ∷ cells pt 1 k) g in
@@ -67,7 +67,7 @@ goes-on lg lg₁ lg₂ pt pt' ch k n m c pos₀ p r t v e a d =
     }
 
 -- a check that fails, with the log so far
-pub stops-there : (lg lg' : List ℕ) (ch : Source E.Ext) (pos p : Pos) (n m : ℕ) (t : Words) (v w : Model ch) (e : Refusal) → Steps lg lg' pos p n m t → p .put ≤ length lg → v ≡ w → answerOf ch w ≡ Refused e
+pub stops-there : (lg lg' : List ℕ) {ls ls' : List ℕ} (ch : Source E.Ext) (pos p : Pos) (n m : ℕ) (t : Words) (v w : Model ch) (e : Refusal) → Steps lg lg' ls ls' pos p n m t → p .put ≤ length lg → v ≡ w → answerOf ch w ≡ Refused e
     → pointOf ch w ≡ [] → loggedBy ch w ≡ t .log → Stops lg lg' ch pos v e
 stops-there lg lg' ch pos p n m t v w e a h q x y z =
     record {
@@ -112,15 +112,15 @@ module _ (pt lg : List ℕ) (ch : Source E.Ext) (c : Claims E.Ext) (round : ℕ)
   layer-answer : _≡_ {A = Refusal} (LayerConsistencyCheckFailed round (enc (E.mul (RoundSum.cross ExtRing (dec lambda) c) (dec (s .eq)))) (enc (dec (s .claim)))) (LayerConsistencyCheckFailed round expected (s .claim))
   layer-answer = λ i. LayerConsistencyCheckFailed round (sym (enc-of-is x) i) (sym (enc-of-is (record { canon = k; value = refl })) i)
 
-pub closed-go : (pt pt' lg lg₁ lg₂ : List ℕ) (ch : Source E.Ext) (c : Claims E.Ext) (round : ℕ) (lambda : Ext) (s : Sums) (expected : Ext) (p : Pos) (r : Layer) (b : Bool)
+pub closed-go : (pt pt' lg lg₁ lg₂ : List ℕ) {ls ls₁ ls₂ : List ℕ} (ch : Source E.Ext) (c : Claims E.Ext) (round : ℕ) (lambda : Ext) (s : Sums) (expected : Ext) (p : Pos) (r : Layer) (b : Bool)
     → Is expected (E.mul (RoundSum.cross ExtRing (dec lambda) c) (dec (s .eq))) → Canon (s .claim) → b ≡ sameWords expected (s .claim) → not b ≡ false
-    → Steps lg lg₁ (s .pos) p 16 0 (after c (logOf lg (s .pos))) → Descended pt pt' lg₁ lg₂ ch c p r → Closed pt pt' lg lg₂ ch c round lambda s (Next r)
+    → Steps lg lg₁ ls ls₁ (s .pos) p 16 0 (after c (logOf lg (s .pos))) → Descended pt pt' lg₁ lg₂ ls₁ ls₂ ch c p r → Closed pt pt' lg lg₂ ls ls₂ ch c round lambda s (Next r)
 closed-go pt pt' lg lg₁ lg₂ ch c round lambda s expected p r b x k e h a d = λ ms v z t came.
     goes-on lg lg₁ lg₂ pt pt' ch round 16 0 c (s .pos) p r (logOf lg (s .pos)) _ (λ mss cs. layer-holds pt lg ch c round lambda s expected x k ms v z t came mss cs e (not-false b h)) a d
 
-pub closed-stop : (pt lg lg₁ : List ℕ) (ch : Source E.Ext) (c : Claims E.Ext) (round : ℕ) (lambda : Ext) (s : Sums) (expected : Ext) (p : Pos) (b : Bool)
+pub closed-stop : (pt lg lg₁ : List ℕ) {ls ls₁ : List ℕ} (ch : Source E.Ext) (c : Claims E.Ext) (round : ℕ) (lambda : Ext) (s : Sums) (expected : Ext) (p : Pos) (b : Bool)
     → Is expected (E.mul (RoundSum.cross ExtRing (dec lambda) c) (dec (s .eq))) → Canon (s .claim) → b ≡ sameWords expected (s .claim) → not b ≡ true
-    → Steps lg lg₁ (s .pos) p 16 0 (after c (logOf lg (s .pos))) → s .pos .put + 20 ≤ length lg → Closed pt pt lg lg₁ ch c round lambda s (Stopped (LayerConsistencyCheckFailed round expected (s .claim)))
+    → Steps lg lg₁ ls ls₁ (s .pos) p 16 0 (after c (logOf lg (s .pos))) → s .pos .put + 20 ≤ length lg → Closed pt pt lg lg₁ ls ls₁ ch c round lambda s (Stopped (LayerConsistencyCheckFailed round expected (s .claim)))
 closed-stop pt lg lg₁ ch c round lambda s expected p b x k e h a room = λ ms v z t came mss cs.
     stops-there lg lg₁ ch (s .pos) p 16 0 _ _ _ _ a (omega (arith, a .put)) (layer-fails pt lg ch c round lambda s expected x k ms v z t came mss cs e (not-true b h))
     (ap Refused (layer-answer pt lg ch c round lambda s expected x k ms v z t came mss cs)) refl refl
@@ -163,26 +163,26 @@ module _ (ch : Source E.Ext) (lg : List ℕ) (q0 : Ext) (c : Claims E.Ext) (pos 
   root-holds e h e′ h′ = zero-holds e h ∙ ap (λ b. cond b (onward ch mss cs c [] t₀) (root-check (dec q0) (R .q) (after c t₀))) (sym q-test ∙ sym e′ ∙ h′)
 
 -- the denominator told and the claims, one after the other
-both-observed : (lg lg₁ lg₂ : List ℕ) (q : E.Ext) (c : Claims E.Ext) (pos a p : Pos) → Steps lg lg₁ pos a 4 0 (Observing .observe q (logOf lg pos)) → Steps lg₁ lg₂ a p 16 0 (after c (logOf lg₁ a))
-    → Steps lg lg₂ pos p 20 0 (after c (Observing .observe q (logOf lg pos)))
+both-observed : (lg lg₁ lg₂ : List ℕ) {ls ls₁ ls₂ : List ℕ} (q : E.Ext) (c : Claims E.Ext) (pos a p : Pos) → Steps lg lg₁ ls ls₁ pos a 4 0 (Observing .observe q (logOf lg pos)) → Steps lg₁ lg₂ ls₁ ls₂ a p 16 0 (after c (logOf lg₁ a))
+    → Steps lg lg₂ ls ls₂ pos p 20 0 (after c (Observing .observe q (logOf lg pos)))
 both-observed lg lg₁ lg₂ q c pos a p x y = then lg lg₁ lg₂ pos a p 4 0 16 0 _ _ x (retold lg₁ lg₂ a p 16 0 16 0 _ _ refl refl (ap (after c) (x .log)) y)
 
-module _ (pt lg lg₁ lg₂ : List ℕ) (ch : Source E.Ext) (q0 : Ext) (c : Claims E.Ext) (pos a p : Pos) (f : FracW) (b : Bool) (x : IsFrac f (Tree.compute-recursive-relations ExtRing c)) (k : Canon q0)
-    (e : b ≡ sameWords (f .p) (record { c0 = 0; c1 = 0; c2 = 0; c3 = 0 })) (s : Steps lg lg₁ pos a 4 0 (Observing .observe (dec q0) (logOf lg pos))) (s′ : Steps lg₁ lg₂ a p 16 0 (after c (logOf lg₁ a))) where
-  pub root-zero : not b ≡ true → pos .put + 24 ≤ length lg → Rooted pt lg lg₂ ch (dec q0) c pos (Stopped (ZeroCheckFailed (f .p)))
+module _ (pt lg lg₁ lg₂ : List ℕ) {ls ls₁ ls₂ : List ℕ} (ch : Source E.Ext) (q0 : Ext) (c : Claims E.Ext) (pos a p : Pos) (f : FracW) (b : Bool) (x : IsFrac f (Tree.compute-recursive-relations ExtRing c)) (k : Canon q0)
+    (e : b ≡ sameWords (f .p) (record { c0 = 0; c1 = 0; c2 = 0; c3 = 0 })) (s : Steps lg lg₁ ls ls₁ pos a 4 0 (Observing .observe (dec q0) (logOf lg pos))) (s′ : Steps lg₁ lg₂ ls₁ ls₂ a p 16 0 (after c (logOf lg₁ a))) where
+  pub root-zero : not b ≡ true → pos .put + 24 ≤ length lg → Rooted pt lg lg₂ ls ls₂ ch (dec q0) c pos (Stopped (ZeroCheckFailed (f .p)))
   root-zero h room = λ mss cs.
       let o = both-observed lg lg₁ lg₂ (dec q0) c pos a p s s′ in
       stops-there lg lg₂ ch pos p 20 0 _ _ _ _ o (omega (arith, o .put)) (zero-fails ch lg q0 c pos (f .p) (f .q) (x .p) (x .q) k mss cs e (not-true b h))
       (λ i. Refused (ZeroCheckFailed (sym (enc-of-is (x .p)) i))) refl refl
 
   module _ (b′ : Bool) (h : not b ≡ false) (e′ : b′ ≡ sameWords (f .q) q0) where
-    pub root-differs : not b′ ≡ true → pos .put + 24 ≤ length lg → Rooted pt lg lg₂ ch (dec q0) c pos (Stopped (RootConsistencyCheckFailed q0 (f .q)))
+    pub root-differs : not b′ ≡ true → pos .put + 24 ≤ length lg → Rooted pt lg lg₂ ls ls₂ ch (dec q0) c pos (Stopped (RootConsistencyCheckFailed q0 (f .q)))
     root-differs h′ room = λ mss cs.
         let o = both-observed lg lg₁ lg₂ (dec q0) c pos a p s s′ in
         stops-there lg lg₂ ch pos p 20 0 _ _ _ _ o (omega (arith, o .put)) (root-fails ch lg q0 c pos (f .p) (f .q) (x .p) (x .q) k mss cs e (not-false b h) e′ (not-true b′ h′))
         (λ i. Refused (RootConsistencyCheckFailed (sym (enc-of-is (record { canon = k; value = refl })) i) (sym (enc-of-is (x .q)) i))) refl refl
 
-    pub root-go : (pt' lg₃ : List ℕ) (r : Layer) → not b′ ≡ false → Descended pt pt' lg₂ lg₃ ch c p r → Rooted pt' lg lg₃ ch (dec q0) c pos (Next r)
+    pub root-go : (pt' lg₃ : List ℕ) {ls₃ : List ℕ} (r : Layer) → not b′ ≡ false → Descended pt pt' lg₂ lg₃ ls₂ ls₃ ch c p r → Rooted pt' lg lg₃ ls ls₃ ch (dec q0) c pos (Next r)
     root-go pt' lg₃ r h′ d =
         goes-on lg lg₂ lg₃ pt pt' ch 0 20 0 c pos p r (Drawing ch .observe (dec q0) (logOf lg pos)) _ (λ mss cs. root-holds ch lg q0 c pos (f .p) (f .q) (x .p) (x .q) k mss cs e (not-false b h) e′ (not-false b′ h′))
         (both-observed lg lg₁ lg₂ (dec q0) c pos a p s s′) d

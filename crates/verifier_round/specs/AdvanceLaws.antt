@@ -1,4 +1,4 @@
--- No second answer and no second log fit the end of a layer, but for the sponge of the position. Of the point only the coordinates so far are said: it is an array of the caller's own. A lent slice keeps its length.
+-- No second answer and no second log fit the end of a layer, but for the sponge. Of the point only the coordinates so far are said: it is an array of the caller's own. A lent slice keeps its length.
 -- Assumes nothing.
 use mathlib.Core.Path.{_≡_, refl, sym, _∙_, ap, ap₂}
 use mathlib.Core.List.{List, [], _++_}
@@ -58,11 +58,11 @@ stops-unique {e = e} {e' = e'} q q' h k =
     (cc, stops-buffer q h ∙ sym (stops-buffer q' k))
 
 module _ (lg : List ℕ) (ch : Source E.Ext) (pos : Pos) (k n m : ℕ) (v : List (List (Cubic E.Ext)) → List (Claims E.Ext) → Model ch) where
-  ends-in : {p l : List ℕ} {s : Layer} → Goes lg l p ch pos k n m v s → v [] [] ≡ accepted (columns s) (cells p 0 k) (logOf l (s .pos))
+  ends-in : {p l ls ls' : List ℕ} {s : Layer} → Goes lg l ls ls' p ch pos k n m v s → v [] [] ≡ accepted (columns s) (cells p 0 k) (logOf l (s .pos))
   unfolding Gkr.rounds
   ends-in h = h .verdict [] []
 
-  goes-unique : {lg' lg″ pt' pt″ : List ℕ} {a b : Layer} → Goes lg lg' pt' ch pos k n m v a → Goes lg lg″ pt″ ch pos k n m v b → SameLayer a b × (cells pt' 0 k ≡ cells pt″ 0 k) × (lg' ≡ lg″)
+  goes-unique : {lg' lg″ ls ls' ls″ pt' pt″ : List ℕ} {a b : Layer} → Goes lg lg' ls ls' pt' ch pos k n m v a → Goes lg lg″ ls ls″ pt″ ch pos k n m v b → SameLayer a b × (cells pt' 0 k ≡ cells pt″ 0 k) × (lg' ≡ lg″)
   goes-unique h h' =
       let e = accepted-parts ch (sym (ends-in h) ∙ ends-in h') in
       let l = log-unique lg (h .steps .put ∙ sym (h' .steps .put)) (h .steps .drawn ∙ sym (h' .steps .drawn)) (e .2) (h .steps .rest) (h' .steps .rest) in (
@@ -75,11 +75,11 @@ module _ (lg : List ℕ) (ch : Source E.Ext) (pos : Pos) (k n m : ℕ) (v : List
         l .1,
       )
 
-  one-way : {p l l' : List ℕ} {a : Layer} {e : Refusal} → Goes lg l p ch pos k n m v a → Stops lg l' ch pos (v [] []) e → ⊥
+  one-way : {p l l' ls ls' : List ℕ} {a : Layer} {e : Refusal} → Goes lg l ls ls' p ch pos k n m v a → Stops lg l' ch pos (v [] []) e → ⊥
   one-way h s = accepted-or-refused (ap (answerOf ch) (sym (ends-in h)) ∙ s .answer)
 
-  pub advances-unique : (lg' lg″ pt' pt″ : List ℕ) (r s : Advance) → length lg' ≡ length lg → length lg″ ≡ length lg → Advances lg lg' pt' ch pos k n m v r → Advances lg lg″ pt″ ch pos k n m v s → SameAdvance r s × (lg' ≡ lg″)
-  advances-unique lg' lg″ pt' pt″ (Next a) (Next b) q q' h h' = let e = goes-unique h h' in (e .0, e .2)
-  advances-unique lg' lg″ pt' pt″ (Next a) (Stopped x) q q' h h' = absurd (one-way h (h' [] []))
-  advances-unique lg' lg″ pt' pt″ (Stopped x) (Next b) q q' h h' = absurd (one-way h' (h [] []))
-  advances-unique lg' lg″ pt' pt″ (Stopped x) (Stopped y) q q' h h' = stops-unique q q' (h [] []) (h' [] [])
+  pub advances-unique : (lg' lg″ ls ls' ls″ pt' pt″ : List ℕ) (r s : Advance) → length lg' ≡ length lg → length lg″ ≡ length lg → Advances lg lg' ls ls' pt' ch pos k n m v r → Advances lg lg″ ls ls″ pt″ ch pos k n m v s → SameAdvance r s × (lg' ≡ lg″)
+  advances-unique lg' lg″ ls ls' ls″ pt' pt″ (Next a) (Next b) q q' h h' = let e = goes-unique h h' in (e .0, e .2)
+  advances-unique lg' lg″ ls ls' ls″ pt' pt″ (Next a) (Stopped x) q q' h h' = absurd (one-way h (h' [] []))
+  advances-unique lg' lg″ ls ls' ls″ pt' pt″ (Stopped x) (Next b) q q' h h' = absurd (one-way h' (h [] []))
+  advances-unique lg' lg″ ls ls' ls″ pt' pt″ (Stopped x) (Stopped y) q q' h h' = stops-unique q q' (h [] []) (h' [] [])

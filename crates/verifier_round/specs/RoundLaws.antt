@@ -1,4 +1,4 @@
--- No second answer fits a step of a round, but for the sponge of the position.
+-- No second answer fits a step of a round, but for the sponge.
 -- Assumes nothing.
 use mathlib.Core.Path.{_≡_}
 use mathlib.Core.List.{List}
@@ -28,7 +28,7 @@ pub record SameLayer (r s : Layer) : Type 0 where
   pub numer : r .numer ≡ s .numer
   pub denom : r .denom ≡ s .denom
 
-pub opens-unique : {pt lg lg' lg″ : List ℕ} {ch : Source E.Ext} {l : Layer} {r s : Opened} → Opens pt lg lg' ch l r → Opens pt lg lg″ ch l s → (r .lambda ≡ s .lambda) × SameSums (r .first) (s .first) × (lg' ≡ lg″)
+pub opens-unique : {pt lg lg' lg″ ls ls' ls″ : List ℕ} {ch : Source E.Ext} {l : Layer} {r s : Opened} → Opens pt lg lg' ls ls' ch l r → Opens pt lg lg″ ls ls″ ch l s → (r .lambda ≡ s .lambda) × SameSums (r .first) (s .first) × (lg' ≡ lg″)
 opens-unique h k =
     let e = steps-unique (h .steps) (k .steps) in (
       is-unique (h .lambda) (k .lambda),
@@ -36,12 +36,12 @@ opens-unique h k =
       e .1,
     )
 
-pub sub-round-unique : {pt pt' pt″ lg lg' lg″ : List ℕ} {ch : Source E.Ext} {j : ℕ} {m : Cubic E.Ext} {l r s : Sums} → SubRound pt pt' lg lg' ch j m l r → SubRound pt pt″ lg lg″ ch j m l s → SameSums r s × (pt' ≡ pt″) × (lg' ≡ lg″)
+pub sub-round-unique : {pt pt' pt″ lg lg' lg″ ls ls' ls″ : List ℕ} {ch : Source E.Ext} {j : ℕ} {m : Cubic E.Ext} {l r s : Sums} → SubRound pt pt' lg lg' ls ls' ch j m l r → SubRound pt pt″ lg lg″ ls ls″ ch j m l s → SameSums r s × (pt' ≡ pt″) × (lg' ≡ lg″)
 sub-round-unique h k =
     let e = steps-unique (h .steps) (k .steps) in
     (record { pos = e .0; claim = is-unique (h .claim) (k .claim); eq = is-unique (h .eq) (k .eq); xi = is-unique (h .xi) (k .xi) }, stored-unique (h .rho) (k .rho), e .1)
 
-pub descended-unique : {pt pt' pt″ lg lg' lg″ : List ℕ} {ch : Source E.Ext} {c : Claims E.Ext} {pos : Pos} {r s : Layer} → Descended pt pt' lg lg' ch c pos r → Descended pt pt″ lg lg″ ch c pos s → SameLayer r s × (pt' ≡ pt″) × (lg' ≡ lg″)
+pub descended-unique : {pt pt' pt″ lg lg' lg″ ls ls' ls″ : List ℕ} {ch : Source E.Ext} {c : Claims E.Ext} {pos : Pos} {r s : Layer} → Descended pt pt' lg lg' ls ls' ch c pos r → Descended pt pt″ lg lg″ ls ls″ ch c pos s → SameLayer r s × (pt' ≡ pt″) × (lg' ≡ lg″)
 descended-unique h k =
     let e = steps-unique (h .steps) (k .steps) in
     (record { pos = e .0; numer = is-unique (h .numer) (k .numer); denom = is-unique (h .denom) (k .denom) }, stored-unique (h .mu) (k .mu), e .1)

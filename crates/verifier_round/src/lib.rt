@@ -1,7 +1,8 @@
 // One round of the verifier, step by step, over messages that are read already: what is observed and sampled, how claims go on, what is checked.
 // All of these take canonical words.
 ghost use mathlib.Core.Path.{_≡_};
-ghost use Prim.Native.Nat.{_+_, _*_, _<_, _≤_};
+ghost use mathlib.Core.List.{List};
+ghost use Prim.Native.Nat.{ℕ, _+_, _*_, _<_, _≤_};
 ghost use lib.ListN.{length};
 ghost use Rattle.field.specs.Ext as E;
 ghost use Rattle.field.specs.ExtRing.{ExtRing};
@@ -75,7 +76,8 @@ pub fn number_and_values(verdict: Verdict) -> Report
 pub fn observe_layer_claims(log: &mut [u32], pos: Pos, c: LayerClaims) -> Pos
     requires room { ⌜ pos .put + 16 ≤ length (now log) ⌝ }
     requires canon { ⌜ CanonClaims (claimsIn c) ⌝ }
-    ensures { λ r. ⌜ Steps (now (log .entry)) (now (log .exit)) pos r 16 0 (Gkr.observe-layer-claims Extension Observing (decClaims (claimsIn c)) (logOf (now (log .entry)) pos)) ⌝ }
+    ensures { λ r. ⌜ ((ls : List ℕ) → Steps (now (log .entry)) (now (log .exit)) ls ls pos r 16 0
+        (Gkr.observe-layer-claims Extension Observing (decClaims (claimsIn c)) (logOf (now (log .entry)) pos))) ⌝ }
 {
     let a = transcript::observe_ext(log, pos, c.p_xi_0);
     let b = transcript::observe_ext(log, a, c.q_xi_0);
@@ -87,7 +89,8 @@ pub fn observe_layer_claims(log: &mut [u32], pos: Pos, c: LayerClaims) -> Pos
 pub fn observe_cubic(log: &mut [u32], pos: Pos, m: SubroundEvals) -> Pos
     requires room { ⌜ pos .put + 12 ≤ length (now log) ⌝ }
     requires canon { ⌜ CanonCubic (cubicIn m) ⌝ }
-    ensures { λ r. ⌜ Steps (now (log .entry)) (now (log .exit)) pos r 12 0 (Sumcheck.observe-cubic Extension Observing (decCubic (cubicIn m)) (logOf (now (log .entry)) pos)) ⌝ }
+    ensures { λ r. ⌜ ((ls : List ℕ) → Steps (now (log .entry)) (now (log .exit)) ls ls pos r 12 0
+        (Sumcheck.observe-cubic Extension Observing (decCubic (cubicIn m)) (logOf (now (log .entry)) pos))) ⌝ }
 {
     let a = transcript::observe_ext(log, pos, m.s_1);
     let b = transcript::observe_ext(log, a, m.s_2);
@@ -127,13 +130,20 @@ pub fn next_claim(claim: Ext, m: SubroundEvals, rho: Ext) -> Ext
 }
 
 // The start of a layer: lambda is sampled, and batches the two claims.
-pub fn open_layer(point: &[u32], log: &mut [u32], challenges: &[u32], s: Layer) -> Opened
-    requires room { ⌜ (4 ≤ length (now point)) × (s .pos .put + 4 ≤ length (now log)) × Enough (now log) (now challenges) (s .pos) 1 ⌝ }
+pub fn open_layer(
+    point: &[u32],
+    log: &mut [u32],
+    lanes: &mut [u64; 25],
+    challenges: &[u32],
+    s: Layer,
+) -> Opened
+    requires room { ⌜ (4 ≤ length (now point)) × (s .pos .put + 4 ≤ length (now log)) × Enough (now log) (now lanes) (now challenges) (s .pos) 1 ⌝ }
     requires clean { ⌜ Clean (now point) × Canon (s .numer) × Canon (s .denom) ⌝ }
-    ensures { λ r. ⌜ Opens (now (point .entry)) (now (log .entry)) (now (log .exit)) (source (s .pos .drawn) (now (challenges .entry))) s r ⌝ }
+    ensures { λ r. ⌜ Opens (now (point .entry)) (now (log .entry)) (now (log .exit)) (now (lanes .entry)) (now (lanes .exit))
+        (source (s .pos .drawn) (now (challenges .entry))) s r ⌝ }
 {
     let xi = field::load(point, 0);
-    let d = transcript::sample_ext(log, challenges, s.pos);
+    let d = transcript::sample_ext(log, lanes, challenges, s.pos);
     let lambda = d.x;
     let claim = s.numer.plus(lambda.times(s.denom));
     let pos = d.pos;
@@ -148,17 +158,19 @@ pub fn sub_round(
     point: &mut [u32],
     j: usize,
     log: &mut [u32],
+    lanes: &mut [u64; 25],
     challenges: &[u32],
     s: Sums,
 ) -> Sums
-    requires room { ⌜ (4 * j + 7 < length (now point)) × (s .pos .put + 16 ≤ length (now log)) × Enough (now log) (now challenges) (s .pos) 1 ⌝ }
+    requires room { ⌜ (4 * j + 7 < length (now point)) × (s .pos .put + 16 ≤ length (now log)) × Enough (now log) (now lanes) (now challenges) (s .pos) 1 ⌝ }
     requires clean { ⌜ Clean (now point) × CanonCubic (cubicIn m) × CanonSums s ⌝ }
-    ensures { λ r. ⌜ SubRound (now (point .entry)) (now (point .exit)) (now (log .entry)) (now (log .exit)) (source (s .pos .drawn) (now (challenges .entry))) j (decCubic (cubicIn m)) s r ⌝ }
+    ensures { λ r. ⌜ SubRound (now (point .entry)) (now (point .exit)) (now (log .entry)) (now (log .exit)) (now (lanes .entry)) (now (lanes .exit))
+        (source (s .pos .drawn) (now (challenges .entry))) j (decCubic (cubicIn m)) s r ⌝ }
 {
     let i = j + 1;
     let xi = field::load(point, i);
     let p = observe_cubic(log, s.pos, m);
-    let d = transcript::sample_ext(log, challenges, p);
+    let d = transcript::sample_ext(log, lanes, challenges, p);
     let rho = d.x;
     field::store(point, i, rho);
     let pos = d.pos;
@@ -172,14 +184,16 @@ pub fn descend(
     c: LayerClaims,
     point: &mut [u32],
     log: &mut [u32],
+    lanes: &mut [u64; 25],
     challenges: &[u32],
     pos: Pos,
 ) -> Layer
-    requires room { ⌜ (4 ≤ length (now point)) × (pos .put + 4 ≤ length (now log)) × Enough (now log) (now challenges) pos 1 ⌝ }
+    requires room { ⌜ (4 ≤ length (now point)) × (pos .put + 4 ≤ length (now log)) × Enough (now log) (now lanes) (now challenges) pos 1 ⌝ }
     requires clean { ⌜ Clean (now point) × CanonClaims (claimsIn c) ⌝ }
-    ensures { λ r. ⌜ Descended (now (point .entry)) (now (point .exit)) (now (log .entry)) (now (log .exit)) (source (pos .drawn) (now (challenges .entry))) (decClaims (claimsIn c)) pos r ⌝ }
+    ensures { λ r. ⌜ Descended (now (point .entry)) (now (point .exit)) (now (log .entry)) (now (log .exit)) (now (lanes .entry)) (now (lanes .exit))
+        (source (pos .drawn) (now (challenges .entry))) (decClaims (claimsIn c)) pos r ⌝ }
 {
-    let d = transcript::sample_ext(log, challenges, pos);
+    let d = transcript::sample_ext(log, lanes, challenges, pos);
     let mu = d.x;
     field::store(point, 0, mu);
     let f = reduce_to_single_evaluation(c, mu);
@@ -209,12 +223,13 @@ pub fn close_layer(
     lambda: Ext,
     point: &mut [u32],
     log: &mut [u32],
+    lanes: &mut [u64; 25],
     challenges: &[u32],
     s: Sums,
 ) -> Advance
-    requires room { ⌜ (4 ≤ length (now point)) × (s .pos .put + 20 ≤ length (now log)) × Enough (now log) (now challenges) (s .pos) 1 ⌝ }
+    requires room { ⌜ (4 ≤ length (now point)) × (s .pos .put + 20 ≤ length (now log)) × Enough (now log) (now lanes) (now challenges) (s .pos) 1 ⌝ }
     requires clean { ⌜ Clean (now point) × CanonClaims (claimsIn c) × CanonSums s × Canon lambda ⌝ }
-    ensures { λ r. ⌜ Closed (now (point .entry)) (now (point .exit)) (now (log .entry)) (now (log .exit))
+    ensures { λ r. ⌜ Closed (now (point .entry)) (now (point .exit)) (now (log .entry)) (now (log .exit)) (now (lanes .entry)) (now (lanes .exit))
         (source (s .pos .drawn) (now (challenges .entry))) (decClaims (claimsIn c)) round lambda s r ⌝ }
 {
     let p = observe_layer_claims(log, s.pos, c);
@@ -227,7 +242,7 @@ pub fn close_layer(
             actual,
         });
     }
-    Advance::Next(descend(c, point, log, challenges, p))
+    Advance::Next(descend(c, point, log, lanes, challenges, p))
 }
 
 // Layer 0: the root's numerator must be zero, and its denominator the one told.
@@ -236,12 +251,14 @@ pub fn verify_root(
     c: LayerClaims,
     point: &mut [u32],
     log: &mut [u32],
+    lanes: &mut [u64; 25],
     challenges: &[u32],
     pos: Pos,
 ) -> Advance
-    requires room { ⌜ (4 ≤ length (now point)) × (pos .put + 24 ≤ length (now log)) × Enough (now log) (now challenges) pos 1 ⌝ }
+    requires room { ⌜ (4 ≤ length (now point)) × (pos .put + 24 ≤ length (now log)) × Enough (now log) (now lanes) (now challenges) pos 1 ⌝ }
     requires clean { ⌜ Clean (now point) × CanonClaims (claimsIn c) × Canon q0 ⌝ }
-    ensures { λ r. ⌜ Rooted (now (point .exit)) (now (log .entry)) (now (log .exit)) (source (pos .drawn) (now (challenges .entry))) (dec q0) (decClaims (claimsIn c)) pos r ⌝ }
+    ensures { λ r. ⌜ Rooted (now (point .exit)) (now (log .entry)) (now (log .exit)) (now (lanes .entry)) (now (lanes .exit))
+        (source (pos .drawn) (now (challenges .entry))) (dec q0) (decClaims (claimsIn c)) pos r ⌝ }
 {
     let f = compute_recursive_relations(c);
     let numer = f.p;
@@ -257,5 +274,5 @@ pub fn verify_root(
             actual: denom,
         });
     }
-    Advance::Next(descend(c, point, log, challenges, p))
+    Advance::Next(descend(c, point, log, lanes, challenges, p))
 }

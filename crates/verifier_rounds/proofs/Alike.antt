@@ -11,9 +11,9 @@ use Rattle.verifier_round.specs.declared.Advance.{Advance}
 use Rattle.verifier_rounds.specs.Runs.{Summed, RoundDone}
 
 module _ (ch : List ℕ) {u v : Bool} (e : u ≡ v) where
-  pub summed-alike : {bs pt pt' lg lg' : List ℕ} {from k : ℕ} {s r : Sums} → Summed bs pt pt' lg lg' (source u ch) from k s r → Summed bs pt pt' lg lg' (source v ch) from k s r
-  summed-alike {bs} {pt} {pt'} {lg} {lg'} {from} {k} {s} {r} h = subst (λ (d : Bool). Summed bs pt pt' lg lg' (source d ch) from k s r) e h
+  pub summed-alike : {bs pt pt' lg lg' ls ls' : List ℕ} {from k : ℕ} {s r : Sums} → Summed bs pt pt' lg lg' ls ls' (source u ch) from k s r → Summed bs pt pt' lg lg' ls ls' (source v ch) from k s r
+  summed-alike {bs} {pt} {pt'} {lg} {lg'} {ls} {ls'} {from} {k} {s} {r} h = subst (λ (d : Bool). Summed bs pt pt' lg lg' ls ls' (source d ch) from k s r) e h
 
-  pub round-done-alike : {bs pt pt' lg lg' : List ℕ} {claims polys round : ℕ} {s : Layer} {r : Advance} → RoundDone bs pt pt' lg lg' (source u ch) claims polys round s r
-      → RoundDone bs pt pt' lg lg' (source v ch) claims polys round s r
-  round-done-alike {bs} {pt} {pt'} {lg} {lg'} {claims} {polys} {round} {s} {r} h = subst (λ (d : Bool). RoundDone bs pt pt' lg lg' (source d ch) claims polys round s r) e h
+  pub round-done-alike : {bs pt pt' lg lg' ls ls' : List ℕ} {claims polys round : ℕ} {s : Layer} {r : Advance} → RoundDone bs pt pt' lg lg' ls ls' (source u ch) claims polys round s r
+      → RoundDone bs pt pt' lg lg' ls ls' (source v ch) claims polys round s r
+  round-done-alike {bs} {pt} {pt'} {lg} {lg'} {ls} {ls'} {claims} {polys} {round} {s} {r} h = subst (λ (d : Bool). RoundDone bs pt pt' lg lg' ls ls' (source d ch) claims polys round s r) e h

@@ -61,12 +61,12 @@ read-next bs claims polys h r =
     }
 
 -- ---- the room
-pub record NextRoom (lg challenges : List ℕ) (pos : Pos) (h r : ℕ) : Type 0 where
+pub record NextRoom (lg ls challenges : List ℕ) (pos : Pos) (h r : ℕ) : Type 0 where
   pub put : pos .put + (16 * r + 24) ≤ length lg
-  pub enough : Enough lg challenges pos (r + 2)
-  pub rest : (lg' : List ℕ) (pos' : Pos) (t : Words) → length lg' ≡ length lg → Steps lg lg' pos pos' (16 * r + 24) (r + 2) t → Space lg' challenges pos' h (r + 1)
+  pub enough : Enough lg ls challenges pos (r + 2)
+  pub rest : (lg' : List ℕ) {ls' : List ℕ} (pos' : Pos) (t : Words) → length lg' ≡ length lg → Steps lg lg' ls ls' pos pos' (16 * r + 24) (r + 2) t → Space lg' ls' challenges pos' h (r + 1)
 
-room-next : (lg challenges : List ℕ) (pos : Pos) (h r : ℕ) → Space lg challenges pos (suc h) r → NextRoom lg challenges pos h r
+room-next : (lg challenges : List ℕ) {ls : List ℕ} (pos : Pos) (h r : ℕ) → Space lg ls challenges pos (suc h) r → NextRoom lg ls challenges pos h r
 unfolding layers-cost
 room-next lg challenges pos h r s =
     let e : suc r ≡ r + 1 = omega arith in
@@ -116,23 +116,23 @@ module _ (bs pt₀ pt lg₀ lg : List ℕ) (ch : Source E.Ext) (claims₀ claims
   pub next-read : r < n → NextRead bs claims polys h
   next-read b = read-next bs claims polys h (subst (Readable bs claims polys) (left b) (i .read))
 
-  pub next-room : {challenges : List ℕ} → Space lg challenges (s .pos) (n - r) r → r < n → NextRoom lg challenges (s .pos) h r
-  next-room {challenges} q b = room-next lg challenges (s .pos) h r (subst (λ k. Space lg challenges (s .pos) k r) (left b) q)
+  pub next-room : {ls challenges : List ℕ} → Space lg ls challenges (s .pos) (n - r) r → r < n → NextRoom lg ls challenges (s .pos) h r
+  next-room {ls} {challenges} q b = room-next lg challenges (s .pos) h r (subst (λ k. Space lg ls challenges (s .pos) k r) (left b) q)
 
   unfolded : r < n → going bs pt₀ lg₀ ch claims₀ polys₀ (n - 1) 1 s₀
       ≡ Gkr.rounds Extension (Drawing ch) (entryAt bs polys ∷ map (map decCubic) (entriesFrom h (drop (polys + 1 + 48 * getD bs polys 0) bs)))
       (decClaims (claimsOf (drop claims bs)) ∷ map decClaims (claimsFrom h (drop (claims + 64) bs))) (columns s) (cells pt 0 r) (logOf lg (s .pos))
   unfolded b = i .verdict ∙ ap (λ k. going bs pt lg ch claims polys k r s) (left b) ∙ next-round bs pt lg ch claims polys h r s
 
-  module _ (pt' lg' : List ℕ) (a : Advance) (b : r < n) (d : RoundDone bs pt pt' lg lg' ch claims polys r s a) where
+  module _ (pt' lg' : List ℕ) {ls ls' : List ℕ} (a : Advance) (b : r < n) (d : RoundDone bs pt pt' lg lg' ls ls' ch claims polys r s a) where
     pub going-stop : (e : Refusal) → a ≡ Stopped e → LayersEnd bs pt₀ pt' lg₀ lg' ch claims₀ polys₀ n s₀ (Stopped e)
     going-stop e q =
-        let st = subst (Advances lg lg' pt' ch (s .pos) (r + 1) (16 * r + 24) (r + 2) _) q (d .run) in
+        let st = subst (Advances lg lg' ls ls' pt' ch (s .pos) (r + 1) (16 * r + 24) (r + 2) _) q (d .run) in
         stopped-before lg₀ lg lg' ch (s₀ .pos) (s .pos) (i .more) (i .rest) (i .logs) _ _ e (unfolded b) (st _ _)
 
     pub going-next : (t : Layer) → a ≡ Next t → length pt' ≡ length pt → length lg' ≡ length lg → Going bs pt₀ pt' lg₀ lg' ch claims₀ (claims + 64) polys₀ (polys + (1 + 48 * r)) n (r + 1) s₀ t
     going-next t q x y =
-        let g = subst (Advances lg lg' pt' ch (s .pos) (r + 1) (16 * r + 24) (r + 2) _) q (d .run) in
+        let g = subst (Advances lg lg' ls ls' pt' ch (s .pos) (r + 1) (16 * r + 24) (r + 2) _) q (d .run) in
         let p : polys + 1 + 48 * getD bs polys 0 ≡ polys + (1 + 48 * r) = omega (arith, d .counted t q) in
         let put : s .pos .put ≤ t .pos .put = omega (arith, g .steps .put) in
         record {
@@ -150,12 +150,12 @@ module _ (bs pt₀ pt lg₀ lg : List ℕ) (ch : Source E.Ext) (claims₀ claims
           logs = y ∙ i .logs;
         }
 
-    pub space-next : {challenges : List ℕ} (t : Layer) → a ≡ Next t → length lg' ≡ length lg → Space lg challenges (s .pos) (n - r) r → Space lg' challenges (t .pos) h (r + 1)
+    pub space-next : {challenges : List ℕ} (t : Layer) → a ≡ Next t → length lg' ≡ length lg → Space lg ls challenges (s .pos) (n - r) r → Space lg' ls' challenges (t .pos) h (r + 1)
     space-next t q y p =
-        let g = subst (Advances lg lg' pt' ch (s .pos) (r + 1) (16 * r + 24) (r + 2) _) q (d .run) in
+        let g = subst (Advances lg lg' ls ls' pt' ch (s .pos) (r + 1) (16 * r + 24) (r + 2) _) q (d .run) in
         next-room p b .rest lg' (t .pos) _ y (g .steps)
 
-  pub going-end : {challenges : List ℕ} → Space lg challenges (s .pos) (n - r) r → n ≤ r → LayersEnd bs pt₀ pt lg₀ lg ch claims₀ polys₀ n s₀ (Next s)
+  pub going-end : {ls challenges : List ℕ} → Space lg ls challenges (s .pos) (n - r) r → n ≤ r → LayersEnd bs pt₀ pt lg₀ lg ch claims₀ polys₀ n s₀ (Next s)
   unfolding Gkr.rounds entriesFrom claimsFrom
   going-end q b =
       let z : n - r ≡ 0 = omega (arith, i .upto) in
@@ -173,16 +173,16 @@ module _ (bs pt₀ pt lg₀ lg : List ℕ) (ch : Source E.Ext) (claims₀ claims
       }
 
 -- ---- round 0
-module _ (bs lg lg₁ : List ℕ) (ch : Source E.Ext) (polys n : ℕ) (pos : Pos) (q0 : Ext) (c : LayerClaims) (pt₁ : List ℕ) (a : Advance) (x : q0 ≡ elem (drop 5 bs)) (y : claimsIn c ≡ claimsOf (drop 22 bs))
-    (d : Rooted pt₁ lg lg₁ ch (dec q0) (decClaims (claimsIn c)) pos a) where
-  there : Rooted pt₁ lg lg₁ ch (dec (elem (drop 5 bs))) (decClaims (claimsOf (drop 22 bs))) pos a
-  there = subst (λ e. Rooted pt₁ lg lg₁ ch (dec e) (decClaims (claimsOf (drop 22 bs))) pos a) x (subst (λ e. Rooted pt₁ lg lg₁ ch (dec q0) (decClaims e) pos a) y d)
+module _ (bs lg lg₁ ls ls₁ : List ℕ) (ch : Source E.Ext) (polys n : ℕ) (pos : Pos) (q0 : Ext) (c : LayerClaims) (pt₁ : List ℕ) (a : Advance) (x : q0 ≡ elem (drop 5 bs)) (y : claimsIn c ≡ claimsOf (drop 22 bs))
+    (d : Rooted pt₁ lg lg₁ ls ls₁ ch (dec q0) (decClaims (claimsIn c)) pos a) where
+  there : Rooted pt₁ lg lg₁ ls ls₁ ch (dec (elem (drop 5 bs))) (decClaims (claimsOf (drop 22 bs))) pos a
+  there = subst (λ e. Rooted pt₁ lg lg₁ ls ls₁ ch (dec e) (decClaims (claimsOf (drop 22 bs))) pos a) x (subst (λ e. Rooted pt₁ lg lg₁ ls ls₁ ch (dec q0) (decClaims e) pos a) y d)
 
   pub root-stop : (pt' : List ℕ) (e : Refusal) → a ≡ Stopped e → RootEnd bs pt' lg lg₁ ch polys n pos (Stopped e)
-  root-stop pt' e q = subst (Advances lg lg₁ pt₁ ch pos 1 24 1 _) q there _ _
+  root-stop pt' e q = subst (Advances lg lg₁ ls ls₁ pt₁ ch pos 1 24 1 _) q there _ _
 
-  pub root-goes : (s : Layer) → a ≡ Next s → Goes lg lg₁ pt₁ ch pos 1 24 1 (λ mss cs. Gkr.root Extension (Drawing ch) (dec (elem (drop 5 bs))) (decClaims (claimsOf (drop 22 bs))) cs mss (logOf lg pos)) s
-  root-goes s q = subst (Advances lg lg₁ pt₁ ch pos 1 24 1 _) q there
+  pub root-goes : (s : Layer) → a ≡ Next s → Goes lg lg₁ ls ls₁ pt₁ ch pos 1 24 1 (λ mss cs. Gkr.root Extension (Drawing ch) (dec (elem (drop 5 bs))) (decClaims (claimsOf (drop 22 bs))) cs mss (logOf lg pos)) s
+  root-goes s q = subst (Advances lg lg₁ ls ls₁ pt₁ ch pos 1 24 1 _) q there
 
   pub root-end : (pt' lg' : List ℕ) (s : Layer) (r : Advance) → a ≡ Next s → length lg₁ ≡ length lg → (ch₁ : Source E.Ext) → ch₁ ≡ ch
       → LayersEnd bs pt₁ pt' lg₁ lg' ch₁ 86 polys n s r → RootEnd bs pt' lg lg' ch polys n pos r
@@ -190,7 +190,7 @@ module _ (bs lg lg₁ : List ℕ) (ch : Source E.Ext) (polys n : ℕ) (pos : Pos
       let g = root-goes s q in
       ended-before lg lg₁ lg' ch pos (s .pos) (omega (arith, g .steps .put)) (g .steps .rest) l pt' n _ _ r (g .steps .drawn) (g .verdict _ _) (subst (λ d. LayersEnd bs pt₁ pt' lg₁ lg' d 86 polys n s r) w e)
 
-  pub root-space : {challenges : List ℕ} (s : Layer) → a ≡ Next s → length lg₁ ≡ length lg → (m : ℕ) → RootSpace lg challenges pos m → Space lg₁ challenges (s .pos) m 1
+  pub root-space : {challenges : List ℕ} (s : Layer) → a ≡ Next s → length lg₁ ≡ length lg → (m : ℕ) → RootSpace lg ls challenges pos m → Space lg₁ ls₁ challenges (s .pos) m 1
   root-space s q l m p =
       let g = root-goes s q in
       record { put = omega (arith, g .steps .put, p .put, l); enough = enough-after (1 + layers-cost 0 1 m 1) (omega arith) (omega arith) (g .steps) (p .enough) }

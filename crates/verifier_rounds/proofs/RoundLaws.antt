@@ -59,8 +59,8 @@ claims-told c d e h = subst CanonClaims (sym e) h
 pub canon-told : (q r : Ext) → q ≡ r → Canon r → Canon q
 canon-told q r e h = subst Canon (sym e) h
 
-came : (bs pt pt' lg lg₁ lg₂ : List ℕ) (ch : Source E.Ext) (polys round : ℕ) (s : Layer) (o : Opened) (last : Sums) → getD bs polys 0 ≡ round → Opens pt lg lg₁ ch s o
-    → Summed bs pt pt' lg₁ lg₂ ch (polys + 1) round (o .first) last → Came pt' lg₂ ch round (o .lambda) last (entryAt bs polys) (columns s) (cells pt 0 round) (logOf lg (s .pos))
+came : (bs pt pt' lg lg₁ lg₂ : List ℕ) {ls ls₁ ls₂ : List ℕ} (ch : Source E.Ext) (polys round : ℕ) (s : Layer) (o : Opened) (last : Sums) → getD bs polys 0 ≡ round → Opens pt lg lg₁ ls ls₁ ch s o
+    → Summed bs pt pt' lg₁ lg₂ ls₁ ls₂ ch (polys + 1) round (o .first) last → Came pt' lg₂ ch round (o .lambda) last (entryAt bs polys) (columns s) (cells pt 0 round) (logOf lg (s .pos))
 came bs pt pt' lg lg₁ lg₂ ch polys round s o last e a b =
     let z : cells pt 0 round ≡ ahead (dec (o .first .xi)) pt 0 round = sym (ahead-all pt round) ∙ ap (λ x. ahead x pt 0 round) (sym (a .xi .value)) in
     let here : _ ≡ summing bs pt lg₁ ch (polys + 1) 0 round (o .first) =
@@ -73,15 +73,15 @@ came bs pt pt' lg lg₁ lg₂ ch polys round s o last e a b =
     }
 
 -- ---- the count is right
-pub round-closed : (bs pt pt₁ pt₂ lg lg₁ lg₂ lg₃ : List ℕ) (ch : Source E.Ext) (claims polys round : ℕ) (s : Layer) (o : Opened) (last : Sums) (c : LayerClaims) (r : Advance)
-    → getD bs polys 0 ≡ round → length lg₂ ≡ length lg → Opens pt lg lg₁ ch s o → Summed bs pt pt₁ lg₁ lg₂ ch (polys + 1) round (o .first) last → claimsIn c ≡ claimsOf (drop claims bs)
-    → (ch₁ : Source E.Ext) → ch₁ ≡ ch → Closed pt₁ pt₂ lg₂ lg₃ ch₁ (decClaims (claimsIn c)) round (o .lambda) last r → RoundDone bs pt pt₂ lg lg₃ ch claims polys round s r
-round-closed bs pt pt₁ pt₂ lg lg₁ lg₂ lg₃ ch claims polys round s o last c r e l a b q ch₁ w h =
-    let closed : Closed pt₁ pt₂ lg₂ lg₃ ch (decClaims (claimsOf (drop claims bs))) round (o .lambda) last r = subst (λ d. Closed pt₁ pt₂ lg₂ lg₃ ch (decClaims d) round (o .lambda) last r) q (subst (λ d. Closed pt₁ pt₂ lg₂ lg₃ d (decClaims (claimsIn c)) round (o .lambda) last r) w h) in
+pub round-closed : (bs pt pt₁ pt₂ lg lg₁ lg₂ lg₃ : List ℕ) {ls ls₁ ls₂ ls₃ : List ℕ} (ch : Source E.Ext) (claims polys round : ℕ) (s : Layer) (o : Opened) (last : Sums) (c : LayerClaims) (r : Advance)
+    → getD bs polys 0 ≡ round → length lg₂ ≡ length lg → Opens pt lg lg₁ ls ls₁ ch s o → Summed bs pt pt₁ lg₁ lg₂ ls₁ ls₂ ch (polys + 1) round (o .first) last → claimsIn c ≡ claimsOf (drop claims bs)
+    → (ch₁ : Source E.Ext) → ch₁ ≡ ch → Closed pt₁ pt₂ lg₂ lg₃ ls₂ ls₃ ch₁ (decClaims (claimsIn c)) round (o .lambda) last r → RoundDone bs pt pt₂ lg lg₃ ls ls₃ ch claims polys round s r
+round-closed bs pt pt₁ pt₂ lg lg₁ lg₂ lg₃ {ls} {ls₁} {ls₂} {ls₃} ch claims polys round s o last c r e l a b q ch₁ w h =
+    let closed : Closed pt₁ pt₂ lg₂ lg₃ ls₂ ls₃ ch (decClaims (claimsOf (drop claims bs))) round (o .lambda) last r = subst (λ d. Closed pt₁ pt₂ lg₂ lg₃ ls₂ ls₃ ch (decClaims d) round (o .lambda) last r) q (subst (λ d. Closed pt₁ pt₂ lg₂ lg₃ ls₂ ls₃ d (decClaims (claimsIn c)) round (o .lambda) last r) w h) in
     let steps = then lg lg₁ lg₂ (s .pos) (o .first .pos) (last .pos) 4 1 (16 * round) round _ _ (a .steps) (b .steps) in
     record {
       run =
-          advanced-before lg lg₂ lg₃ pt₂ ch (s .pos) (last .pos) (round + 1) (4 + 16 * round) (1 + round) 20 1 (16 * round + 24) (round + 2) _ _ r steps l (omega arith) (omega arith)
+          advanced-before lg lg₂ lg₃ ls ls₂ ls₃ pt₂ ch (s .pos) (last .pos) (round + 1) (4 + 16 * round) (1 + round) 20 1 (16 * round + 24) (round + 2) _ _ r steps l (omega arith) (omega arith)
           (closed (entryAt bs polys) (columns s) (cells pt 0 round) (logOf lg (s .pos)) (came bs pt pt₁ lg lg₁ lg₂ ch polys round s o last e a b));
       counted = λ t _. e;
     }
@@ -97,8 +97,8 @@ count-fails ch ms c v z t mss cs k r a b h =
 never : (e : _) (t : Layer) → Stopped e ≡ Next t → ⊥
 never e t q = let z : _≡_ {A = ℕ} 0 1 = cc in omega arith
 
-pub round-stopped : (bs pt lg lg₁ : List ℕ) (ch : Source E.Ext) (claims polys round count : ℕ) (s : Layer) (o : Opened) → count ≡ getD bs polys 0 → (count ≡ round → ⊥)
-    → s .pos .put + (16 * round + 24) ≤ length lg → Opens pt lg lg₁ ch s o → RoundDone bs pt pt lg lg₁ ch claims polys round s (Stopped (IncorrectSubroundCount round round count))
+pub round-stopped : (bs pt lg lg₁ : List ℕ) {ls ls₁ : List ℕ} (ch : Source E.Ext) (claims polys round count : ℕ) (s : Layer) (o : Opened) → count ≡ getD bs polys 0 → (count ≡ round → ⊥)
+    → s .pos .put + (16 * round + 24) ≤ length lg → Opens pt lg lg₁ ls ls₁ ch s o → RoundDone bs pt pt lg lg₁ ls ls₁ ch claims polys round s (Stopped (IncorrectSubroundCount round round count))
 round-stopped bs pt lg lg₁ ch claims polys round count s o e h room a =
     record {
       run = λ mss cs.

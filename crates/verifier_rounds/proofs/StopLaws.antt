@@ -53,9 +53,9 @@ module _ (lg₀ lg lg' : List ℕ) (ch : Source E.Ext) (pos₀ pos : Pos) (m : p
       }
   ended-before pt' n v₀ v (Stopped e) w q a = stopped-before v₀ v e q a
 
-pub advanced-before : (lg₀ lg lg' pt' : List ℕ) (ch : Source E.Ext) (pos₀ pos : Pos) (k n m n' m' N M : ℕ) (t : Words) (v : List (List (Cubic E.Ext)) → List (Claims E.Ext) → Model ch) (r : Advance)
-    → Steps lg₀ lg pos₀ pos n m t → length lg ≡ length lg₀ → n + n' ≡ N → m + m' ≡ M → Advances lg lg' pt' ch pos k n' m' v r → Advances lg₀ lg' pt' ch pos₀ k N M v r
-advanced-before lg₀ lg lg' pt' ch pos₀ pos k n m n' m' N M t v (Next s) a l x y g =
+pub advanced-before : (lg₀ lg lg' ls₀ ls ls' pt' : List ℕ) (ch : Source E.Ext) (pos₀ pos : Pos) (k n m n' m' N M : ℕ) (t : Words) (v : List (List (Cubic E.Ext)) → List (Claims E.Ext) → Model ch) (r : Advance)
+    → Steps lg₀ lg ls₀ ls pos₀ pos n m t → length lg ≡ length lg₀ → n + n' ≡ N → m + m' ≡ M → Advances lg lg' ls ls' pt' ch pos k n' m' v r → Advances lg₀ lg' ls₀ ls' pt' ch pos₀ k N M v r
+advanced-before lg₀ lg lg' ls₀ ls ls' pt' ch pos₀ pos k n m n' m' N M t v (Next s) a l x y g =
     record {
       verdict = g .verdict;
       steps = retold lg₀ lg' pos₀ (s .pos) (n + n') (m + m') N M _ _ x y refl (then lg₀ lg lg' pos₀ pos (s .pos) n m n' m' _ _ a (g .steps));
@@ -63,5 +63,5 @@ advanced-before lg₀ lg lg' pt' ch pos₀ pos k n m n' m' N M t v (Next s) a l 
       denom = g .denom;
       clean = g .clean;
     }
-advanced-before lg₀ lg lg' pt' ch pos₀ pos k n m n' m' N M t v (Stopped e) a l x y g =
+advanced-before lg₀ lg lg' ls₀ ls ls' pt' ch pos₀ pos k n m n' m' N M t v (Stopped e) a l x y g =
     λ mss cs. stopped-before lg₀ lg lg' ch pos₀ pos (omega (arith, a .put)) (a .rest) l (v mss cs) (v mss cs) e refl (g mss cs)

@@ -34,12 +34,12 @@ use Rattle.verifier_rounds.proofs.Messages.{cubic-first, cubics-rest}
 pub cubic-told : (m : SubroundEvals) (n : Cubic Ext) → cubicIn m ≡ n → CanonCubic n → CanonCubic (cubicIn m)
 cubic-told m n e h = subst CanonCubic (sym e) h
 
-pub told-again : (pt pt' lg lg' : List ℕ) (ch : Source E.Ext) (j : ℕ) (m : SubroundEvals) (n : Cubic Ext) (s r : Sums) → cubicIn m ≡ n → SubRound pt pt' lg lg' ch j (decCubic (cubicIn m)) s r
-    → SubRound pt pt' lg lg' ch j (decCubic n) s r
-told-again pt pt' lg lg' ch j m n s r e h = subst (λ k. SubRound pt pt' lg lg' ch j (decCubic k) s r) e h
+pub told-again : (pt pt' lg lg' : List ℕ) {ls ls' : List ℕ} (ch : Source E.Ext) (j : ℕ) (m : SubroundEvals) (n : Cubic Ext) (s r : Sums) → cubicIn m ≡ n → SubRound pt pt' lg lg' ls ls' ch j (decCubic (cubicIn m)) s r
+    → SubRound pt pt' lg lg' ls ls' ch j (decCubic n) s r
+told-again pt pt' lg lg' {ls} {ls'} ch j m n s r e h = subst (λ k. SubRound pt pt' lg lg' ls ls' ch j (decCubic k) s r) e h
 
-pub sub-start : (bs pt lg : List ℕ) (ch : Source E.Ext) (from k : ℕ) (s : Sums) → Clean pt → CanonSums s → allCanonical (cubicsWords (cubicsFrom k (drop from bs))) ≡ true
-    → Summing bs pt pt lg lg ch from from k 0 s s
+pub sub-start : (bs pt lg : List ℕ) {ls : List ℕ} (ch : Source E.Ext) (from k : ℕ) (s : Sums) → Clean pt → CanonSums s → allCanonical (cubicsWords (cubicsFrom k (drop from bs))) ≡ true
+    → Summing bs pt pt lg lg ls ls ch from from k 0 s s
 sub-start bs pt lg ch from k s c d w =
     let z : k - 0 ≡ k = omega arith in
     record {
@@ -58,7 +58,7 @@ sub-start bs pt lg ch from k s c d w =
     }
 
 -- the model's next sub-round is the one that the code made
-one-sub : (bs pt pt' lg lg' : List ℕ) (ch : Source E.Ext) (at j n : ℕ) (s r : Sums) → SubRound pt pt' lg lg' ch j (decCubic (cubicOf (drop at bs))) s r
+one-sub : (bs pt pt' lg lg' : List ℕ) {ls ls' : List ℕ} (ch : Source E.Ext) (at j n : ℕ) (s r : Sums) → SubRound pt pt' lg lg' ls ls' ch j (decCubic (cubicOf (drop at bs))) s r
     → summing bs pt lg ch at j (suc n) s
     ≡ record {
       claim = summing bs pt' lg' ch (at + 48) (j + 1) n r .claim;
@@ -75,14 +75,14 @@ one-sub bs pt pt' lg lg' ch at j n s r h =
     ap (λ ms. Sumcheck.verify-gkr-sumcheck Extension (Drawing ch) (map decCubic ms) (ahead (dec (s .xi)) pt j (suc n)) (dec (s .claim)) (dec (s .eq)) (logOf lg (s .pos))) (cubics-step n at bs)
     ∙ (λ i. record { claim = same i .claim; point = x ∷ same i .point; eq = same i .eq; log = same i .log })
 
-module _ (bs pt₀ pt lg₀ lg : List ℕ) (ch : Source E.Ext) (from at k j : ℕ) (s₀ s : Sums) (i : Summing bs pt₀ pt lg₀ lg ch from at k j s₀ s) where
+module _ (bs pt₀ pt lg₀ lg : List ℕ) {ls₀ ls : List ℕ} (ch : Source E.Ext) (from at k j : ℕ) (s₀ s : Sums) (i : Summing bs pt₀ pt lg₀ lg ls₀ ls ch from at k j s₀ s) where
   pub sub-canon : j < k → CanonCubic (cubicOf (drop at bs))
   sub-canon h =
       let e : k - j ≡ suc (k - (j + 1)) = omega arith in
       cubic-first (k - (j + 1)) at bs (ap (λ n. allCanonical (cubicsWords (cubicsFrom n (drop at bs)))) (sym e) ∙ i .words)
 
-  pub sub-turn : (pt' lg' : List ℕ) (r : Sums) → j < k → length pt' ≡ length pt → length lg' ≡ length lg → SubRound pt pt' lg lg' ch j (decCubic (cubicOf (drop at bs))) s r
-      → Summing bs pt₀ pt' lg₀ lg' ch from (at + 48) k (j + 1) s₀ r
+  pub sub-turn : (pt' lg' : List ℕ) {ls' : List ℕ} (r : Sums) → j < k → length pt' ≡ length pt → length lg' ≡ length lg → SubRound pt pt' lg lg' ls ls' ch j (decCubic (cubicOf (drop at bs))) s r
+      → Summing bs pt₀ pt' lg₀ lg' ls₀ ls' ch from (at + 48) k (j + 1) s₀ r
   sub-turn pt' lg' r h p l d =
       let e : k - j ≡ suc (k - (j + 1)) = omega arith in
       let n = k - (j + 1) in
@@ -107,7 +107,7 @@ module _ (bs pt₀ pt lg₀ lg : List ℕ) (ch : Source E.Ext) (from at k j : �
         logs = l ∙ i .logs;
       }
 
-  pub sub-end : k ≤ j → Summed bs pt₀ pt lg₀ lg ch from k s₀ s
+  pub sub-end : k ≤ j → Summed bs pt₀ pt lg₀ lg ls₀ ls ch from k s₀ s
   unfolding Sumcheck.verify-gkr-sumcheck cubicsFrom
   sub-end h =
       let z : k - j ≡ 0 = omega (arith, i .upto) in

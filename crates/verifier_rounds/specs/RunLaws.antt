@@ -1,4 +1,4 @@
--- No second answer and no second log fit the loops over a proof, but for the sponge of the position. Of the point only the coordinates are said: it is an array of the caller's own. A lent slice keeps its length.
+-- No second answer and no second log fit the loops over a proof, but for the sponge. Of the point only the coordinates are said: it is an array of the caller's own. A lent slice keeps its length.
 -- Assumes nothing.
 use mathlib.Core.Path.{_≡_, sym, _∙_, ap}
 use mathlib.Core.List.{List}
@@ -24,7 +24,7 @@ use Rattle.verifier_round.specs.AdvanceLaws.{SameAdvance, canon-unique, accepte
 use Rattle.verifier_rounds.specs.Runs.{Summed, Accepts, Ends}
 
 -- the claim, eq, where the run stands, and the log
-pub summed-unique : {bs pt pt' pt″ lg lg' lg″ : List ℕ} {ch : Source E.Ext} {from k : ℕ} {s₀ r s : Sums} → Summed bs pt pt' lg lg' ch from k s₀ r → Summed bs pt pt″ lg lg″ ch from k s₀ s
+pub summed-unique : {bs pt pt' pt″ lg lg' lg″ ls ls' ls″ : List ℕ} {ch : Source E.Ext} {from k : ℕ} {s₀ r s : Sums} → Summed bs pt pt' lg lg' ls ls' ch from k s₀ r → Summed bs pt pt″ lg lg″ ls ls″ ch from k s₀ s
     → (r .claim ≡ s .claim) × (r .eq ≡ s .eq) × SamePos (r .pos) (s .pos) × (lg' ≡ lg″)
 summed-unique h h' = let e = steps-unique (h .steps) (h' .steps) in (is-unique (h .claim) (h' .claim), is-unique (h .eq) (h' .eq), e .0, e .1)
 

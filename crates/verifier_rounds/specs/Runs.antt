@@ -42,23 +42,23 @@ abbrev pub summing : (bs pt lg : List ℕ) (ch : Source E.Ext) (at j k : ℕ) (s
 summing bs pt lg ch at j k s = Sumcheck.verify-gkr-sumcheck Extension (Drawing ch) (cubicsAt bs at k) (ahead (dec (s .xi)) pt j k) (dec (s .claim)) (dec (s .eq)) (logOf lg (s .pos))
 
 -- what k sub-rounds leave
-pub record Summed (bs pt pt' lg lg' : List ℕ) (ch : Source E.Ext) (from k : ℕ) (s r : Sums) : Type 0 where
+pub record Summed (bs pt pt' lg lg' ls ls' : List ℕ) (ch : Source E.Ext) (from k : ℕ) (s r : Sums) : Type 0 where
   pub claim : Is (r .claim) (summing bs pt lg ch from 0 k s .claim)
   pub eq : Is (r .eq) (summing bs pt lg ch from 0 k s .eq)
   pub point : cells pt' 1 k ≡ summing bs pt lg ch from 0 k s .point
-  pub steps : Steps lg lg' (s .pos) (r .pos) (16 * k) k (summing bs pt lg ch from 0 k s .log)
+  pub steps : Steps lg lg' ls ls' (s .pos) (r .pos) (16 * k) k (summing bs pt lg ch from 0 k s .log)
   pub xi : Canon (r .xi)
   pub clean : Clean pt'
 
 -- before sub-round j of k: the rhos so far, and what the model makes of the rest from here, are what it makes of all from the start
-pub record Summing (bs pt₀ pt lg₀ lg : List ℕ) (ch : Source E.Ext) (from at k j : ℕ) (s₀ s : Sums) : Type 0 where
+pub record Summing (bs pt₀ pt lg₀ lg ls₀ ls : List ℕ) (ch : Source E.Ext) (from at k j : ℕ) (s₀ s : Sums) : Type 0 where
   pub upto : j ≤ k
   pub place : at ≡ from + 48 * j
   pub claim : summing bs pt lg ch at j (k - j) s .claim ≡ summing bs pt₀ lg₀ ch from 0 k s₀ .claim
   pub eq : summing bs pt lg ch at j (k - j) s .eq ≡ summing bs pt₀ lg₀ ch from 0 k s₀ .eq
   pub point : cells pt 1 j ++ summing bs pt lg ch at j (k - j) s .point ≡ summing bs pt₀ lg₀ ch from 0 k s₀ .point
   pub log : summing bs pt lg ch at j (k - j) s .log ≡ summing bs pt₀ lg₀ ch from 0 k s₀ .log
-  pub steps : Steps lg₀ lg (s₀ .pos) (s .pos) (16 * j) j (logOf lg (s .pos))
+  pub steps : Steps lg₀ lg ls₀ ls (s₀ .pos) (s .pos) (16 * j) j (logOf lg (s .pos))
   pub canon : CanonSums s
   pub words : allCanonical (cubicsWords (cubicsFrom (k - j) (drop at bs))) ≡ true
   pub clean : Clean pt
@@ -71,8 +71,8 @@ abbrev pub entryAt : List ℕ → ℕ → List (Cubic E.Ext)
 entryAt bs polys = cubicsAt bs (polys + 1) (getD bs polys 0)
 
 -- a round takes the model on or stops it, whatever comes after; one that holds has as many sub-rounds as its number
-pub record RoundDone (bs pt pt' lg lg' : List ℕ) (ch : Source E.Ext) (claims polys round : ℕ) (s : Layer) (r : Advance) : Type 0 where
-  pub run : Advances lg lg' pt' ch (s .pos) (round + 1) (16 * round + 24) (round + 2)
+pub record RoundDone (bs pt pt' lg lg' ls ls' : List ℕ) (ch : Source E.Ext) (claims polys round : ℕ) (s : Layer) (r : Advance) : Type 0 where
+  pub run : Advances lg lg' ls ls' pt' ch (s .pos) (round + 1) (16 * round + 24) (round + 2)
       (λ mss cs. Gkr.rounds Extension (Drawing ch) (entryAt bs polys ∷ mss) (decClaims (claimsOf (drop claims bs)) ∷ cs) (columns s) (cells pt 0 round) (logOf lg (s .pos))) r
   pub counted : (t : Layer) → r ≡ Next t → getD bs polys 0 ≡ round
 
@@ -87,14 +87,14 @@ pub record Readable (bs : List ℕ) (claims polys h : ℕ) : Type 0 where
   pub polys-canon : allCanonical (polysWords (entriesFrom h (drop polys bs))) ≡ true
 
 -- room in the log, and challenges, for h rounds from round r on
-pub record Space (lg challenges : List ℕ) (pos : Pos) (h r : ℕ) : Type 0 where
+pub record Space (lg ls challenges : List ℕ) (pos : Pos) (h r : ℕ) : Type 0 where
   pub put : pos .put + layers-cost 4 4 h r ≤ length lg
-  pub enough : Enough lg challenges pos (layers-cost 0 1 h r)
+  pub enough : Enough lg ls challenges pos (layers-cost 0 1 h r)
 
 -- the same for round 0 and h rounds after it
-pub record RootSpace (lg challenges : List ℕ) (pos : Pos) (h : ℕ) : Type 0 where
+pub record RootSpace (lg ls challenges : List ℕ) (pos : Pos) (h : ℕ) : Type 0 where
   pub put : pos .put + 24 + layers-cost 4 4 h 1 ≤ length lg
-  pub enough : Enough lg challenges pos (1 + layers-cost 0 1 h 1)
+  pub enough : Enough lg ls challenges pos (1 + layers-cost 0 1 h 1)
 
 -- the model over the h rounds from round r on
 abbrev pub going : (bs pt lg : List ℕ) (ch : Source E.Ext) (claims polys h r : ℕ) (s : Layer) → Model ch

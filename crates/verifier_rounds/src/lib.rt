@@ -27,16 +27,17 @@ fn sub_round_at(
     point: &mut [u32],
     j: usize,
     log: &mut [u32],
+    lanes: &mut [u64; 25],
     challenges: &[u32],
     s: Sums,
 ) -> Sums
-    requires room { ⌜ (at + 48 ≤ length (now proof)) × (4 * j + 7 < length (now point)) × (s .pos .put + 16 ≤ length (now log)) × Enough (now log) (now challenges) (s .pos) 1 ⌝ }
+    requires room { ⌜ (at + 48 ≤ length (now proof)) × (4 * j + 7 < length (now point)) × (s .pos .put + 16 ≤ length (now log)) × Enough (now log) (now lanes) (now challenges) (s .pos) 1 ⌝ }
     requires clean { ⌜ Clean (now point) × CanonCubic (cubicOf (drop at (now proof))) × CanonSums s ⌝ }
-    ensures { λ r. ⌜ SubRound (now (point .entry)) (now (point .exit)) (now (log .entry)) (now (log .exit))
+    ensures { λ r. ⌜ SubRound (now (point .entry)) (now (point .exit)) (now (log .entry)) (now (log .exit)) (now (lanes .entry)) (now (lanes .exit))
         (source (s .pos .drawn) (now (challenges .entry))) j (decCubic (cubicOf (drop at (now (proof .entry))))) s r ⌝ }
 {
     let m = stored::read_subround(proof, at);
-    verifier_round::sub_round(m, point, j, log, challenges, s)
+    verifier_round::sub_round(m, point, j, log, lanes, challenges, s)
 }
 
 // The sub-rounds of a round, as many as its number.
@@ -46,19 +47,20 @@ pub fn verify_gkr_sumcheck(
     round: usize,
     point: &mut [u32],
     log: &mut [u32],
+    lanes: &mut [u64; 25],
     challenges: &[u32],
     first: Sums,
 ) -> Sums
     requires room { ⌜ (from + 48 * round ≤ length (now proof)) × (4 * round + 4 ≤ length (now point))
-        × (first .pos .put + 16 * round ≤ length (now log)) × Enough (now log) (now challenges) (first .pos) round ⌝ }
+        × (first .pos .put + 16 * round ≤ length (now log)) × Enough (now log) (now lanes) (now challenges) (first .pos) round ⌝ }
     requires clean { ⌜ Clean (now point) × CanonSums first × (allCanonical (cubicsWords (cubicsFrom round (drop from (now proof)))) ≡ true) ⌝ }
-    ensures { λ r. ⌜ Summed (now (proof .entry)) (now (point .entry)) (now (point .exit)) (now (log .entry)) (now (log .exit))
+    ensures { λ r. ⌜ Summed (now (proof .entry)) (now (point .entry)) (now (point .exit)) (now (log .entry)) (now (log .exit)) (now (lanes .entry)) (now (lanes .exit))
         (source (first .pos .drawn) (now (challenges .entry))) from round first r ⌝ }
 {
     let mut s = first;
     let mut at = from;
     for j in 0..round {
-        s = sub_round_at(proof, at, point, j, log, challenges, s);
+        s = sub_round_at(proof, at, point, j, log, lanes, challenges, s);
         at += 48;
     }
     s
@@ -72,18 +74,19 @@ pub fn verify_round(
     round: usize,
     point: &mut [u32],
     log: &mut [u32],
+    lanes: &mut [u64; 25],
     challenges: &[u32],
     s: Layer,
 ) -> Advance
     requires read { ⌜ (claims + 64 ≤ length (now proof)) × (polys + 1 + 48 * getD (now proof) polys 0 ≤ length (now proof)) ⌝ }
-    requires room { ⌜ (4 * round + 4 ≤ length (now point)) × (s .pos .put + (16 * round + 24) ≤ length (now log)) × Enough (now log) (now challenges) (s .pos) (round + 2) ⌝ }
+    requires room { ⌜ (4 * round + 4 ≤ length (now point)) × (s .pos .put + (16 * round + 24) ≤ length (now log)) × Enough (now log) (now lanes) (now challenges) (s .pos) (round + 2) ⌝ }
     requires clean { ⌜ Clean (now point) × Canon (s .numer) × Canon (s .denom) ⌝ }
     requires words { ⌜ CanonClaims (claimsOf (drop claims (now proof))) × (allCanonical (cubicsWords (cubicsFrom (getD (now proof) polys 0) (drop (polys + 1) (now proof)))) ≡ true) ⌝ }
-    ensures { λ r. ⌜ RoundDone (now (proof .entry)) (now (point .entry)) (now (point .exit)) (now (log .entry)) (now (log .exit))
+    ensures { λ r. ⌜ RoundDone (now (proof .entry)) (now (point .entry)) (now (point .exit)) (now (log .entry)) (now (log .exit)) (now (lanes .entry)) (now (lanes .exit))
         (source (s .pos .drawn) (now (challenges .entry))) claims polys round s r ⌝ }
 {
     let subrounds = wire::wide(proof[polys]) as usize;
-    let o = verifier_round::open_layer(point, log, challenges, s);
+    let o = verifier_round::open_layer(point, log, lanes, challenges, s);
     let lambda = o.lambda;
     let first = o.first;
     if subrounds != round {
@@ -93,9 +96,18 @@ pub fn verify_round(
             actual: subrounds,
         });
     }
-    let last = verify_gkr_sumcheck(proof, polys + 1, round, point, log, challenges, first);
+    let last = verify_gkr_sumcheck(
+        proof,
+        polys + 1,
+        round,
+        point,
+        log,
+        lanes,
+        challenges,
+        first,
+    );
     let c = stored::read_claims(proof, claims);
-    verifier_round::close_layer(c, round, lambda, point, log, challenges, last)
+    verifier_round::close_layer(c, round, lambda, point, log, lanes, challenges, last)
 }
 
 // The rounds after round 0.
@@ -106,11 +118,12 @@ pub fn verify_rounds(
     rounds: usize,
     point: &mut [u32],
     log: &mut [u32],
+    lanes: &mut [u64; 25],
     challenges: &[u32],
     first: Layer,
 ) -> Advance
     requires read { ⌜ (1 ≤ rounds) × Readable (now proof) claims polys (rounds - 1) ⌝ }
-    requires room { ⌜ (4 * rounds ≤ length (now point)) × Space (now log) (now challenges) (first .pos) (rounds - 1) 1 ⌝ }
+    requires room { ⌜ (4 * rounds ≤ length (now point)) × Space (now log) (now lanes) (now challenges) (first .pos) (rounds - 1) 1 ⌝ }
     requires clean { ⌜ Clean (now point) × Canon (first .numer) × Canon (first .denom) ⌝ }
     ensures { λ r. ⌜ LayersEnd (now (proof .entry)) (now (point .entry)) (now (point .exit)) (now (log .entry)) (now (log .exit))
         (source (first .pos .drawn) (now (challenges .entry))) claims polys rounds first r ⌝ }
@@ -119,7 +132,7 @@ pub fn verify_rounds(
     let mut c = claims;
     let mut p = polys;
     for round in 1..rounds {
-        match verify_round(proof, c, p, round, point, log, challenges, s) {
+        match verify_round(proof, c, p, round, point, log, lanes, challenges, s) {
             Advance::Next(t) => {
                 s = t;
             }
@@ -140,19 +153,30 @@ pub fn verify_all(
     rounds: usize,
     point: &mut [u32],
     log: &mut [u32],
+    lanes: &mut [u64; 25],
     challenges: &[u32],
     pos: Pos,
 ) -> Advance
     requires read { ⌜ (1 ≤ rounds) × (22 + 64 * rounds ≤ length (now proof)) × Readable (now proof) 86 polys (rounds - 1) ⌝ }
-    requires room { ⌜ (4 * rounds ≤ length (now point)) × RootSpace (now log) (now challenges) pos (rounds - 1) ⌝ }
+    requires room { ⌜ (4 * rounds ≤ length (now point)) × RootSpace (now log) (now lanes) (now challenges) pos (rounds - 1) ⌝ }
     requires clean { ⌜ Clean (now point) ⌝ }
     requires words { ⌜ Canon (elem (drop 5 (now proof))) × CanonClaims (claimsOf (drop 22 (now proof))) ⌝ }
     ensures { λ r. ⌜ RootEnd (now (proof .entry)) (now (point .exit)) (now (log .entry)) (now (log .exit)) (source (pos .drawn) (now (challenges .entry))) polys rounds pos r ⌝ }
 {
     let q0 = wire::element_at(proof, 5);
     let c = stored::read_claims(proof, 22);
-    match verifier_round::verify_root(q0, c, point, log, challenges, pos) {
-        Advance::Next(s) => verify_rounds(proof, 86, polys, rounds, point, log, challenges, s),
+    match verifier_round::verify_root(q0, c, point, log, lanes, challenges, pos) {
+        Advance::Next(s) => verify_rounds(
+            proof,
+            86,
+            polys,
+            rounds,
+            point,
+            log,
+            lanes,
+            challenges,
+            s,
+        ),
         Advance::Stopped(refusal) => Advance::Stopped(refusal),
     }
 }

@@ -26,18 +26,18 @@ load-node-requires-2 c κs = search needs
 
 observe-fraction-requires-2 : tie.Need-observe-fraction-requires-2
 observe-fraction-requires-2 c κs =
-    let s = c .before .before .before .before .observe-fraction .ensures in
+    let s = c .before .before .before .before .observe-fraction .ensures (c .before .before .before .before .before .before .before .before .before .before .before .args .lanes .now) in
     (omega (arith, c .before .before .before .before .before .before .before .before .before .before .before .pre .0, c .before .before .before .before .observe-fraction .kept .0, s .put), record { p = c .load-node2 .ensures .p .canon; q = c .load-node2 .ensures .q .canon })
 
 sample-ext-requires : tie.Need-sample-ext-requires
 sample-ext-requires c κs =
-    let p = c .before .before .before .before .before .before .before .before .before .before .before .before .before .before .before .pre in
-    let s = c .before .before .before .before .before .before .before .before .observe-fraction .ensures in
-    let t = c .before .before .before .observe-fraction2 .ensures in
-    (omega (arith, p .0, c .before .before .before .before .before .before .before .before .observe-fraction .kept .0, s .put, c .before .before .before .observe-fraction2 .kept .0, t .put), enough-after 1 (omega arith) (omega arith) t (enough-after 1 (omega arith) (omega arith) s (p .0 .3)))
+    let p = c .before .before .before .before .before .before .before .before .before .before .before .before .before .before .before .before .pre in
+    let s = c .before .before .before .before .before .before .before .before .before .observe-fraction .ensures (c .before .before .before .before .before .before .before .before .before .before .before .before .before .before .before .before .args .lanes .now) in
+    let t = c .before .before .before .before .observe-fraction2 .ensures (c .before .before .before .before .before .before .before .before .before .before .before .before .before .before .before .before .args .lanes .now) in
+    (omega (arith, p .0, c .before .before .before .before .before .before .before .before .before .observe-fraction .kept .0, s .put, c .before .before .before .before .observe-fraction2 .kept .0, t .put), enough-after 1 (omega arith) (omega arith) t (enough-after 1 (omega arith) (omega arith) s (p .0 .3)))
 
 store-requires : tie.Need-store-requires
-store-requires c κs = (omega (arith, c .before .before .before .before .before .before .before .before .before .before .before .before .before .before .before .before .before .before .before .pre .0), (c .before .before .before .before .before .before .before .before .before .before .before .before .before .before .before .before .before .before .before .pre .1 .1, c .before .before .before .sample-ext .ensures .1 .canon))
+store-requires c κs = (omega (arith, c .before .before .before .before .before .before .before .before .before .before .before .before .before .before .before .before .before .before .before .before .pre .0), (c .before .before .before .before .before .before .before .before .before .before .before .before .before .before .before .before .before .before .before .before .pre .1 .1, c .before .before .before .sample-ext .ensures .1 .canon))
 
 same-length : tie.Need-same-length
 same-length c = search needs
@@ -47,10 +47,10 @@ same-length-2 c = search needs
 
 returns : tie.Need-returns
 returns c =
-    let s = c .before .before .before .before .before .before .before .before .before .before .before .before .before .before .before .before .observe-fraction .ensures in
-    let t = c .before .before .before .before .before .before .before .before .before .before .before .observe-fraction2 .ensures in
-    let d = sampled-alike (c .before .before .before .before .before .before .before .before .before .before .before .before .before .before .before .before .before .before .before .before .before .before .before .args .challenges .now) (t .drawn ∙ s .drawn) (c .before .before .before .before .before .before .before .sample-ext .ensures) in
-    layer-closed _ _ _ _ _ _ _ _ _ _ _ _ _ _ _ (c .before .before .before .before .before .before .before .before .before .before .before .before .before .before .before .before .before .load-node .ensures) (c .before .before .before .before .before .before .before .before .before .before .before .before .load-node2 .ensures) s t (d .0) (d .1) (c .before .before .before .store .ensures)
+    let s = c .before .before .before .before .before .before .before .before .before .before .before .before .before .before .before .before .before .observe-fraction .ensures (c .before .before .before .before .before .before .before .before .before .before .before .before .before .before .before .before .before .before .before .before .before .before .before .before .args .lanes .now) in
+    let t = c .before .before .before .before .before .before .before .before .before .before .before .before .observe-fraction2 .ensures (c .before .before .before .before .before .before .before .before .before .before .before .before .before .before .before .before .before .before .before .before .before .before .before .before .args .lanes .now) in
+    let d = sampled-alike (c .before .before .before .before .before .before .before .before .before .before .before .before .before .before .before .before .before .before .before .before .before .before .before .before .args .challenges .now) (t .drawn ∙ s .drawn) (c .before .before .before .before .before .before .before .sample-ext .ensures) in
+    layer-closed _ _ _ _ _ _ _ _ _ _ _ _ _ _ _ (c .before .before .before .before .before .before .before .before .before .before .before .before .before .before .before .before .before .before .load-node .ensures) (c .before .before .before .before .before .before .before .before .before .before .before .before .before .load-node2 .ensures) s t (d .0) (d .1) (c .before .before .before .store .ensures)
 
 pub close-round-spec : {M : Type 1} → statement M
 close-round-spec =

@@ -19,35 +19,35 @@ mul-pq : tie.Need-mul-pq
 mul-pq c = search needs
 
 sample-ext-requires : tie.Need-sample-ext-requires
-sample-ext-requires c κs = let p = c .before .before .before .before .before .pre .1 .1 .0 in (omega (arith, p .1), enough-fewer (c .before .before .before .before .before .args .round + 2) (omega arith) (p .2))
+sample-ext-requires c κs = let p = c .before .before .before .before .before .before .pre .1 .1 .0 in (omega (arith, p .1), enough-fewer (c .before .before .before .before .before .before .args .round + 2) (omega arith) (p .2))
 
 evals-eq-hypercube-requires : tie.Need-evals-eq-hypercube-requires
 evals-eq-hypercube-requires c κs =
-    let p = c .before .before .before .before .before .before .before .before .before .before .pre in
+    let p = c .before .before .before .before .before .before .before .before .before .before .before .pre in
     (p .0, ((p .1 .0 .1, omega (arith, p .1 .1 .0)), (p .1 .1 .1 .0, p .1 .1 .1 .1)))
 
 sub-rounds-requires : tie.Need-sub-rounds-requires
 sub-rounds-requires c κs =
-    let p = c .before .before .before .before .before .before .before .before .before .before .before .before .before .before .before .before .pre in
-    let s = c .before .before .before .before .before .before .before .before .before .before .sample-ext .ensures .0 in (
+    let p = c .before .before .before .before .before .before .before .before .before .before .before .before .before .before .before .before .before .before .pre in
+    let s = c .before .before .before .before .before .before .before .before .before .before .before .sample-ext .ensures .0 in (
       p .0,
       (
-        (omega (arith, p .1 .0), omega (arith, p .1 .0, c .before .before .before .before .before .evals-eq-hypercube .kept .0)),
+        (omega (arith, p .1 .0), omega (arith, p .1 .0, c .before .before .before .before .before .before .evals-eq-hypercube .kept .0)),
         (
-          (omega (arith, p .1 .1 .0), omega (arith, p .1 .1 .0, c .before .before .before .before .before .before .before .before .before .before .sample-ext .kept .0, s .put), enough-after (c .before .before .before .before .before .before .before .before .before .before .before .before .before .before .before .before .args .round + 2) (omega arith) (omega arith) s (p .1 .1 .0 .2)),
-          (c .before .before .before .before .before .evals-eq-hypercube .ensures .clean, p .1 .1 .1 .1, c .before .before .before .before .before .before .before .before .before .before .sample-ext .ensures .1 .canon),
+          (omega (arith, p .1 .1 .0), omega (arith, p .1 .1 .0, c .before .before .before .before .before .before .before .before .before .before .before .sample-ext .kept .0, s .put), enough-after (c .before .before .before .before .before .before .before .before .before .before .before .before .before .before .before .before .before .before .args .round + 2) (omega arith) (omega arith) s (p .1 .1 .0 .2)),
+          (c .before .before .before .before .before .before .evals-eq-hypercube .ensures .clean, p .1 .1 .1 .1, c .before .before .before .before .before .before .before .before .before .before .before .sample-ext .ensures .1 .canon),
         ),
       ),
     )
 
 close-round-requires : tie.Need-close-round-requires
 close-round-requires c κs =
-    let p = c .before .before .before .before .before .before .before .before .before .before .before .before .before .before .before .before .before .before .before .before .before .before .before .before .before .before .pre in
-    let s = c .before .before .before .before .before .before .before .before .before .before .before .before .before .before .before .before .before .before .before .before .sample-ext .ensures .0 in
-    let t = c .before .before .before .before .before .before .before .before .before .sub-rounds .ensures in
-    let u = c .before .before .before .before .before .before .before .before .before .sub-rounds .kept in
-    let r = c .before .before .before .before .before .before .before .before .before .before .before .before .before .before .before .before .before .before .before .before .before .before .before .before .before .before .args .round in (
-      (omega (arith, p .0, pow-pos r, p .1 .0, c .before .before .before .before .before .before .before .before .before .before .before .before .before .before .before .evals-eq-hypercube .kept .0, u), omega (arith, p .1 .1 .0, u), omega (arith, p .1 .1 .0, c .before .before .before .before .before .before .before .before .before .before .before .before .before .before .before .before .before .before .before .before .sample-ext .kept .0, s .put, t .steps .put, u), enough-after (r + 1) (omega arith) (omega arith) (t .steps) (enough-after (r + 2) (omega arith) (omega arith) s (p .1 .1 .0 .2))),
+    let p = c .before .before .before .before .before .before .before .before .before .before .before .before .before .before .before .before .before .before .before .before .before .before .before .before .before .before .before .before .before .pre in
+    let s = c .before .before .before .before .before .before .before .before .before .before .before .before .before .before .before .before .before .before .before .before .before .before .sample-ext .ensures .0 in
+    let t = c .before .before .before .before .before .before .before .before .before .before .sub-rounds .ensures in
+    let u = c .before .before .before .before .before .before .before .before .before .before .sub-rounds .kept in
+    let r = c .before .before .before .before .before .before .before .before .before .before .before .before .before .before .before .before .before .before .before .before .before .before .before .before .before .before .before .before .before .args .round in (
+      (omega (arith, p .0, pow-pos r, p .1 .0, c .before .before .before .before .before .before .before .before .before .before .before .before .before .before .before .before .before .evals-eq-hypercube .kept .0, u), omega (arith, p .1 .1 .0, u), omega (arith, p .1 .1 .0, c .before .before .before .before .before .before .before .before .before .before .before .before .before .before .before .before .before .before .before .before .before .before .sample-ext .kept .0, s .put, t .steps .put, u), enough-after (r + 1) (omega arith) (omega arith) (t .steps) (enough-after (r + 2) (omega arith) (omega arith) s (p .1 .1 .0 .2))),
       (t .clean, t .points),
     )
 
@@ -58,16 +58,16 @@ same-length-2 : tie.Need-same-length-2
 same-length-2 c = search needs
 
 same-length-3 : tie.Need-same-length-3
-same-length-3 c = omega (arith, c .before .before .before .before .before .before .before .before .before .before .before .before .before .before .before .before .before .before .before .before .before .before .before .before .before .sample-ext .kept, c .before .before .before .before .before .before .before .before .before .before .before .before .before .before .sub-rounds .kept, c .before .before .before .before .close-round .kept)
+same-length-3 c = omega (arith, c .before .before .before .before .before .before .before .before .before .before .before .before .before .before .before .before .before .before .before .before .before .before .before .before .before .before .before .sample-ext .kept, c .before .before .before .before .before .before .before .before .before .before .before .before .before .before .before .sub-rounds .kept, c .before .before .before .before .close-round .kept)
 
 returns : tie.Need-returns
 returns c =
-    let p = c .before .before .before .before .before .before .before .before .before .before .before .before .before .before .before .before .before .before .before .before .before .before .before .before .before .before .before .before .before .before .before .pre in
-    let ch = c .before .before .before .before .before .before .before .before .before .before .before .before .before .before .before .before .before .before .before .before .before .before .before .before .before .before .before .before .before .before .before .args .challenges .now in
-    let d = c .before .before .before .before .before .before .before .before .before .before .before .before .before .before .before .before .before .before .before .before .before .before .before .before .before .sample-ext .ensures in
-    let t = c .before .before .before .before .before .before .before .before .before .before .before .before .before .before .sub-rounds .ensures in
+    let p = c .before .before .before .before .before .before .before .before .before .before .before .before .before .before .before .before .before .before .before .before .before .before .before .before .before .before .before .before .before .before .before .before .before .before .pre in
+    let ch = c .before .before .before .before .before .before .before .before .before .before .before .before .before .before .before .before .before .before .before .before .before .before .before .before .before .before .before .before .before .before .before .before .before .before .args .challenges .now in
+    let d = c .before .before .before .before .before .before .before .before .before .before .before .before .before .before .before .before .before .before .before .before .before .before .before .before .before .before .before .sample-ext .ensures in
+    let t = c .before .before .before .before .before .before .before .before .before .before .before .before .before .before .before .sub-rounds .ensures in
     let e = d .0 .drawn in
-    one-layer _ _ _ _ _ _ _ _ _ _ _ _ _ _ _ _ _ _ (p .0) (p .1 .0 .0) (d .0) (d .1) (c .before .before .before .before .before .before .before .before .before .before .before .before .before .before .before .before .before .before .before .before .evals-eq-hypercube .ensures) (sub-rounds-alike ch e t) (closed-alike ch (t .steps .drawn ∙ e) (c .before .before .before .before .close-round .ensures))
+    one-layer _ _ _ _ _ _ _ _ _ _ _ _ _ _ _ _ _ _ (p .0) (p .1 .0 .0) (d .0) (d .1) (c .before .before .before .before .before .before .before .before .before .before .before .before .before .before .before .before .before .before .before .before .before .before .evals-eq-hypercube .ensures) (sub-rounds-alike ch e t) (closed-alike ch (t .steps .drawn ∙ e) (c .before .before .before .before .close-round .ensures))
 
 pub gkr-round-spec : {M : Type 1} → statement M
 gkr-round-spec =

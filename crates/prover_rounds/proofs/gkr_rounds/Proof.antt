@@ -16,10 +16,10 @@ use Rattle.prover_rounds.proofs.gkr_rounds.Lts as lts
 use Rattle.prover_rounds.proofs.gkr_round.Reads as gkr-round-reads
 
 abbrev Inv-loop : tie.InvT-loop
-Inv-loop work₀ eq n xi₀ log₀ challenges p₀ size₀ round₀ work xi log p size round = (length work ≡ length work₀) × (length xi ≡ length xi₀) × (length log ≡ length log₀) × (size ≡ 2 ^ round) × Midway work₀ work xi₀ xi log₀ log (source (p₀ .drawn) challenges) n round p₀ p
+Inv-loop work₀ eq n xi₀ log₀ lanes₀ challenges p₀ size₀ round₀ work xi log lanes p size round = (length work ≡ length work₀) × (length xi ≡ length xi₀) × (length log ≡ length log₀) × (size ≡ 2 ^ round) × Midway work₀ work xi₀ xi log₀ log lanes₀ lanes (source (p₀ .drawn) challenges) n round p₀ p
 
 abbrev μ-loop : tie.MeasureT-loop
-μ-loop work₀ eq n xi₀ log₀ challenges p₀ size₀ round₀ work xi log p size round = n - round
+μ-loop work₀ eq n xi₀ log₀ lanes₀ challenges p₀ size₀ round₀ work xi log lanes p size round = n - round
 
 loop-holds : tie.Need-loop-holds Inv-loop μ-loop
 loop-holds c =
@@ -28,11 +28,11 @@ loop-holds c =
 
 gkr-round-requires : tie.Need-gkr-round-requires Inv-loop μ-loop
 gkr-round-requires c κs =
-    let n = c .before .before .before .before .before .before .before .before .before .args .n in
-    let p = c .before .before .before .before .before .before .before .before .before .pre in
-    let l = c .before .before .before .before .loop in
+    let n = c .before .before .before .before .before .before .before .before .before .before .args .n in
+    let p = c .before .before .before .before .before .before .before .before .before .before .pre in
+    let l = c .before .before .before .before .before .loop in
     let m = l .inv .4 in
-    let t = c .before .before .before .loop-test .taken in
+    let t = c .before .before .before .before .loop-test .taken in
     let d : 2 * l .size ≤ 2 ^ n = rw (l .inv .3) (double-le (l .round) n t) in
     let u = log-room (l .round) n t in
     let v = used-room (l .round) n t in (
@@ -48,9 +48,9 @@ gkr-round-requires c κs =
 
 mul-size : tie.Need-mul-size Inv-loop μ-loop
 mul-size c =
-    let l = c .before .before .before .before .before .before .before .before .before .before .before .loop in
-    let d : 2 * l .size ≤ 2 ^ c .before .before .before .before .before .before .before .before .before .before .before .before .before .before .before .before .args .n = rw (l .inv .3) (double-le (l .round) (c .before .before .before .before .before .before .before .before .before .before .before .before .before .before .before .before .args .n) (c .before .before .before .before .before .before .before .before .before .before .loop-test .taken)) in
-    omega (arith, c .before .before .before .before .before .before .before .before .before .before .before .before .before .before .before .before .pre .0, d, c .before .before .before .before .before .before .before .before .before .before .before .before .before .before .before .before .fits)
+    let l = c .before .before .before .before .before .before .before .before .before .before .before .before .loop in
+    let d : 2 * l .size ≤ 2 ^ c .before .before .before .before .before .before .before .before .before .before .before .before .before .before .before .before .before .args .n = rw (l .inv .3) (double-le (l .round) (c .before .before .before .before .before .before .before .before .before .before .before .before .before .before .before .before .before .args .n) (c .before .before .before .before .before .before .before .before .before .before .before .loop-test .taken)) in
+    omega (arith, c .before .before .before .before .before .before .before .before .before .before .before .before .before .before .before .before .before .pre .0, d, c .before .before .before .before .before .before .before .before .before .before .before .before .before .before .before .before .before .fits)
 
 add-round : tie.Need-add-round Inv-loop μ-loop
 add-round c = search needs
@@ -60,8 +60,8 @@ loop-less c = search needs
 
 loop-again : tie.Need-loop-again Inv-loop μ-loop
 loop-again c =
-    let l = c .before .before .before .before .before .before .before .before .before .before .before .loop in
-    (search needs, search needs, search needs, pow-next (l .size) (l .round) (l .inv .3), midway-next _ (l .work) _ _ (l .xi) _ _ (l .log) _ _ (c .before .before .before .before .before .before .before .before .before .before .before .before .before .before .before .before .args .eq) _ (l .round) (l .size) _ (l .p) _ (l .inv .3) (c .before .before .before .before .before .before .before .before .before .before .loop-test .taken) (c .before .before .before .before .before .before .before .before .before .before .before .before .before .before .before .before .pre .0 .1) (l .inv .4) (one-layer-alike (c .before .before .before .before .before .before .before .before .before .before .before .before .before .before .before .before .args .challenges .now) (l .inv .4 .drawn) (c .before .before .before .before .before .before .gkr-round .ensures)))
+    let l = c .before .before .before .before .before .before .before .before .before .before .before .before .loop in
+    (search needs, search needs, search needs, pow-next (l .size) (l .round) (l .inv .3), midway-next _ (l .work) _ _ (l .xi) _ _ (l .log) _ _ (c .before .before .before .before .before .before .before .before .before .before .before .before .before .before .before .before .before .args .eq) _ (l .round) (l .size) _ (l .p) _ (l .inv .3) (c .before .before .before .before .before .before .before .before .before .before .before .loop-test .taken) (c .before .before .before .before .before .before .before .before .before .before .before .before .before .before .before .before .before .pre .0 .1) (l .inv .4) (one-layer-alike (c .before .before .before .before .before .before .before .before .before .before .before .before .before .before .before .before .before .args .challenges .now) (l .inv .4 .drawn) (c .before .before .before .before .before .before .gkr-round .ensures)))
 
 same-length : tie.Need-same-length Inv-loop μ-loop
 same-length c = search needs

@@ -1,3 +1,4 @@
+use mathlib.Core.List.{[]}
 use Rattle.prover_rounds.proofs.Descent.{node-observed}
 use borrow.Author.Needs.{needs}
 use Rattle.prover_rounds.proofs.observe_fraction.Statement.{statement}
@@ -10,13 +11,13 @@ observe-ext-requires : tie.Need-observe-ext-requires
 observe-ext-requires c κs = search needs
 
 observe-ext-requires-2 : tie.Need-observe-ext-requires-2
-observe-ext-requires-2 c κs = search needs
+observe-ext-requires-2 c κs = search (needs, c .before .before .before .observe-ext .ensures [])
 
 same-length : tie.Need-same-length
 same-length c = search needs
 
 returns : tie.Need-returns
-returns c = node-observed _ _ _ _ _ _ (c .before .before .before .before .before .before .before .before .before .args .f) (c .before .before .before .before .before .before .observe-ext .ensures) (c .before .before .observe-ext2 .ensures)
+returns c = λ ls. node-observed _ _ _ _ _ _ (c .before .before .before .before .before .before .before .before .before .args .f) (c .before .before .before .before .before .before .observe-ext .ensures ls) (c .before .before .observe-ext2 .ensures ls)
 
 pub observe-fraction-spec : {M : Type 1} → statement M
 observe-fraction-spec =

@@ -1,3 +1,4 @@
+use mathlib.Core.List.{[]}
 use Rattle.prover_rounds.proofs.Sending.{three-observed}
 use borrow.Author.Needs.{needs}
 use Rattle.prover_rounds.proofs.observe_round_poly.Statement.{statement}
@@ -10,16 +11,16 @@ observe-ext-requires : tie.Need-observe-ext-requires
 observe-ext-requires c κs = search needs
 
 observe-ext-requires-2 : tie.Need-observe-ext-requires-2
-observe-ext-requires-2 c κs = search needs
+observe-ext-requires-2 c κs = search (needs, c .before .before .before .observe-ext .ensures [])
 
 observe-ext-requires-3 : tie.Need-observe-ext-requires-3
-observe-ext-requires-3 c κs = search needs
+observe-ext-requires-3 c κs = search (needs, c .before .before .before .observe-ext2 .ensures [], c .before .before .before .before .before .before .before .observe-ext .ensures [])
 
 same-length : tie.Need-same-length
 same-length c = search needs
 
 returns : tie.Need-returns
-returns c = three-observed _ _ _ _ _ _ _ _ (c .before .before .before .before .before .before .before .before .before .before .before .before .before .args .s) (c .before .before .before .before .before .before .before .before .before .before .observe-ext .ensures) (c .before .before .before .before .before .before .observe-ext2 .ensures) (c .before .before .observe-ext3 .ensures)
+returns c = λ ls. three-observed _ _ _ _ _ _ _ _ (c .before .before .before .before .before .before .before .before .before .before .before .before .before .args .s) (c .before .before .before .before .before .before .before .before .before .before .observe-ext .ensures ls) (c .before .before .before .before .before .before .observe-ext2 .ensures ls) (c .before .before .observe-ext3 .ensures ls)
 
 pub observe-round-poly-spec : {M : Type 1} → statement M
 observe-round-poly-spec =

@@ -20,18 +20,18 @@ observe-round-poly-requires c κs = search needs
 
 sample-ext-requires : tie.Need-sample-ext-requires
 sample-ext-requires c κs =
-    let p = c .before .before .before .before .before .before .before .before .before .before .before .pre .1 .0 in
-    let s = c .before .before .before .observe-round-poly .ensures in
-    (omega (arith, p .1, c .before .before .before .observe-round-poly .kept, s .put), enough-after 1 (omega arith) (omega arith) s (p .2))
+    let p = c .before .before .before .before .before .before .before .before .before .before .before .before .pre .1 .0 in
+    let s = c .before .before .before .before .observe-round-poly .ensures (c .before .before .before .before .before .before .before .before .before .before .before .before .args .lanes .now) in
+    (omega (arith, p .1, c .before .before .before .before .observe-round-poly .kept, s .put), enough-after 1 (omega arith) (omega arith) s (p .2))
 
 store-requires : tie.Need-store-requires
 store-requires c κs =
-    let p = c .before .before .before .before .before .before .before .before .before .before .before .before .before .before .before .before .pre in
+    let p = c .before .before .before .before .before .before .before .before .before .before .before .before .before .before .before .before .before .pre in
     (p .1 .0 .0, (p .1 .1 .1, c .before .before .before .before .sample-ext .ensures .1 .canon))
 
 fold-mle-evals-requires : tie.Need-fold-mle-evals-requires
 fold-mle-evals-requires c κs =
-    let p = c .before .before .before .before .before .before .before .before .before .before .before .before .before .before .before .before .before .before .before .before .pre in
+    let p = c .before .before .before .before .before .before .before .before .before .before .before .before .before .before .before .before .before .before .before .before .before .pre in
     (p .0, (p .1 .1 .0, c .before .before .before .before .before .before .before .before .sample-ext .ensures .1 .canon))
 
 same-length : tie.Need-same-length
@@ -45,9 +45,9 @@ same-length-3 c = search needs
 
 returns : tie.Need-returns
 returns c = λ k e.
-    let s = c .before .before .before .before .before .before .before .before .before .before .before .before .before .before .before .before .observe-round-poly .ensures in
-    let d = sampled-alike (c .before .before .before .before .before .before .before .before .before .before .before .before .before .before .before .before .before .before .before .before .before .before .before .before .args .challenges .now) (s .drawn) (c .before .before .before .before .before .before .before .before .before .before .before .before .sample-ext .ensures) in
-    sub-done _ _ _ _ _ _ _ _ _ _ k _ _ _ _ _ _ _ e (c .before .before .before .before .before .before .before .before .before .before .before .before .before .before .before .before .before .before .sumcheck-round-poly-evals .ensures) s (d .0) (d .1) (c .before .before .before .before .before .before .before .store .ensures) (c .before .before .before .fold-mle-evals .ensures)
+    let s = c .before .before .before .before .before .before .before .before .before .before .before .before .before .before .before .before .before .observe-round-poly .ensures (c .before .before .before .before .before .before .before .before .before .before .before .before .before .before .before .before .before .before .before .before .before .before .before .before .before .args .lanes .now) in
+    let d = sampled-alike (c .before .before .before .before .before .before .before .before .before .before .before .before .before .before .before .before .before .before .before .before .before .before .before .before .before .args .challenges .now) (s .drawn) (c .before .before .before .before .before .before .before .before .before .before .before .before .sample-ext .ensures) in
+    sub-done _ _ _ _ _ _ _ _ _ _ k _ _ _ _ _ _ _ e (c .before .before .before .before .before .before .before .before .before .before .before .before .before .before .before .before .before .before .before .sumcheck-round-poly-evals .ensures) s (d .0) (d .1) (c .before .before .before .before .before .before .before .store .ensures) (c .before .before .before .fold-mle-evals .ensures)
 
 pub sub-round-spec : {M : Type 1} → statement M
 sub-round-spec =

@@ -19,16 +19,16 @@ weigh-requires c κs = search needs
 
 weighed-sub-rounds-requires : tie.Need-weighed-sub-rounds-requires
 weighed-sub-rounds-requires c κs =
-    let p = c .before .before .before .before .before .before .before .before .before .before .before .pre in
-    (p .0, ((p .1 .0 .0, omega (arith, p .1 .0 .1, c .before .before .before .before .before .weigh .kept)), (p .1 .1 .0, (c .before .before .before .before .before .weigh .ensures .clean, p .1 .1 .1 .1))))
+    let p = c .before .before .before .before .before .before .before .before .before .before .before .before .pre in
+    (p .0, ((p .1 .0 .0, omega (arith, p .1 .0 .1, c .before .before .before .before .before .before .weigh .kept)), (p .1 .1 .0, (c .before .before .before .before .before .before .weigh .ensures .clean, p .1 .1 .1 .1))))
 
 minus-requires : tie.Need-minus-requires
-minus-requires c κs = (zero-is .canon, c .before .before .before .before .before .before .before .before .before .before .before .before .before .before .before .before .before .before .before .pre .1 .1 .1 .2)
+minus-requires c κs = (zero-is .canon, c .before .before .before .before .before .before .before .before .before .before .before .before .before .before .before .before .before .before .before .before .pre .1 .1 .1 .2)
 
 weigh-requires-2 : tie.Need-weigh-requires-2
 weigh-requires-2 c κs =
-    let p = c .before .before .before .before .before .before .before .before .before .before .before .before .before .before .before .before .before .before .before .before .pre in
-    (omega (arith, p .0, p .1 .0 .0, p .1 .0 .1, pow-pos (c .before .before .before .before .before .before .before .before .before .before .before .before .before .before .before .before .before .before .before .before .args .round), c .before .before .before .before .before .before .before .before .before .before .before .before .before .before .weigh .kept, c .before .before .before .before .before .before .before .before .weighed-sub-rounds .kept), (c .before .before .before .before .before .before .before .before .weighed-sub-rounds .ensures .clean, c .minus .ensures .canon))
+    let p = c .before .before .before .before .before .before .before .before .before .before .before .before .before .before .before .before .before .before .before .before .before .pre in
+    (omega (arith, p .0, p .1 .0 .0, p .1 .0 .1, pow-pos (c .before .before .before .before .before .before .before .before .before .before .before .before .before .before .before .before .before .before .before .before .before .args .round), c .before .before .before .before .before .before .before .before .before .before .before .before .before .before .before .weigh .kept, c .before .before .before .before .before .before .before .before .weighed-sub-rounds .kept), (c .before .before .before .before .before .before .before .before .weighed-sub-rounds .ensures .clean, c .minus .ensures .canon))
 
 same-length : tie.Need-same-length
 same-length c = search needs
@@ -41,9 +41,9 @@ same-length-3 c = search needs
 
 returns : tie.Need-returns
 returns c =
-    let p = c .before .before .before .before .before .before .before .before .before .before .before .before .before .before .before .before .before .before .before .before .before .before .before .pre in
-    let a = c .before .before .before .before .before .before .before .before .before .before .before .before .before .before .before .before .before .before .before .before .before .before .before .args in
-    weighed-rounds _ _ _ _ _ _ _ _ _ (a .eq) (a .pq) (a .round) (a .size) (dec (a .lambda)) _ _ _ (p .0) (p .1 .0 .0) (c .before .before .before .minus .ensures .value ∙ ap (λ z. minus z (dec (a .lambda))) (zero-is .value)) (c .before .before .before .before .before .before .before .before .before .before .before .before .before .before .before .before .before .weigh .ensures) (c .before .before .before .before .before .before .before .before .before .before .before .weighed-sub-rounds .ensures) (c .before .before .weigh2 .ensures)
+    let p = c .before .before .before .before .before .before .before .before .before .before .before .before .before .before .before .before .before .before .before .before .before .before .before .before .pre in
+    let a = c .before .before .before .before .before .before .before .before .before .before .before .before .before .before .before .before .before .before .before .before .before .before .before .before .args in
+    weighed-rounds _ _ _ _ _ _ _ _ _ (a .eq) (a .pq) (a .round) (a .size) (dec (a .lambda)) _ _ _ (p .0) (p .1 .0 .0) (c .before .before .before .minus .ensures .value ∙ ap (λ z. minus z (dec (a .lambda))) (zero-is .value)) (c .before .before .before .before .before .before .before .before .before .before .before .before .before .before .before .before .before .before .weigh .ensures) (c .before .before .before .before .before .before .before .before .before .before .before .weighed-sub-rounds .ensures) (c .before .before .weigh2 .ensures)
 
 pub sub-rounds-spec : {M : Type 1} → statement M
 sub-rounds-spec =

@@ -16,10 +16,10 @@ use Rattle.prover_rounds.proofs.weighed_sub_rounds.Lts as lts
 use Rattle.prover_rounds.proofs.sub_round.Reads as sub-round-reads
 
 abbrev Inv-loop : tie.InvT-loop
-Inv-loop work₀ eq pq round size xi₀ log₀ challenges p₀ half₀ j₀ work xi log p half j = (j ≤ round) × (length work ≡ length work₀) × (length xi ≡ length xi₀) × (length log ≡ length log₀) × (half ≡ 2 ^ (round - j)) × (half ≤ size) × Going work₀ work xi₀ xi log₀ log (source (p₀ .drawn) challenges) eq pq j (round - j) round size E.nil p₀ p
+Inv-loop work₀ eq pq round size xi₀ log₀ lanes₀ challenges p₀ half₀ j₀ work xi log lanes p half j = (j ≤ round) × (length work ≡ length work₀) × (length xi ≡ length xi₀) × (length log ≡ length log₀) × (half ≡ 2 ^ (round - j)) × (half ≤ size) × Going work₀ work xi₀ xi log₀ log lanes₀ lanes (source (p₀ .drawn) challenges) eq pq j (round - j) round size E.nil p₀ p
 
 abbrev μ-loop : tie.MeasureT-loop
-μ-loop work₀ eq pq round size xi₀ log₀ challenges p₀ half₀ j₀ work xi log p half j = round - j
+μ-loop work₀ eq pq round size xi₀ log₀ lanes₀ challenges p₀ half₀ j₀ work xi log lanes p half j = round - j
 
 loop-holds : tie.Need-loop-holds Inv-loop μ-loop
 loop-holds c =
@@ -33,12 +33,12 @@ add-sub-round c = search needs
 
 sub-round-requires : tie.Need-sub-round-requires Inv-loop μ-loop
 sub-round-requires c κs =
-    let p = c .before .before .before .before .before .before .before .before .before .pre in
-    let l = c .before .before .before .before .loop in
-    let h = half-down (l .half) (c .before .before .before .before .before .before .before .before .before .args .round) (l .j) (c .before .before .before .loop-test .taken) (l .inv .4) in
+    let p = c .before .before .before .before .before .before .before .before .before .before .pre in
+    let l = c .before .before .before .before .before .loop in
+    let h = half-down (l .half) (c .before .before .before .before .before .before .before .before .before .before .args .round) (l .j) (c .before .before .before .before .loop-test .taken) (l .inv .4) in
     let g = l .inv .6 in (
       (omega (arith, h .1), omega (arith, h .1)),
-      ((omega arith, omega (arith, g .steps .put), enough-after (c .before .before .before .before .before .before .before .before .before .args .round) (omega arith) (omega arith) (g .steps) (p .1 .1 .0 .2)), (g .clean, g .points)),
+      ((omega arith, omega (arith, g .steps .put), enough-after (c .before .before .before .before .before .before .before .before .before .before .args .round) (omega arith) (omega arith) (g .steps) (p .1 .1 .0 .2)), (g .clean, g .points)),
     )
 
 add-j : tie.Need-add-j Inv-loop μ-loop
@@ -49,9 +49,9 @@ loop-less c = search needs
 
 loop-again : tie.Need-loop-again Inv-loop μ-loop
 loop-again c =
-    let a = c .before .before .before .before .before .before .before .before .before .before .before .before .before .before .before .before .args in
-    let l = c .before .before .before .before .before .before .before .before .before .before .before .loop in
-    let h = half-down (l .half) (a .round) (l .j) (c .before .before .before .before .before .before .before .before .before .before .loop-test .taken) (l .inv .4) in
+    let a = c .before .before .before .before .before .before .before .before .before .before .before .before .before .before .before .before .before .args in
+    let l = c .before .before .before .before .before .before .before .before .before .before .before .before .loop in
+    let h = half-down (l .half) (a .round) (l .j) (c .before .before .before .before .before .before .before .before .before .before .before .loop-test .taken) (l .inv .4) in
     let g = l .inv .6 in
     let m = a .round - (l .j + 1) in
     let e : a .round - l .j ≡ suc m = omega arith in (

@@ -12,7 +12,7 @@ same-length : tie.Need-same-length
 same-length c = search needs
 
 returns : tie.Need-returns
-returns c = sampled-alike (c .before .before .before .before .before .before .before .args .challenges .now) {b = true} (sym (c .before .before .before .before .if1 .taken)) (c .before .before .draw-ext .ensures)
+returns c = sampled-alike (c .before .before .before .before .before .before .before .before .args .challenges .now) {b = true} (sym (c .before .before .before .before .before .if1 .taken)) (c .before .before .draw-ext .ensures)
 
 take-ext-requires : tie.Need-take-ext-requires
 take-ext-requires c κs =
@@ -24,7 +24,10 @@ same-length-2 : tie.Need-same-length-2
 same-length-2 c = search needs
 
 returns-2 : tie.Need-returns-2
-returns-2 c = sampled-alike (c .before .before .before .before .before .before .before .args .challenges .now) {b = false} (sym (c .before .before .before .before .if1 .left)) (c .before .before .take-ext .ensures)
+returns-2 c =
+    let a = c .before .before .before .before .before .before .before .args in
+    let t = c .before .before .take-ext .ensures in
+    sampled-alike (a .challenges .now) {b = false} (sym (c .before .before .before .before .if1 .left)) (t .0 (a .lanes .now), t .1)
 
 pub sample-ext-spec : {M : Type 1} → statement M
 sample-ext-spec =

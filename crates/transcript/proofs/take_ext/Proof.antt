@@ -1,5 +1,6 @@
 use lib.ListN.{length-set}
 use Rattle.transcript.specs.Source.{supplied}
+use Rattle.transcript.specs.Log.{spongeOf}
 use Rattle.gkr.specs.Transcripts.{mark}
 use Rattle.transcript.proofs.Logs.{four-grown, sampled}
 use native.Mathlib.Omega.{arith}
@@ -71,8 +72,8 @@ returns : tie.Need-returns
 returns c =
     let a = c .before .before .before .before .before .before .before .args in
     let x = c .before .before .before .before .load in (
-      sampled _ (supplied (a .challenges .now)) (a .pos) (x .result) _ (c .before .before .before .before .before .before .before .pre .0) (x .ensures)
-          (four-grown (a .log .now) (a .pos .put) (mark (x .result .c0)) (mark (x .result .c1)) (mark (x .result .c2)) (mark (x .result .c3)) (c .before .before .before .before .before .before .before .pre .0) (a .pos .sponge)),
+      λ ls. sampled _ ls ls (supplied (a .challenges .now)) (a .pos) (x .result) _ (c .before .before .before .before .before .before .before .pre .0) (x .ensures)
+          (four-grown (a .log .now) (a .pos .put) (mark (x .result .c0)) (mark (x .result .c1)) (mark (x .result .c2)) (mark (x .result .c3)) (c .before .before .before .before .before .before .before .pre .0) (spongeOf ls (a .pos))),
       x .ensures,
     )
 

@@ -25,7 +25,7 @@ slice-aggregate-verify-counted-2 : tie.Need-slice-aggregate-verify-counted-2
 slice-aggregate-verify-counted-2 c = sym (length-take-le _ (c .before .before .before .before .before .before .before .before .before .args .challenges .now) (omega (arith, passes (c .before .before .before .before .before .before .before .before .before .pre) .chals, c .before .before .before .needed-words .ensures)))
 
 verify-counted-requires : tie.Need-verify-counted-requires
-verify-counted-requires c κs = (ready-of _ _ _ _ _ _ _ (c .before .before .before .before .start .ensures .2) (c .before .before .before .before .before .before .before .before .before .pre) (c .before .before .before .needed-words .ensures) (omega arith) (clean-zeros (4 * maxRounds)), record { put = c .before .before .before .before .start .ensures .0; used = c .before .before .before .before .start .ensures .1; holds = c .before .before .before .before .start .ensures .3 })
+verify-counted-requires c κs = (ready-of _ _ _ _ _ _ _ (c .before .before .before .before .start .ensures .2) (c .before .before .before .before .before .before .before .before .before .pre) (c .before .before .before .needed-words .ensures) (omega arith) (clean-zeros (4 * maxRounds)), record { put = c .before .before .before .before .start .ensures .0; used = c .before .before .before .before .start .ensures .1; blocks = c .before .before .before .before .start .ensures .3 })
 
 slice-aggregate-leave-point : tie.Need-slice-aggregate-leave-point
 slice-aggregate-leave-point c = search needs

@@ -27,13 +27,14 @@ same-length : tie.Need-same-length
 same-length c = search needs
 
 returns : tie.Need-returns
-returns c = closed-stop _ _ _ _ (decClaims (claimsIn (c .before .before .before .before .before .before .before .before .before .before .before .args .c))) (c .before .before .before .before .before .before .before .before .before .before .before .args .round) (c .before .before .before .before .before .before .before .before .before .before .before .args .lambda) (c .before .before .before .before .before .before .before .before .before .before .before .args .s) (c .before .before .before .expected-claim .result) _ (c .before .same-words .result) (c .before .before .before .expected-claim .ensures) (c .before .before .before .before .before .before .before .before .before .before .before .pre .1 .2 .claim) (c .before .same-words .ensures) (c .if1 .taken) (c .before .before .before .before .before .before .observe-layer-claims .ensures) (c .before .before .before .before .before .before .before .before .before .before .before .pre .0 .1)
+returns c = closed-stop _ _ _ _ (decClaims (claimsIn (c .before .before .before .before .before .before .before .before .before .before .before .args .c))) (c .before .before .before .before .before .before .before .before .before .before .before .args .round) (c .before .before .before .before .before .before .before .before .before .before .before .args .lambda) (c .before .before .before .before .before .before .before .before .before .before .before .args .s) (c .before .before .before .expected-claim .result) _ (c .before .same-words .result) (c .before .before .before .expected-claim .ensures) (c .before .before .before .before .before .before .before .before .before .before .before .pre .1 .2 .claim) (c .before .same-words .ensures) (c .if1 .taken) (c .before .before .before .before .before .before .observe-layer-claims .ensures (c .before .before .before .before .before .before .before .before .before .before .before .args .lanes .now)) (c .before .before .before .before .before .before .before .before .before .before .before .pre .0 .1)
 
 descend-requires : tie.Need-descend-requires
 descend-requires c κs =
-    let p = c .before .before .before .before .before .before .before .before .before .before .before .before .before .pre in
-    let o = c .before .before .before .before .before .before .before .before .observe-layer-claims in
-    ((p .0 .0, omega (arith, p .0 .1, o .kept, o .ensures .put), enough-after 1 (omega arith) (omega arith) (o .ensures) (p .0 .2)), (p .1 .0, p .1 .1))
+    let p = c .before .before .before .before .before .before .before .before .before .before .before .before .before .before .pre in
+    let o = c .before .before .before .before .before .before .before .before .before .observe-layer-claims in
+    let s = o .ensures (c .before .before .before .before .before .before .before .before .before .before .before .before .before .before .args .lanes .now) in
+    ((p .0 .0, omega (arith, p .0 .1, o .kept, s .put), enough-after 1 (omega arith) (omega arith) s (p .0 .2)), (p .1 .0, p .1 .1))
 
 same-length-2 : tie.Need-same-length-2
 same-length-2 c = search needs
@@ -42,7 +43,7 @@ same-length-3 : tie.Need-same-length-3
 same-length-3 c = search needs
 
 returns-2 : tie.Need-returns-2
-returns-2 c = closed-go _ _ _ _ _ _ (decClaims (claimsIn (c .before .before .before .before .before .before .before .before .before .before .before .before .before .before .before .before .before .before .args .c))) (c .before .before .before .before .before .before .before .before .before .before .before .before .before .before .before .before .before .before .args .round) (c .before .before .before .before .before .before .before .before .before .before .before .before .before .before .before .before .before .before .args .lambda) (c .before .before .before .before .before .before .before .before .before .before .before .before .before .before .before .before .before .before .args .s) (c .before .before .before .before .before .before .before .before .before .before .expected-claim .result) _ _ (c .before .before .before .before .before .before .before .before .same-words .result) (c .before .before .before .before .before .before .before .before .before .before .expected-claim .ensures) (c .before .before .before .before .before .before .before .before .before .before .before .before .before .before .before .before .before .before .pre .1 .2 .claim) (c .before .before .before .before .before .before .before .before .same-words .ensures) (c .before .before .before .before .before .before .before .if1 .left) (c .before .before .before .before .before .before .before .before .before .before .before .before .before .observe-layer-claims .ensures) (descended-alike (c .before .before .before .before .before .before .before .before .before .before .before .before .before .before .before .before .before .before .args .challenges .now) (c .before .before .before .before .before .before .before .before .before .before .before .before .before .observe-layer-claims .ensures .drawn) (c .before .before .before .before .descend .ensures))
+returns-2 c = closed-go _ _ _ _ _ _ (decClaims (claimsIn (c .before .before .before .before .before .before .before .before .before .before .before .before .before .before .before .before .before .before .before .args .c))) (c .before .before .before .before .before .before .before .before .before .before .before .before .before .before .before .before .before .before .before .args .round) (c .before .before .before .before .before .before .before .before .before .before .before .before .before .before .before .before .before .before .before .args .lambda) (c .before .before .before .before .before .before .before .before .before .before .before .before .before .before .before .before .before .before .before .args .s) (c .before .before .before .before .before .before .before .before .before .before .before .expected-claim .result) _ _ (c .before .before .before .before .before .before .before .before .before .same-words .result) (c .before .before .before .before .before .before .before .before .before .before .before .expected-claim .ensures) (c .before .before .before .before .before .before .before .before .before .before .before .before .before .before .before .before .before .before .before .pre .1 .2 .claim) (c .before .before .before .before .before .before .before .before .before .same-words .ensures) (c .before .before .before .before .before .before .before .before .if1 .left) (c .before .before .before .before .before .before .before .before .before .before .before .before .before .before .observe-layer-claims .ensures _) (descended-alike (c .before .before .before .before .before .before .before .before .before .before .before .before .before .before .before .before .before .before .before .args .challenges .now) (c .before .before .before .before .before .before .before .before .before .before .before .before .before .before .observe-layer-claims .ensures (c .before .before .before .before .before .before .before .before .before .before .before .before .before .before .before .before .before .before .before .args .lanes .now) .drawn) (c .before .before .before .before .descend .ensures))
 
 pub close-layer-spec : {M : Type 1} → statement M
 close-layer-spec =

@@ -26,7 +26,7 @@ same-length-2 : tie.Need-same-length-2
 same-length-2 c = search needs
 
 returns : tie.Need-returns
-returns c = descended _ _ _ _ _ (decClaims (claimsIn (c .before .before .before .before .before .before .before .before .before .before .before .before .before .before .before .before .args .c))) _ _ _ (c .before .before .before .before .before .before .before .before .before .before .before .sample-ext .ensures .0) (c .before .before .before .before .before .before .before .before .before .before .before .sample-ext .ensures .1) (c .before .before .before .before .before .before .store .ensures) (c .before .before .before .reduce-to-single-evaluation .ensures)
+returns c = descended _ _ _ _ _ (decClaims (claimsIn (c .before .before .before .before .before .before .before .before .before .before .before .before .before .before .before .before .before .args .c))) _ _ _ (c .before .before .before .before .before .before .before .before .before .before .before .sample-ext .ensures .0) (c .before .before .before .before .before .before .before .before .before .before .before .sample-ext .ensures .1) (c .before .before .before .before .before .before .store .ensures) (c .before .before .before .reduce-to-single-evaluation .ensures)
 
 pub descend-spec : {M : Type 1} → statement M
 descend-spec =

@@ -25,7 +25,7 @@ same-length : tie.Need-same-length
 same-length c = search needs
 
 returns : tie.Need-returns
-returns c = opened _ _ _ _ (c .before .before .before .before .before .before .before .before .before .before .before .before .args .s) (c .before .before .before .before .before .before .sample-ext .result) _ _ _ (c .before .before .before .before .before .before .sample-ext .ensures .0) (c .before .before .before .before .before .before .sample-ext .ensures .1) (c .before .before .times .ensures) (c .before .plus .ensures) (c .before .before .before .before .before .before .before .before .load .ensures)
+returns c = opened _ _ _ _ (c .before .before .before .before .before .before .before .before .before .before .before .before .before .args .s) (c .before .before .before .before .before .before .sample-ext .result) _ _ _ (c .before .before .before .before .before .before .sample-ext .ensures .0) (c .before .before .before .before .before .before .sample-ext .ensures .1) (c .before .before .times .ensures) (c .before .plus .ensures) (c .before .before .before .before .before .before .before .before .before .load .ensures)
 
 pub open-layer-spec : {M : Type 1} → statement M
 open-layer-spec =

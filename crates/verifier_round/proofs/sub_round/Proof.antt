@@ -26,18 +26,18 @@ observe-cubic-requires c κs = search needs
 
 sample-ext-requires : tie.Need-sample-ext-requires
 sample-ext-requires c κs =
-    let p = c .before .before .before .before .before .before .before .before .before .before .pre .0 in
-    let s = c .before .before .before .observe-cubic .ensures in
-    (omega (arith, p .1, c .before .before .before .observe-cubic .kept, s .put), enough-after 1 (omega arith) (omega arith) s (p .2))
+    let p = c .before .before .before .before .before .before .before .before .before .before .before .pre .0 in
+    let s = c .before .before .before .before .observe-cubic .ensures (c .before .before .before .before .before .before .before .before .before .before .before .args .lanes .now) in
+    (omega (arith, p .1, c .before .before .before .before .observe-cubic .kept, s .put), enough-after 1 (omega arith) (omega arith) s (p .2))
 
 store-requires : tie.Need-store-requires
-store-requires c κs = (omega (arith, c .before .before .before .before .before .before .before .before .before .before .before .before .before .before .before .pre .0), (c .before .before .before .before .before .before .before .before .before .before .before .before .before .before .before .pre .1 .0, c .before .before .before .before .sample-ext .ensures .1 .canon))
+store-requires c κs = (omega (arith, c .before .before .before .before .before .before .before .before .before .before .before .before .before .before .before .before .pre .0), (c .before .before .before .before .before .before .before .before .before .before .before .before .before .before .before .before .pre .1 .0, c .before .before .before .before .sample-ext .ensures .1 .canon))
 
 next-claim-requires : tie.Need-next-claim-requires
-next-claim-requires c κs = (c .before .before .before .before .before .before .before .before .before .before .before .before .before .before .before .before .before .before .before .pre .1 .2 .claim, c .before .before .before .before .before .before .before .before .before .before .before .before .before .before .before .before .before .before .before .pre .1 .1, c .before .before .before .before .before .before .before .before .sample-ext .ensures .1 .canon)
+next-claim-requires c κs = (c .before .before .before .before .before .before .before .before .before .before .before .before .before .before .before .before .before .before .before .before .pre .1 .2 .claim, c .before .before .before .before .before .before .before .before .before .before .before .before .before .before .before .before .before .before .before .before .pre .1 .1, c .before .before .before .before .before .before .before .before .sample-ext .ensures .1 .canon)
 
 eq-step-requires : tie.Need-eq-step-requires
-eq-step-requires c κs = search (needs, c .before .before .before .before .before .before .before .before .before .before .before .before .before .before .before .before .before .before .before .before .pre .1 .2 .eq, c .before .before .before .before .before .before .before .before .before .before .before .before .before .before .before .before .before .before .before .before .pre .1 .2 .xi, c .before .before .before .before .before .before .before .before .before .sample-ext .ensures .1 .canon)
+eq-step-requires c κs = search (needs, c .before .before .before .before .before .before .before .before .before .before .before .before .before .before .before .before .before .before .before .before .before .pre .1 .2 .eq, c .before .before .before .before .before .before .before .before .before .before .before .before .before .before .before .before .before .before .before .before .before .pre .1 .2 .xi, c .before .before .before .before .before .before .before .before .before .sample-ext .ensures .1 .canon)
 
 same-length : tie.Need-same-length
 same-length c = search needs
@@ -47,9 +47,9 @@ same-length-2 c = search needs
 
 returns : tie.Need-returns
 returns c =
-    let o = c .before .before .before .before .before .before .before .before .before .before .before .before .before .before .observe-cubic .ensures in
-    let d = sampled-alike (c .before .before .before .before .before .before .before .before .before .before .before .before .before .before .before .before .before .before .before .before .before .args .challenges .now) (o .drawn) (c .before .before .before .before .before .before .before .before .before .before .sample-ext .ensures) in
-    sub-done _ _ _ _ _ _ _ (decCubic (cubicIn (c .before .before .before .before .before .before .before .before .before .before .before .before .before .before .before .before .before .before .before .before .before .args .m))) (c .before .before .before .before .before .before .before .before .before .before .before .before .before .before .before .before .before .before .before .before .before .args .s) _ (c .before .before .before .before .before .before .before .before .before .before .sample-ext .result) _ _ _ o (d .0) (d .1) (c .before .before .before .before .before .store .ensures) (c .before .before .before .before .before .before .before .before .before .before .before .before .before .before .before .before .load .ensures) (c .before .next-claim .ensures) (c .eq-step .ensures)
+    let o = c .before .before .before .before .before .before .before .before .before .before .before .before .before .before .before .observe-cubic .ensures (c .before .before .before .before .before .before .before .before .before .before .before .before .before .before .before .before .before .before .before .before .before .before .args .lanes .now) in
+    let d = sampled-alike (c .before .before .before .before .before .before .before .before .before .before .before .before .before .before .before .before .before .before .before .before .before .before .args .challenges .now) (o .drawn) (c .before .before .before .before .before .before .before .before .before .before .sample-ext .ensures) in
+    sub-done _ _ _ _ _ _ _ (decCubic (cubicIn (c .before .before .before .before .before .before .before .before .before .before .before .before .before .before .before .before .before .before .before .before .before .before .args .m))) (c .before .before .before .before .before .before .before .before .before .before .before .before .before .before .before .before .before .before .before .before .before .before .args .s) _ (c .before .before .before .before .before .before .before .before .before .before .sample-ext .result) _ _ _ o (d .0) (d .1) (c .before .before .before .before .before .store .ensures) (c .before .before .before .before .before .before .before .before .before .before .before .before .before .before .before .before .before .load .ensures) (c .before .next-claim .ensures) (c .eq-step .ensures)
 
 pub sub-round-spec : {M : Type 1} → statement M
 sub-round-spec =

@@ -12,8 +12,8 @@ read-subround-requires c κs = search needs
 
 sub-round-requires : tie.Need-sub-round-requires
 sub-round-requires c κs =
-    let p = c .before .before .before .before .before .before .before .pre in
-    let q = cubic-told _ _ (c .before .before .read-subround .ensures) (p .1 .1) in
+    let p = c .before .before .before .before .before .before .before .before .pre in
+    let q = cubic-told _ _ (c .before .before .before .read-subround .ensures) (p .1 .1) in
     ((p .0 .1, p .0 .2, p .0 .3), (p .1 .0, q, p .1 .2))
 
 same-length : tie.Need-same-length
@@ -23,7 +23,7 @@ same-length-2 : tie.Need-same-length-2
 same-length-2 c = search needs
 
 returns : tie.Need-returns
-returns c = told-again _ _ _ _ _ _ _ _ _ _ (c .before .before .before .before .before .before .before .read-subround .ensures) (c .before .before .before .before .sub-round .ensures)
+returns c = told-again _ _ _ _ _ _ _ _ _ _ (c .before .before .before .before .before .before .before .before .read-subround .ensures) (c .before .before .before .before .sub-round .ensures)
 
 pub sub-round-at-spec : {M : Type 1} → statement M
 sub-round-at-spec =

@@ -13,23 +13,23 @@ use Rattle.verifier_rounds.proofs.verify_gkr_sumcheck.Lts as lts
 use Rattle.verifier_rounds.proofs.sub_round_at.Reads as sub-round-at-reads
 
 abbrev Inv-loop : tie.InvT-loop
-Inv-loop proof from round point₀ log₀ challenges s₀ at₀ j₀ point log s at j = Summing proof point₀ point log₀ log (source (s₀ .pos .drawn) challenges) from at round j s₀ s
+Inv-loop proof from round point₀ log₀ lanes₀ challenges s₀ at₀ j₀ point log lanes s at j = Summing proof point₀ point log₀ log lanes₀ lanes (source (s₀ .pos .drawn) challenges) from at round j s₀ s
 
 abbrev μ-loop : tie.MeasureT-loop
-μ-loop proof from round point₀ log₀ challenges s₀ at₀ j₀ point log s at j = round - j
+μ-loop proof from round point₀ log₀ lanes₀ challenges s₀ at₀ j₀ point log lanes s at j = round - j
 
 loop-holds : tie.Need-loop-holds Inv-loop μ-loop
 loop-holds c = sub-start _ _ _ _ _ _ _ (c .before .before .before .before .pre .1 .0) (c .before .before .before .before .pre .1 .1) (c .before .before .before .before .pre .1 .2)
 
 sub-round-at-requires : tie.Need-sub-round-at-requires Inv-loop μ-loop
 sub-round-at-requires c κs =
-    let p = c .before .before .before .before .before .before .before .before .pre in
-    let i = c .before .before .before .loop .inv in
-    let t = c .before .before .loop-test .taken in
-    ((omega (arith, p .0, i .place, t), omega (arith, p .0, i .points, t), omega (arith, p .0, i .logs, i .steps .put, t), enough-after (c .before .before .before .before .before .before .before .before .args .round) (omega arith) (omega (arith, t)) (i .steps) (p .0 .3)), (i .clean, sub-canon _ _ _ _ _ _ _ _ _ _ _ _ i t, i .canon))
+    let p = c .before .before .before .before .before .before .before .before .before .pre in
+    let i = c .before .before .before .before .loop .inv in
+    let t = c .before .before .before .loop-test .taken in
+    ((omega (arith, p .0, i .place, t), omega (arith, p .0, i .points, t), omega (arith, p .0, i .logs, i .steps .put, t), enough-after (c .before .before .before .before .before .before .before .before .before .args .round) (omega arith) (omega (arith, t)) (i .steps) (p .0 .3)), (i .clean, sub-canon _ _ _ _ _ _ _ _ _ _ _ _ i t, i .canon))
 
 add-at : tie.Need-add-at Inv-loop μ-loop
-add-at c = omega (arith, c .before .before .before .before .before .before .before .before .loop .inv .place, c .before .before .before .before .before .before .before .before .before .before .before .before .before .pre .0, c .before .before .before .before .before .before .before .loop-test .taken, c .before .before .before .before .before .before .before .before .before .before .before .before .before .good .0)
+add-at c = omega (arith, c .before .before .before .before .before .before .before .before .before .loop .inv .place, c .before .before .before .before .before .before .before .before .before .before .before .before .before .before .pre .0, c .before .before .before .before .before .before .before .before .loop-test .taken, c .before .before .before .before .before .before .before .before .before .before .before .before .before .before .good .0)
 
 add-j : tie.Need-add-j Inv-loop μ-loop
 add-j c = search needs
@@ -38,7 +38,7 @@ loop-less : tie.Need-loop-less Inv-loop μ-loop
 loop-less c = search needs
 
 loop-again : tie.Need-loop-again Inv-loop μ-loop
-loop-again c = sub-turn _ _ _ _ _ _ _ _ _ _ _ _ (c .before .before .before .before .before .before .before .before .loop .inv) _ _ _ (c .before .before .before .before .before .before .before .loop-test .taken) (c .before .before .before .before .sub-round-at .kept .1 .1 .0) (c .before .before .before .before .sub-round-at .kept .1 .1 .1 .1 .0) (sub-round-alike (c .before .before .before .before .before .before .before .before .before .before .before .before .before .args .challenges .now) (c .before .before .before .before .before .before .before .before .loop .inv .steps .drawn) (c .before .before .before .before .sub-round-at .ensures))
+loop-again c = sub-turn _ _ _ _ _ _ _ _ _ _ _ _ (c .before .before .before .before .before .before .before .before .before .loop .inv) _ _ _ (c .before .before .before .before .before .before .before .before .loop-test .taken) (c .before .before .before .before .sub-round-at .kept .1 .1 .0) (c .before .before .before .before .sub-round-at .kept .1 .1 .1 .1 .0) (sub-round-alike (c .before .before .before .before .before .before .before .before .before .before .before .before .before .before .args .challenges .now) (c .before .before .before .before .before .before .before .before .before .loop .inv .steps .drawn) (c .before .before .before .before .sub-round-at .ensures))
 
 same-length : tie.Need-same-length Inv-loop μ-loop
 same-length c = c .before .loop .inv .points
