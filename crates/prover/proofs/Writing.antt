@@ -74,9 +74,9 @@ run-alike ch {f} {pt} {lg} {lg'} {m} {pos} {pos'} e h = subst (λ (b : Bool). Ru
 
 -- ALL
 
-pub written : (f : ℕ → Frac E.Ext) (asserted : Bool) (m n : ℕ) (ch : Source E.Ext) (pf pf' pt pt' lg lg₁ lg₂ ws ws₁ ws' : List ℕ) (first pos z : Pos) (root : FracW)
+pub written : (f : ℕ → Frac E.Ext) (asserted : Bool) (m n : ℕ) (ch : Source E.Ext) (pf pf' pt pt' lg lg₁ lg₂ ws ws₁ ws' : List ℕ) {ls ls₁ : List ℕ} (first pos z : Pos) (root : FracW)
     → first .put ≡ 0 → first .used ≡ 0 → n ≡ suc m → IsFrac root (Tree.tree ExtRing f (suc m) 0)
-    → Steps lg lg₁ first pos (cond asserted 0 4) 0 (begun asserted (dec (root .p)) (logOf lg first)) → pos .put ≤ length lg₁
+    → Steps lg lg₁ ls ls₁ first pos (cond asserted 0 4) 0 (begun asserted (dec (root .p)) (logOf lg first)) → pos .put ≤ length lg₁
     → RunOf f pt' lg₁ lg₂ ch m pos z → pos .put ≤ z .put → z .put ≤ length lg₂
     → Clean pt' → length pt ≡ 4 * n → length pt' ≡ 4 * n
     → proofSize n ≤ length pf → length pf' ≡ length pf → pf' ≡ layout (storedProof lg₂ (pos .put / 4) (n - 1)) ++ drop (proofSize n) pf

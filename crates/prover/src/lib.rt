@@ -53,7 +53,8 @@ fn write_run(
 {
     let first = transcript::start(drawn);
     let pos = prover_run::begin(log, first, asserted, root.p);
-    prover_run::run_rounds(n, size, root.q, work, xi, log, challenges, pos);
+    let mut lanes = [0u64; 25]; // of a sponge that has taken in nothing
+    prover_run::run_rounds(n, size, root.q, work, xi, log, &mut lanes, challenges, pos);
     let i = pos.put / 4;
     stored_writer::put_proof(proof, log, i, n);
     prover_tree::clear(work); // nothing of the rows stays

@@ -1,4 +1,6 @@
 use mathlib.Core.Path.{sym, _∙_}
+use lib.ListN.{replicate}
+use Rattle.transcript.proofs.Logs.{nothing-taken}
 use Rattle.prover.proofs.Opening.{log-sum, work-enough}
 use Rattle.prover.proofs.Writing.{quarter, written, run-alike}
 use native.Mathlib.Omega.{arith}
@@ -21,22 +23,22 @@ begin-requires c κs = search needs
 
 run-rounds-requires : tie.Need-run-rounds-requires
 run-rounds-requires c κs =
-    let p = c .before .before .before .before .before .before .before .before .before .before .before .before .before .pre .0 in
-    let q = c .before .before .before .before .before .before .before .before .before .before .before .before .before .pre .1 in
-    let s = c .before .before .before .before .before .begin .ensures in
-    let k = c .before .before .before .before .before .begin .kept in
-    let o = c .before .before .before .before .before .before .before .start .ensures in (
+    let p = c .before .before .before .before .before .before .before .before .before .before .before .before .before .before .pre .0 in
+    let q = c .before .before .before .before .before .before .before .before .before .before .before .before .before .before .pre .1 in
+    let s = c .before .before .before .before .before .before .begin .ensures (replicate 25 0) in
+    let k = c .before .before .before .before .before .before .begin .kept in
+    let o = c .before .before .before .before .before .before .before .before .start .ensures in (
       (p .some, p .pow, omega (arith, work-enough (p .some) (p .pow) (p .work))),
-      ((omega (arith, p .point), omega (arith, p .log, s .put, o .0, k), record { room = λ h. omega (arith, p .used (sym (s .drawn ∙ o .2) ∙ h), s .used, o .1); clean = λ _. q .1; counted = omega (arith, s .used, o .1); holds = s .holds (o .3 _) }), (q .0, q .2 .q)),
+      ((omega (arith, p .point), omega (arith, p .log, s .put, o .0, k), record { room = λ h. omega (arith, p .used (sym (s .drawn ∙ o .2) ∙ h), s .used, o .1); clean = λ _. q .1; counted = omega (arith, s .used, o .1); holds = s .holds (nothing-taken (c .before .before .before .before .before .before .before .before .start .result) (o .3) _) }), (q .0, q .2 .q)),
     )
 
 put-proof-requires : tie.Need-put-proof-requires
 put-proof-requires c κs =
-    let p = c .before .before .before .before .before .before .before .before .before .before .before .before .before .before .before .before .before .before .before .before .before .before .before .pre .0 in
-    let s = c .before .before .before .before .before .before .before .before .before .before .before .before .before .before .before .begin .ensures in
-    let o = c .before .before .before .before .before .before .before .before .before .before .before .before .before .before .before .before .before .start .ensures in
-    let i = quarter (c .before .before .before .before .before .before .before .before .before .before .before .before .before .before .before .before .before .before .before .before .before .before .before .args .asserted) _ _ (o .0) (s .put) in
-    (p .some, p .few, p .proof, omega (arith, p .log, s .put, o .0, i, log-sum (c .before .before .before .before .before .before .before .before .before .before .before .before .before .before .before .before .before .before .before .before .before .before .before .args .n), c .before .before .before .before .before .before .before .before .before .before .before .before .before .before .before .begin .kept, c .before .before .before .before .before .before .before .before .before .run-rounds .kept))
+    let p = c .before .before .before .before .before .before .before .before .before .before .before .before .before .before .before .before .before .before .before .before .before .before .before .before .pre .0 in
+    let s = c .before .before .before .before .before .before .before .before .before .before .before .before .before .before .before .before .begin .ensures (replicate 25 0) in
+    let o = c .before .before .before .before .before .before .before .before .before .before .before .before .before .before .before .before .before .before .start .ensures in
+    let i = quarter (c .before .before .before .before .before .before .before .before .before .before .before .before .before .before .before .before .before .before .before .before .before .before .before .before .args .asserted) _ _ (o .0) (s .put) in
+    (p .some, p .few, p .proof, omega (arith, p .log, s .put, o .0, i, log-sum (c .before .before .before .before .before .before .before .before .before .before .before .before .before .before .before .before .before .before .before .before .before .before .before .before .args .n), c .before .before .before .before .before .before .before .before .before .before .before .before .before .before .before .before .begin .kept, c .before .before .before .before .before .before .before .before .before .run-rounds .kept))
 
 clear-requires : tie.Need-clear-requires
 clear-requires c κs = search needs
@@ -55,15 +57,15 @@ same-length-4 c = search needs
 
 returns : tie.Need-returns
 returns c =
-    let p = c .before .before .before .before .before .before .before .before .before .before .before .before .before .before .before .before .before .before .before .before .before .before .before .before .before .before .before .before .before .before .pre .0 in
-    let s = c .before .before .before .before .before .before .before .before .before .before .before .before .before .before .before .before .before .before .before .before .before .before .begin .ensures in
-    let k = c .before .before .before .before .before .before .before .before .before .before .before .before .before .before .before .before .before .before .before .before .before .before .begin .kept in
+    let p = c .before .before .before .before .before .before .before .before .before .before .before .before .before .before .before .before .before .before .before .before .before .before .before .before .before .before .before .before .before .before .before .pre .0 in
+    let s = c .before .before .before .before .before .before .before .before .before .before .before .before .before .before .before .before .before .before .before .before .before .before .before .begin .ensures (replicate 25 0) in
+    let k = c .before .before .before .before .before .before .before .before .before .before .before .before .before .before .before .before .before .before .before .before .before .before .before .begin .kept in
     let j = c .before .before .before .before .before .before .before .before .before .before .before .before .before .before .before .before .run-rounds .kept in
     let r = c .before .before .before .before .before .before .before .before .before .before .before .before .before .before .before .before .run-rounds .ensures in
     let o = c .before .before .before .before .before .before .put-proof .ensures in
-    let z = c .before .before .before .before .before .before .before .before .before .before .before .before .before .before .before .before .before .before .before .before .before .before .before .before .start .ensures in
+    let z = c .before .before .before .before .before .before .before .before .before .before .before .before .before .before .before .before .before .before .before .before .before .before .before .before .before .start .ensures in
     λ f m e L R.
-    written f (c .before .before .before .before .before .before .before .before .before .before .before .before .before .before .before .before .before .before .before .before .before .before .before .before .before .before .before .before .before .before .args .asserted) m (c .before .before .before .before .before .before .before .before .before .before .before .before .before .before .before .before .before .before .before .before .before .before .before .before .before .before .before .before .before .before .args .n) _ (c .before .before .before .before .before .before .before .before .before .before .before .before .before .before .before .before .before .before .before .before .before .before .before .before .before .before .before .before .before .before .args .proof .now) (c .before .before .before .before .before .before .put-proof .last .0) (c .before .before .before .before .before .before .before .before .before .before .before .before .before .before .before .before .before .before .before .before .before .before .before .before .before .before .before .before .before .before .args .xi .now) _ _ (c .before .before .before .before .before .before .before .before .before .before .before .before .before .before .before .before .before .before .before .before .before .before .begin .last .0) (c .before .before .before .before .before .before .before .before .before .before .before .before .before .before .before .before .run-rounds .last .1 .1 .1 .1 .1 .0) (c .before .before .before .before .before .before .before .before .before .before .before .before .before .before .before .before .before .before .before .before .before .before .before .before .before .before .before .before .before .before .args .work .now) (c .before .before .before .before .before .before .before .before .before .before .before .before .before .before .before .before .run-rounds .last .1 .1 .1 .0) _ _ _ _ (c .before .before .before .before .before .before .before .before .before .before .before .before .before .before .before .before .before .before .before .before .before .before .before .before .before .before .before .before .before .before .args .root) (z .0) (z .1) e R s (omega (arith, p .log, s .put, z .0, k)) (run-alike (c .before .before .before .before .before .before .before .before .before .before .before .before .before .before .before .before .before .before .before .before .before .before .before .before .before .before .before .before .before .before .args .challenges .now) (s .drawn ∙ z .2) (r .0 f m e L (R .q .value))) (omega (arith, r .1 .0)) (omega (arith, p .log, s .put, z .0, r .1 .0, k, j)) (r .1 .1) (p .point) (omega (arith, p .point, j)) (p .proof) (omega (arith, c .before .before .before .before .before .before .put-proof .kept)) (o .1) (c .before .before .clear .ensures) (omega (arith, j))
+    written f (c .before .before .before .before .before .before .before .before .before .before .before .before .before .before .before .before .before .before .before .before .before .before .before .before .before .before .before .before .before .before .before .args .asserted) m (c .before .before .before .before .before .before .before .before .before .before .before .before .before .before .before .before .before .before .before .before .before .before .before .before .before .before .before .before .before .before .before .args .n) _ (c .before .before .before .before .before .before .before .before .before .before .before .before .before .before .before .before .before .before .before .before .before .before .before .before .before .before .before .before .before .before .before .args .proof .now) (c .before .before .before .before .before .before .put-proof .last .0) (c .before .before .before .before .before .before .before .before .before .before .before .before .before .before .before .before .before .before .before .before .before .before .before .before .before .before .before .before .before .before .before .args .xi .now) _ _ (c .before .before .before .before .before .before .before .before .before .before .before .before .before .before .before .before .before .before .before .before .before .before .before .begin .last .0) (c .before .before .before .before .before .before .before .before .before .before .before .before .before .before .before .before .run-rounds .last .1 .1 .1 .1 .1 .0) (c .before .before .before .before .before .before .before .before .before .before .before .before .before .before .before .before .before .before .before .before .before .before .before .before .before .before .before .before .before .before .before .args .work .now) (c .before .before .before .before .before .before .before .before .before .before .before .before .before .before .before .before .run-rounds .last .1 .1 .1 .0) _ _ _ _ (c .before .before .before .before .before .before .before .before .before .before .before .before .before .before .before .before .before .before .before .before .before .before .before .before .before .before .before .before .before .before .before .args .root) (z .0) (z .1) e R s (omega (arith, p .log, s .put, z .0, k)) (run-alike (c .before .before .before .before .before .before .before .before .before .before .before .before .before .before .before .before .before .before .before .before .before .before .before .before .before .before .before .before .before .before .before .args .challenges .now) (s .drawn ∙ z .2) (r .0 f m e L (R .q .value))) (omega (arith, r .1 .0)) (omega (arith, p .log, s .put, z .0, r .1 .0, k, j)) (r .1 .1) (p .point) (omega (arith, p .point, j)) (p .proof) (omega (arith, c .before .before .before .before .before .before .put-proof .kept)) (o .1) (c .before .before .clear .ensures) (omega (arith, j))
 
 pub write-run-spec : {M : Type 1} → statement M
 write-run-spec =
