@@ -14,6 +14,8 @@
  *         it is given. A buffer that is written may be longer than is asked for; of what it held nothing is read, and what is not said to
  *         be written stays as it was. Challenges may be longer too. A proof or a sheet that is read may not: pass its exact bytes
  *         (13 otherwise).
+ * Drawn.  With ACCUDRINA_DRAWN each word of a challenge is the first 8 bytes, big-endian, modulo the prime, of SHAKE128 (FIPS 202) over
+ *         the ASCII label frac-gkr/1 and all log words so far, 4 bytes each, big-endian, the top bit of sampled words included.
  * Meaning. A verdict of 0 is not yet a result: docs/WHAT-A-PROOF-SAYS.md has what it says and what it does not. With challenges that
  *         are supplied, whoever knows them can make a proof of a false sum that is accepted. */
 #ifndef ACCUDRINA_H
@@ -33,6 +35,7 @@ extern "C" {
  * nothing but `answer` is written. */
 #define ACCUDRINA_LIVE UINT32_C(1)        /* prover: a row with q = 0 is refused as 7; verifier: a proof whose q0 is 0, as 27 */
 #define ACCUDRINA_ASSERT_ZERO UINT32_C(2) /* prover: a sum whose p is not 0 is refused as 8 */
+#define ACCUDRINA_DRAWN UINT32_C(4)       /* both: challenges are drawn from the log, and those lent are not read */
 
 /* The results, with the fields of each: plain ones in [1] to [3], elements in [4] to [7] and [8] to [11]. */
 enum accudrina_result {
@@ -40,7 +43,7 @@ enum accudrina_result {
     ACCUDRINA_RAGGED_ROWS = 1,                       /* the row words are not a multiple of 8 */
     ACCUDRINA_TOO_MANY_ROWS = 2,                     /* more than 1024 */
     ACCUDRINA_NOT_POWER_OF_TWO = 3,                  /* the rows are neither none nor a power of two */
-    ACCUDRINA_SHORT_CHALLENGES = 4,                  /* fewer words than accudrina_challenge_words says */
+    ACCUDRINA_SHORT_CHALLENGES = 4,                  /* fewer words than accudrina_challenge_words says; not where they are drawn */
     ACCUDRINA_SHORT_ROOM = 5,                        /* an output or the workspace is too short */
     ACCUDRINA_BAD_WORD = 6,                          /* a word is not below the prime */
     ACCUDRINA_ZERO_DENOMINATOR = 7,                  /* plain: live mode, the lowest row with q = 0, from 0 */
@@ -72,7 +75,7 @@ size_t accudrina_point_words(size_t rounds);
 size_t accudrina_log_words(size_t rounds, uint32_t modes);
 /* The words of the prover's workspace. */
 size_t accudrina_workspace_words(size_t rounds);
-/* The words of the challenges. */
+/* The words of the challenges, where they are not drawn. */
 size_t accudrina_challenge_words(size_t rounds);
 
 /* Reads a stored sheet: version byte 1, the row count in two bytes, 32 bytes a row, all big-endian.
@@ -82,9 +85,10 @@ uint32_t accudrina_read_sheet(const uint8_t *sheet, size_t sheet_len,
                               uint32_t *rows, size_t rows_len,
                               uint32_t answer[ACCUDRINA_ANSWER_WORDS]);
 
-/* Proves the sum of the rows, with the challenges given; those past the needed ones are not read.
+/* Proves the sum of the rows, with the challenges given or drawn; those past the needed ones are not read.
  * Modes. LIVE: a row with q = 0 is refused as 7, 0/0 too; an unused row is 0/1. Otherwise all rows are taken, and one row 0/0 makes
- * the whole sum 0/0. ASSERT_ZERO: a sum whose p is not 0 is refused as 8; otherwise p is put into the log.
+ * the whole sum 0/0. ASSERT_ZERO: a sum whose p is not 0 is refused as 8; otherwise p is put into the log. DRAWN: no challenges are needed,
+ * and none that are lent are read.
  * Done: the rounds in [1], the sum's p in [4] to [7] and q in [8] to [11]. The proof, the point and the log (the top bit is set in a
  * word that was sampled) stand at the front of their buffers; the needed words of work are 0.
  * Refused as the first that fits of 28, 1 to 9: proof, point and log are as they were; work too, but for 8, which leaves its needed
@@ -100,11 +104,11 @@ uint32_t accudrina_prove(const uint32_t *rows, size_t rows_len,
 
 /* Verifies a proof that the sum of 2^rounds rows is zero. proof_len is the proof's exact length.
  * Modes. LIVE: a proof whose q0, the sum's denominator, is 0 is refused as 27. Otherwise that is no reason to refuse, and such a proof
- * says nothing about the rows: q0 is the first element, in the proof's bytes 5 to 20.
+ * says nothing about the rows: q0 is the first element, in the proof's bytes 5 to 20. DRAWN: as in the prover.
  * Done, accepted: two claims in [4] to [7] and [8] to [11]; the point and the log stand at the front of their buffers. Of every accepted
  * proof that is all: the sheet was not seen, and the caller compares the claims with the values of its columns p and q at the
  * point, which accudrina_evaluate answers.
- * Of a proof that accudrina_prove wrote with ASSERT_ZERO, given the same challenges, it is proved that it is accepted, that the claims are
+ * Of a proof that accudrina_prove wrote with ASSERT_ZERO, given the same challenges or both DRAWN, it is proved that it is accepted, that the claims are
  * these values, and that point and log equal the prover's; LIVE that is so where no row has q = 0, and so where the prover was LIVE too.
  * Refused as the first that fits of 28, 10, 11, 4, 5, 12, 13, 6, 14, 15, 27, then 16 to 19 as the run meets them: the point is as it was;
  * so is the log, but for 16 to 19, which leave what the run observed and sampled until then. */

@@ -85,7 +85,9 @@ def rows_of(files, name):
     return o.fronts[0]
 
 
-def challenges_of(files, name):
+def challenges_of(files, modes, name):
+    if modes & m.DRAWN:
+        return []
     if name is None:
         return m.flat(m.const(k) for k in range(1, 65))
     return [w for row in read_list(name, files[name][:65536], 1, 64, "an element")[0] for e in row for w in e]
@@ -115,20 +117,20 @@ def show(files, sheet):
         level, size = [m.fraction_sum(a, b) for a, b in zip(level[::2], level[1::2])], 2 * size
 
 
-def prove(files, sheet, proof, live, asserted, challenges):
+def prove(files, sheet, proof, modes, asserted, challenges):
     rows = rows_of(files, sheet)
-    o = m.outcome(40, [live, asserted, rows, challenges_of(files, challenges), 2832, 40, 964, 32768, 0])
+    o = m.outcome(40, [modes, asserted, rows, challenges_of(files, modes, challenges), 2832, 40, 964, 32768, 0])
     if o.no:
         raise Refused(refusal(o))
     files[proof] = bytes(o.fronts[0])
     lines = ["rows %d" % (len(rows) // 8), "rounds %d" % o.plain[0], "sum " + " ".join(map(long, o.elements))]
-    return lines + notes(o.elements[1], challenges)
+    return lines + notes(o.elements[1], modes, challenges)
 
 
-def notes(denominator, challenges):
+def notes(denominator, modes, challenges):
     """A sum over zero, and challenges that are counted, are told after the answer."""
     over = ["note: the denominator of the sum is zero, so that the proof says nothing about the rows"] if denominator == m.ZERO else []
-    return over + ([] if challenges else ["note: the challenges are counted, for demonstrations only"])
+    return over + ([] if challenges or modes & m.DRAWN else ["note: the challenges are counted, for demonstrations only"])
 
 
 def compare(files, sheet, rounds, point, claims):
@@ -142,15 +144,15 @@ def compare(files, sheet, rounds, point, claims):
     return "claims match the sheet" if m.outcome(70, [rows, point]).elements == claims else "refused: the claims are not the sheet's"
 
 
-def verify(files, proof, rounds, live, challenges, sheet):
+def verify(files, proof, rounds, modes, challenges, sheet):
     if len(files[proof]) > PROOF:
         raise Refused("refused: %s has more than %d bytes, and a proof of 10 rounds has 2832" % (proof, PROOF))
-    o = m.outcome(50, [rounds, live, files[proof], challenges_of(files, challenges), 40, 960, 0])
+    o = m.outcome(50, [rounds, modes, files[proof], challenges_of(files, modes, challenges), 40, 960, 0])
     if o.no:
         raise Refused(refusal(o))
     point = " ".join(long(e) for e in m.elements(o.fronts[0]))
     lines = ["verdict 0", "numer " + long(o.elements[0]), "denom " + long(o.elements[1]), "point " + point]
-    lines += notes(m.read_proof(files[proof])[0], challenges)
+    lines += notes(m.read_proof(files[proof])[0], modes, challenges)
     return lines + ([compare(files, sheet, rounds, o.fronts[0], o.elements)] if sheet else [])
 
 
@@ -158,6 +160,7 @@ def run(files, line):
     """What a command line of known words prints; `size NAME` tells the bytes of a file."""
     name, *args = line.split(" ")
     challenges, sheet = (args[args.index(option) + 1] if option in args else None for option in ("--challenges", "--sheet"))
+    modes = sum(bit for option, bit in (("--live", m.LIVE), ("--drawn", m.DRAWN)) if option in args)
     try:
         if name == "size":
             return ["bytes %d" % len(files[args[0]]) if args[0] in files else "no such file"]
@@ -166,7 +169,7 @@ def run(files, line):
         if name == "show":
             return show(files, *args)
         if name == "prove":
-            return prove(files, args[0], args[1], "--live" in args, "--no-assert" not in args, challenges)
-        return verify(files, args[0], int(args[1]), "--live" in args, challenges, sheet)
+            return prove(files, args[0], args[1], modes, "--no-assert" not in args, challenges)
+        return verify(files, args[0], int(args[1]), modes, challenges, sheet)
     except Refused as said:
         return [str(said)]

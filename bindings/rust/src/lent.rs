@@ -1,7 +1,7 @@
 //! The calls over lent buffers, as C has them. They ask nothing of a slice: any content and any length gets an answer.
 use crate::{
     ffi,
-    modes::{self, Mode, Sum},
+    modes::{self, Challenges, Mode, Sum},
     Element, Fraction, Refusal,
 };
 
@@ -50,17 +50,26 @@ pub fn read_sheet_into(sheet: &[u8], rows: &mut [u32]) -> Result<usize, Refusal>
     }
 }
 
-/// Proves the rows, eight words each, with the given challenges, four words each.
-pub fn prove_into(rows: &[u32], mode: Mode, sum: Sum, challenges: &[u32], rooms: Rooms<'_>) -> Result<Done, Refusal> {
+/// Proves the rows, eight words each, with challenges that are drawn or given, four words each.
+pub fn prove_into<'a>(
+    rows: &[u32],
+    mode: Mode,
+    sum: Sum,
+    challenges: impl Into<Challenges<'a, u32>>,
+    rooms: Rooms<'_>,
+) -> Result<Done, Refusal> {
+    let challenges = challenges.into();
+    let modes = modes::proving(mode, sum, challenges);
+    let lent = challenges.lent();
     let mut answer = [0; 16];
     // Safe: as in `read_sheet_into`.
     let number = unsafe {
         ffi::accudrina_prove(
             rows.as_ptr(),
             rows.len(),
-            modes::word(mode, sum),
-            challenges.as_ptr(),
-            challenges.len(),
+            modes,
+            lent.as_ptr(),
+            lent.len(),
             rooms.proof.as_mut_ptr(),
             rooms.proof.len(),
             rooms.point.as_mut_ptr(),
@@ -79,14 +88,17 @@ pub fn prove_into(rows: &[u32], mode: Mode, sum: Sum, challenges: &[u32], rooms:
 }
 
 /// Verifies a proof of so many rounds, by its exact bytes.
-pub fn verify_into(
+pub fn verify_into<'a>(
     proof: &[u8],
     rounds: usize,
     mode: Mode,
-    challenges: &[u32],
+    challenges: impl Into<Challenges<'a, u32>>,
     point: &mut [u32],
     log: &mut [u32],
 ) -> Result<Claims, Refusal> {
+    let challenges = challenges.into();
+    let modes = modes::verifying(mode, challenges);
+    let lent = challenges.lent();
     let mut answer = [0; 16];
     // Safe: as in `read_sheet_into`.
     let number = unsafe {
@@ -94,9 +106,9 @@ pub fn verify_into(
             proof.as_ptr(),
             proof.len(),
             rounds,
-            modes::live(mode),
-            challenges.as_ptr(),
-            challenges.len(),
+            modes,
+            lent.as_ptr(),
+            lent.len(),
             point.as_mut_ptr(),
             point.len(),
             log.as_mut_ptr(),

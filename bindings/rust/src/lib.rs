@@ -4,8 +4,8 @@
 //! must be. [`evaluate`] gives the values of a sheet that the claims of an accepted proof are compared with. Every call ends with an answer for all bytes, words and lengths; what is refused says why. Calls share no state, so any
 //! number of threads may call at once.
 //!
-//! A verdict is not yet a result. The challenges are supplied, and whoever knows them can make a proof of a false sum that is
-//! accepted; and in [`Mode::Sandbox`] a proof whose `q0` is zero is accepted and says nothing about the rows. What an accepted proof says,
+//! A verdict is not yet a result. Where the challenges are supplied, whoever knows them can make a proof of a false sum that is
+//! accepted ([`Challenges::Drawn`] are not known before); and in [`Mode::Sandbox`] a proof whose `q0` is zero is accepted and says nothing about the rows. What an accepted proof says,
 //! and what it does not, stands in the repository's `docs/WHAT-A-PROOF-SAYS.md`: read it before you file one.
 
 mod element;
@@ -18,6 +18,6 @@ pub mod rooms;
 
 pub use element::{elements_of, row_words, words_of, Element, Fraction, PRIME};
 pub use lent::{evaluate_words, prove_into, read_sheet_into, verify_into, Claims, Done, Evaluated, Rooms};
-pub use modes::{Mode, Sum};
+pub use modes::{Challenges, Mode, Sum};
 pub use owned::{evaluate, prove, read_sheet, verify, Accepted, Proved};
 pub use refusal::Refusal;

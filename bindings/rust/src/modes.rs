@@ -18,22 +18,72 @@ pub enum Sum {
     Observe,
 }
 
-const LIVE: u32 = 1;
-const ASSERT_ZERO: u32 = 2;
+/// Where the challenges of a run come from. A list is taken for supplied ones.
+#[derive(Clone, Copy, Debug, PartialEq, Eq)]
+pub enum Challenges<'a, T> {
+    /// From the caller. Whoever knows them before the proof is made can make one of a false sum.
+    Supplied(&'a [T]),
+    /// From the log, with SHAKE128: each over all that was written before it.
+    Drawn,
+}
 
-/// The word of the verifier's mode.
-pub(crate) fn live(mode: Mode) -> u32 {
-    if mode == Mode::Live {
-        LIVE
-    } else {
-        0
+impl<'a, T> From<&'a [T]> for Challenges<'a, T> {
+    fn from(list: &'a [T]) -> Self {
+        Challenges::Supplied(list)
     }
 }
 
+impl<'a, T> From<&'a Vec<T>> for Challenges<'a, T> {
+    fn from(list: &'a Vec<T>) -> Self {
+        Challenges::Supplied(list)
+    }
+}
+
+impl<'a, T, const N: usize> From<&'a [T; N]> for Challenges<'a, T> {
+    fn from(list: &'a [T; N]) -> Self {
+        Challenges::Supplied(list)
+    }
+}
+
+impl<'a, T> Challenges<'a, T> {
+    /// Those that are lent to the call: none where they are drawn.
+    pub(crate) fn lent(self) -> &'a [T] {
+        match self {
+            Challenges::Supplied(list) => list,
+            Challenges::Drawn => &[],
+        }
+    }
+
+    fn bit(self) -> u32 {
+        match self {
+            Challenges::Supplied(_) => 0,
+            Challenges::Drawn => DRAWN,
+        }
+    }
+}
+
+const LIVE: u32 = 1;
+const ASSERT_ZERO: u32 = 2;
+const DRAWN: u32 = 4;
+
+/// The word of the verifier's modes.
+pub(crate) fn verifying<T>(mode: Mode, challenges: Challenges<'_, T>) -> u32 {
+    let live = if mode == Mode::Live { LIVE } else { 0 };
+    live | challenges.bit()
+}
+
 /// The word of the prover's modes.
-pub(crate) fn word(mode: Mode, sum: Sum) -> u32 {
-    let assert_zero = if sum == Sum::AssertZero { ASSERT_ZERO } else { 0 };
-    live(mode) | assert_zero
+pub(crate) fn proving<T>(mode: Mode, sum: Sum, challenges: Challenges<'_, T>) -> u32 {
+    verifying(mode, challenges) | summing(sum)
+}
+
+/// What of it the room for the log looks at.
+pub(crate) fn summing(sum: Sum) -> u32 {
+    if sum == Sum::AssertZero {
+        ASSERT_ZERO
+    } else {
+        0
+    }
 }
 
 #[cfg(test)]
@@ -41,7 +91,7 @@ mod tests {
     use super::*;
     use crate::{ffi, Refusal};
 
-    const UNKNOWN: [u32; 9] = [4, 8, 16, 32, 1 << 30, 1 << 31, 5, 6, u32::MAX];
+    const UNKNOWN: [u32; 9] = [8, 16, 32, 64, 1 << 30, 1 << 31, 9, 12, u32::MAX];
 
     /// The call's number and answer over four marked buffers, which are as before; the answer was marked too.
     fn prove(rows: &[u32], modes: u32) -> (u32, ffi::Answer) {
@@ -107,31 +157,32 @@ mod tests {
         let zero_sum = [1, 0, 0, 0, 2, 0, 0, 0, crate::PRIME - 1, 0, 0, 0, 2, 0, 0, 0];
         for modes in UNKNOWN {
             for rows in [&zero_sum[..], &zero_sum[..7], &[]] {
-                assert_eq!(prove(rows, modes), told(modes & !3));
+                assert_eq!(prove(rows, modes), told(modes & !7));
             }
         }
-        assert_eq!([0, 1, 2, 3].map(|modes| prove(&zero_sum, modes).0), [0; 4]);
+        assert_eq!([0, 1, 2, 3, 4, 5, 6, 7].map(|modes| prove(&zero_sum, modes).0), [0; 8]);
     }
 
     #[test]
-    fn the_verifier_takes_one_bit() {
+    fn the_verifier_takes_two_bits() {
         let half = |p| crate::Fraction::new(crate::Element::new(p), crate::Element::new(2));
         let rows = [half(1), half(crate::PRIME - 1)];
         let proof = crate::prove(&rows, Mode::Live, Sum::AssertZero, &[crate::Element::new(5)]).unwrap().proof;
-        for modes in [2, 3].into_iter().chain(UNKNOWN) {
+        for modes in [2, 3, 6, 7].into_iter().chain(UNKNOWN) {
             for (bytes, rounds) in [(&proof[..], 1), (&[], 1), (&proof[..], 0), (&proof[..], 11)] {
-                assert_eq!(verify(bytes, rounds, modes), told(modes & !1));
+                assert_eq!(verify(bytes, rounds, modes), told(modes & !5));
             }
         }
-        assert_eq!([0, 1].map(|modes| verify(&proof, 1, modes).0), [0; 2]);
+        // With one round nothing is asked of mu: accepted whatever it is.
+        assert_eq!([0, 1, 4, 5].map(|modes| verify(&proof, 1, modes).0), [0; 4]);
         let mut over_zero = proof;
         over_zero[5..21].fill(0);
-        assert_eq!([0, 1].map(|modes| verify(&over_zero, 1, modes).0), [17, 27]);
+        assert_eq!([0, 1, 4, 5].map(|modes| verify(&over_zero, 1, modes).0), [17, 27, 17, 27]);
     }
 
     #[test]
     fn room_for_the_log_looks_at_one_bit() {
-        for modes in [0, 1, 2, 3].into_iter().chain(UNKNOWN) {
+        for modes in [0, 1, 2, 3, 4, 5, 6, 7].into_iter().chain(UNKNOWN) {
             let asked = [0, 1, 2, 10, 11].map(|n| unsafe { ffi::accudrina_log_words(n, modes) });
             assert_eq!(asked, if modes & 2 == 2 { [0, 24, 64, 960, 0] } else { [0, 28, 68, 964, 0] });
         }

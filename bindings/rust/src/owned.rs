@@ -2,7 +2,7 @@
 use crate::{
     element::{elements_of, row_words, words_of},
     lent::{evaluate_words, prove_into, read_sheet_into, verify_into, Claims, Rooms},
-    modes::{Mode, Sum},
+    modes::{Challenges, Mode, Sum},
     rooms, Element, Fraction, Refusal,
 };
 
@@ -24,6 +24,18 @@ pub struct Accepted {
     pub log: Vec<u32>,
 }
 
+/// The words of challenges that are supplied; none are where they are drawn.
+fn words(challenges: Challenges<'_, Element>) -> Option<Vec<u32>> {
+    match challenges {
+        Challenges::Supplied(list) => Some(words_of(list)),
+        Challenges::Drawn => None,
+    }
+}
+
+fn again(words: &Option<Vec<u32>>) -> Challenges<'_, u32> {
+    words.as_ref().map_or(Challenges::Drawn, |list| Challenges::Supplied(list))
+}
+
 /// The rows of a stored sheet.
 pub fn read_sheet(sheet: &[u8]) -> Result<Vec<Fraction>, Refusal> {
     // The count stands in the bytes. Where it is wrong or above 1,024, the sheet is refused whatever the room.
@@ -35,14 +47,15 @@ pub fn read_sheet(sheet: &[u8]) -> Result<Vec<Fraction>, Refusal> {
 }
 
 /// A proof of the rows. A sum whose q is zero is proved too, and says nothing about the rows: look at [`Proved::sum`].
-pub fn prove(rows: &[Fraction], mode: Mode, sum: Sum, challenges: &[Element]) -> Result<Proved, Refusal> {
+pub fn prove<'a>(rows: &[Fraction], mode: Mode, sum: Sum, challenges: impl Into<Challenges<'a, Element>>) -> Result<Proved, Refusal> {
     let n = rooms::rounds(rows.len());
     let mut proof = vec![0; rooms::proof_bytes(n)];
     let mut point = vec![0; rooms::point_words(n)];
     let mut log = vec![0; rooms::log_words(n, sum)];
     let mut work = vec![0; rooms::workspace_words(n)];
     let lent = Rooms { proof: &mut proof, point: &mut point, log: &mut log, work: &mut work };
-    let done = prove_into(&row_words(rows), mode, sum, &words_of(challenges), lent)?;
+    let words = words(challenges.into());
+    let done = prove_into(&row_words(rows), mode, sum, again(&words), lent)?;
     Ok(Proved { rounds: done.rounds, sum: done.sum, proof, point: elements_of(&point), log })
 }
 
@@ -50,12 +63,13 @@ pub fn prove(rows: &[Fraction], mode: Mode, sum: Sum, challenges: &[Element]) ->
 /// is refused; in [`Mode::Sandbox`] it is accepted, and says nothing about the rows.
 ///
 /// The sheet is not seen: compare the claims with its own values at the point. Of a proof that [`prove`] made with
-/// [`Sum::AssertZero`] and the same challenges it is proved that it is accepted, that they are these values, and that point and log are the
+/// [`Sum::AssertZero`] and the same challenges, or with both drawn, it is proved that it is accepted, that they are these values, and that point and log are the
 /// prover's; in [`Mode::Live`] where no row has q zero, and so where it was proved in that mode.
-pub fn verify(proof: &[u8], rounds: usize, mode: Mode, challenges: &[Element]) -> Result<Accepted, Refusal> {
+pub fn verify<'a>(proof: &[u8], rounds: usize, mode: Mode, challenges: impl Into<Challenges<'a, Element>>) -> Result<Accepted, Refusal> {
     let mut point = vec![0; rooms::point_words(rounds)];
     let mut log = vec![0; rooms::log_words(rounds, Sum::AssertZero)];
-    let claims = verify_into(proof, rounds, mode, &words_of(challenges), &mut point, &mut log)?;
+    let words = words(challenges.into());
+    let claims = verify_into(proof, rounds, mode, again(&words), &mut point, &mut log)?;
     Ok(Accepted { claims, point: elements_of(&point), log })
 }
 

@@ -2,7 +2,7 @@
 -- Assumes nothing.
 use mathlib.Core.Path.{_≡_, refl, sym, _∙_, ap}
 use mathlib.Core.Bool.{Bool, true, false}
-use mathlib.Core.List.{List, [], _∷_}
+use mathlib.Core.List.{List}
 use Prim.Native.Nat.{ℕ, _-_, _/_, _%_, _≤_}
 use native.Mathlib.Nat.{div-eq-of-lt}
 use native.Mathlib.Omega.{arith}
@@ -15,7 +15,7 @@ use Rattle.prover_gate.specs.Refusals.{call}
 use Rattle.prover.specs.Proved.{Buffers}
 use Rattle.verifier.specs.Verified.{Lent, asked}
 use Rattle.accudrina.specs.Answer.{Told, tells}
-use Rattle.accudrina.specs.Modes.{LIVE, ASSERT-ZERO, has, without, untaken, provingOf, verifyingOf, unknownMode}
+use Rattle.accudrina.specs.Modes.{provingBits, verifyingBits, has, without, untaken, provingOf, verifyingOf, unknownMode}
 use Rattle.accudrina.specs.Calls.{Returned, taking, provingTaken, proving, verifyingTaken, verifying}
 use Rattle.accudrina.proofs.Telling.{returned}
 
@@ -48,11 +48,11 @@ pub taken-modes : {B : Type 0} {bits u : ℕ} (lent : B) {run answer : Returned 
 taken-modes {bits = bits} lent e h a = a ∙ rw (eq-eqb bits 0 (sym e ∙ h))
 
 -- the prover's run is that in the modes read from the word
-pub proved-in : {u : ℕ} (rows : List ℕ) (modes : ℕ) (ch : List ℕ) {m : Proving} (b : Buffers) {answer : Returned Buffers} → u ≡ untaken (LIVE ∷ ASSERT-ZERO ∷ []) modes → u ≡ 0
+pub proved-in : {u : ℕ} (rows : List ℕ) (modes : ℕ) (ch : List ℕ) {m : Proving} (b : Buffers) {answer : Returned Buffers} → u ≡ untaken provingBits modes → u ≡ 0
     → m ≡ provingOf modes → answer ≡ provingTaken (call rows m ch) b → answer ≡ proving rows modes ch b
 proved-in rows modes ch b e h m r = taken-modes b e h (r ∙ ap (λ m. provingTaken (call rows m ch) b) m)
 
 -- and so is the verifier's
-pub verified-in : {u : ℕ} (proof : List ℕ) (n modes : ℕ) (ch : List ℕ) {m : Verifying} (v : Lent) {answer : Returned Lent} → u ≡ untaken (LIVE ∷ []) modes → u ≡ 0
+pub verified-in : {u : ℕ} (proof : List ℕ) (n modes : ℕ) (ch : List ℕ) {m : Verifying} (v : Lent) {answer : Returned Lent} → u ≡ untaken verifyingBits modes → u ≡ 0
     → m ≡ verifyingOf modes → answer ≡ verifyingTaken (asked proof n m ch) v → answer ≡ verifying proof n modes ch v
 verified-in proof n modes ch v e h m r = taken-modes v e h (r ∙ ap (λ m. verifyingTaken (asked proof n m ch) v) m)

@@ -14,7 +14,7 @@ use Rattle.prover.specs.Report.{answerReport}
 use Rattle.verifier_round.specs.Report.{verdictReport}
 use Rattle.verifier.specs.Verified.{Asked, Lent, asked, verified}
 use Rattle.accudrina.specs.Answer.{Told, tells}
-use Rattle.accudrina.specs.Modes.{LIVE, ASSERT-ZERO, untaken, provingOf, verifyingOf, unknownMode}
+use Rattle.accudrina.specs.Modes.{provingBits, verifyingBits, untaken, provingOf, verifyingOf, unknownMode}
 
 pub record Returned (B : Type 0) : Type 0 where
   pub told : Told
@@ -35,7 +35,7 @@ provingTaken c b = record { told = tells (answerReport (proved c b .answer)); bu
 -- of rows, a word of modes and challenges
 abbrev pub proving : (rows : List ℕ) (modes : ℕ) (challenges : List ℕ) → Buffers → Returned Buffers
 proving rows modes challenges b =
-    taking (untaken (LIVE ∷ ASSERT-ZERO ∷ []) modes) b (provingTaken (call rows (provingOf modes) challenges) b)
+    taking (untaken provingBits modes) b (provingTaken (call rows (provingOf modes) challenges) b)
 
 -- of a call of the verifier, and the buffers for point and log
 abbrev pub verifyingTaken : Asked → Lent → Returned Lent
@@ -43,7 +43,7 @@ verifyingTaken a v = record { told = tells (verdictReport (verified a v .answer)
 
 -- of a proof's bytes, rounds, a word of modes and challenges
 abbrev pub verifying : (proof : List ℕ) (rounds modes : ℕ) (challenges : List ℕ) → Lent → Returned Lent
-verifying proof rounds modes challenges v = taking (untaken (LIVE ∷ []) modes) v (verifyingTaken (asked proof rounds (verifyingOf modes) challenges) v)
+verifying proof rounds modes challenges v = taking (untaken verifyingBits modes) v (verifyingTaken (asked proof rounds (verifyingOf modes) challenges) v)
 
 -- of rows and a point; no buffer is lent
 abbrev pub evaluating : (rows point : List ℕ) → Told

@@ -15,6 +15,16 @@ LIVE = 1
 abbrev pub ASSERT-ZERO : ℕ
 ASSERT-ZERO = 2
 
+abbrev pub DRAWN : ℕ
+DRAWN = 4
+
+-- the bits that the prover takes, and the verifier
+abbrev pub provingBits : List ℕ
+provingBits = LIVE ∷ ASSERT-ZERO ∷ DRAWN ∷ []
+
+abbrev pub verifyingBits : List ℕ
+verifyingBits = LIVE ∷ DRAWN ∷ []
+
 -- whether a bit is set: 1, 2, 4, ..
 unfoldable pub has : (bit modes : ℕ) → Bool
 has bit modes = eqb (modes / bit % 2) 1
@@ -29,11 +39,11 @@ untaken (bit ∷ bits) modes = untaken bits (without bit modes)
 
 -- the modes of proving that a word says
 abbrev pub provingOf : (modes : ℕ) → Proving
-provingOf modes = record { live = has LIVE modes; «assert_zero» = has ASSERT-ZERO modes }
+provingOf modes = record { live = has LIVE modes; «assert_zero» = has ASSERT-ZERO modes; drawn = has DRAWN modes }
 
 -- and of verifying
 abbrev pub verifyingOf : (modes : ℕ) → Verifying
-verifyingOf modes = record { live = has LIVE modes }
+verifyingOf modes = record { live = has LIVE modes; drawn = has DRAWN modes }
 
 -- 28, of the exported calls alone: the bits that are not taken
 abbrev pub unknownMode : (bits : ℕ) → Report

@@ -1,6 +1,5 @@
 // The modes of an exported call: bits of one word.
 ghost use mathlib.Core.Path.{_≡_};
-ghost use mathlib.Core.List.{[], _∷_};
 ghost use Prim.Native.Nat.{_≤_};
 ghost use Rattle.accudrina.specs.Modes as Modes;
 use field::Ext;
@@ -13,6 +12,9 @@ pub const LIVE: u32 = 1;
 
 // A sum that is not zero is refused; where this is not set, the sum is observed.
 pub const ASSERT_ZERO: u32 = 2;
+
+// Challenges are drawn from the log, and those lent are not read.
+pub const DRAWN: u32 = 4;
 
 // Whether a bit is set: 1, 2, 4, ..
 pub fn has(modes: u32, bit: u32) -> bool
@@ -35,9 +37,9 @@ pub fn without(modes: u32, bit: u32) -> u32
 
 // The bits of a word that the prover does not take.
 pub fn untaken_by_prover(modes: u32) -> u32
-    ensures { λ r. ⌜ r ≡ Modes.untaken (Modes.LIVE ∷ Modes.ASSERT-ZERO ∷ []) modes ⌝ }
+    ensures { λ r. ⌜ r ≡ Modes.untaken Modes.provingBits modes ⌝ }
 {
-    without(without(modes, LIVE), ASSERT_ZERO)
+    without(without(without(modes, LIVE), ASSERT_ZERO), DRAWN)
 }
 
 // The modes of proving that a word says.
@@ -47,22 +49,25 @@ pub fn proving(modes: u32) -> Proving
     Proving {
         live: has(modes, LIVE),
         assert_zero: has(modes, ASSERT_ZERO),
+        drawn: has(modes, DRAWN),
     }
 }
 
 // The bits of a word that the verifier does not take.
 pub fn untaken_by_verifier(modes: u32) -> u32
-    ensures { λ r. ⌜ r ≡ Modes.untaken (Modes.LIVE ∷ []) modes ⌝ }
+    ensures { λ r. ⌜ r ≡ Modes.untaken Modes.verifyingBits modes ⌝ }
 {
-    without(modes, LIVE)
+    without(without(modes, LIVE), DRAWN)
 }
 
-// The mode of verifying that a word says.
+// The modes of verifying that a word says.
 pub fn verifying(modes: u32) -> Verifying
     ensures { λ r. ⌜ r ≡ Modes.verifyingOf modes ⌝ }
 {
-    let live = has(modes, LIVE);
-    Verifying { live }
+    Verifying {
+        live: has(modes, LIVE),
+        drawn: has(modes, DRAWN),
+    }
 }
 
 // The number 28, with the bits that are not taken.

@@ -15,7 +15,7 @@ use Rattle.field.specs.Element.{words}
 use Rattle.field.specs.ElementLaws.{dec-enc}
 use Rattle.gkr.specs.Run.{Transcript, Frac, Proof}
 use Rattle.gkr.specs.Transcripts.{Words, empty, Source}
-use Rattle.gkr.specs.Sizes.{challenges, proof-bytes, log-words}
+use Rattle.gkr.specs.Sizes.{proof-bytes, log-words}
 use Rattle.gkr.specs.Tree as Tree
 use Rattle.gkr.specs.Gkr as Gkr
 use Rattle.gkr.specs.Gkr.{done, accepted}
@@ -23,7 +23,7 @@ use Rattle.gkr.specs.Honest as Honest
 use Rattle.gkr.specs.Count as Count
 use Rattle.gkr.specs.TranscriptLaws as TranscriptLaws
 use Rattle.transcript.specs.Log.{Drawing}
-use Rattle.transcript.specs.Source.{supplied}
+use Rattle.transcript.specs.Source as Source
 use Rattle.sizes.specs.SizeLaws.{counted}
 use Rattle.wire.specs.Words.{allCanonical}
 use Rattle.stored.specs.Layout.{layout, proofWords}
@@ -31,7 +31,7 @@ use Rattle.stored.specs.ParseLaws.{Answered, parse-reads}
 use Rattle.stored.specs.RoundTrip.{write-read}
 use Rattle.stored.specs.Elements.{encoded, decoded, overZero}
 use Rattle.prover_tree.specs.Nodes.{node}
-use Rattle.sizes.specs.Sizes.{rowCount, roundsOf}
+use Rattle.sizes.specs.Sizes.{rowCount, roundsOf, neededWords}
 use Rattle.refusal.specs.declared.Verifying.{Verifying}
 use Rattle.refusal.specs.Tests.{passed, firstOf}
 use Rattle.prover_gate.specs.Refusals.{Call}
@@ -49,16 +49,24 @@ use Rattle.roots.proofs.Live.{live-root}
 use Rattle.agreement.proofs.HonestSize.{honest-size}
 use Rattle.agreement.proofs.Opening.{opens, rounds-taken-are}
 
+-- where the challenges of n rounds come from
+abbrev pub sourceOf : (c : Call) (n : ℕ) → Source E.Ext
+sourceOf c n = Source.source (c .modes .drawn) (take (neededWords (c .modes .drawn) n) (c .challenges))
+
+-- a verifier that draws where the prover does
+abbrev pub like : (c : Call) (live : Bool) → Verifying
+like c live = record { live = live; drawn = c .modes .drawn }
+
 -- The run over a sheet that is taken, zero asserted or not: t is the log before root q.
-module _ (c : Call) (how : Verifying) (m : ℕ) (b : Prover.Buffers) (v : Lent) (h : Taken c (suc m)) (r : Room (c .modes .«assert_zero») (suc m) b v) (sound : how .live ≡ true → Sound (c .rows)) where
-  abbrev needed : List ℕ
-  needed = take (4 * challenges (suc m)) (c .challenges)
+module _ (c : Call) (live : Bool) (m : ℕ) (b : Prover.Buffers) (v : Lent) (h : Taken c (suc m)) (r : Room (c .modes .«assert_zero») (suc m) b v) (sound : live ≡ true → Sound (c .rows)) where
+  abbrev how : Verifying
+  how = like c live
 
   abbrev rows : ℕ → Frac E.Ext
   rows = node (c .rows)
 
   abbrev source : Source E.Ext
-  source = supplied needed
+  source = sourceOf c (suc m)
 
   abbrev S : Transcript E.Ext
   S = Drawing source
@@ -75,7 +83,7 @@ module _ (c : Call) (how : Verifying) (m : ℕ) (b : Prover.Buffers) (v : Lent) 
     unfolding Prover.proved Prover.fronts
     proved-run =
         ap (λ t. Prover.laid (Prover.entered c t) b) (opens c m b v h r)
-        ∙ ap (λ (n : ℕ). Prover.laid (Prover.ran (c .rows) (c .modes .«assert_zero») (c .challenges) n) b) (rounds-taken-are c m b v h r)
+        ∙ ap (λ (n : ℕ). Prover.laid (Prover.ran (c .rows) (c .modes) (c .challenges) n) b) (rounds-taken-are c m b v h r)
         ∙ ap (λ a. Prover.laid (Prover.after source (suc m) a) b) e
 
     abbrev bytes : List ℕ
@@ -123,10 +131,10 @@ module _ (c : Call) (how : Verifying) (m : ℕ) (b : Prover.Buffers) (v : Lent) 
 
 -- ZERO ASSERTED, AND THE ROOT NUMERATOR ZERO
 
-module _ (c : Call) (how : Verifying) (m : ℕ) (b : Prover.Buffers) (v : Lent) (h : Taken c (suc m)) (a : c .modes .«assert_zero» ≡ true) (z : root c (suc m) .p ≡ E.nil) (r : Room true (suc m) b v)
-    (sound : how .live ≡ true → Sound (c .rows)) where
+module _ (c : Call) (live : Bool) (m : ℕ) (b : Prover.Buffers) (v : Lent) (h : Taken c (suc m)) (a : c .modes .«assert_zero» ≡ true) (z : root c (suc m) .p ≡ E.nil) (r : Room true (suc m) b v)
+    (sound : live ≡ true → Sound (c .rows)) where
   abbrev ch : Source E.Ext
-  ch = supplied (take (4 * challenges (suc m)) (c .challenges))
+  ch = sourceOf c (suc m)
 
   abbrev P : Gkr.Proved Extension (Drawing ch)
   P = Gkr.run Extension (Drawing ch) m (node (c .rows)) empty
@@ -142,17 +150,17 @@ module _ (c : Call) (how : Verifying) (m : ℕ) (b : Prover.Buffers) (v : Lent) 
   r′ = subst (λ s. Room s (suc m) b v) (sym a) r
 
   run-is : Prover.proved c b ≡ Prover.laid (Prover.finished ch (suc m) P) b
-  run-is = proved-run c how m b v h r′ sound empty is-done
+  run-is = proved-run c live m b v h r′ sound empty is-done
 
-  verdict-is : verdict c how (suc m) (Prover.proved c b) v ≡ Verifier.laid (Verifier.ended ch (accepted (Tree.value ExtRing (node (c .rows)) (P .point)) (P .point) (P .log))) v
-  verdict-is = verdict-run c how m b v h r′ sound empty is-done ∙ ap (λ w. Verifier.laid (Verifier.ended ch w) v) (theorem .1)
+  verdict-is : verdict c (like c live) (suc m) (Prover.proved c b) v ≡ Verifier.laid (Verifier.ended ch (accepted (Tree.value ExtRing (node (c .rows)) (P .point)) (P .point) (P .log))) v
+  verdict-is = verdict-run c live m b v h r′ sound empty is-done ∙ ap (λ w. Verifier.laid (Verifier.ended ch w) v) (theorem .1)
 
-  pub agreed : Agreed c (suc m) b v (Prover.proved c b) (verdict c how (suc m) (Prover.proved c b) v)
+  pub agreed : Agreed c (suc m) b v (Prover.proved c b) (verdict c (like c live) (suc m) (Prover.proved c b) v)
   agreed =
       record {
         point = P .point;
         logged = P .log .log;
-        done = sum-run c how m b v h r′ sound empty is-done;
+        done = sum-run c live m b v h r′ sound empty is-done;
         accepted = ap (λ o. o .answer) verdict-is;
         coordinates = Count.point-length Extension (Drawing ch) m (node (c .rows)) empty;
         proved-point = ap (λ o. o .buffers .point) run-is;
@@ -165,10 +173,14 @@ module _ (c : Call) (how : Verifying) (m : ℕ) (b : Prover.Buffers) (v : Lent) 
 none : (n : ℕ) → n ≡ 0 → 1 ≤ n → ⊥
 none n e h = omega arith
 
+alike : (c : Call) (how : Verifying) → how .drawn ≡ c .modes .drawn → how ≡ like c (how .live)
+alike c how d = λ i. record { live = how .live; drawn = d i }
+
 -- THE THEOREM
 pub demand-3 : Demand3
-demand-3 c how zero b v h a z r sound = absurd (none 0 refl (h .some))
-demand-3 c how (suc m) b v h a z r sound = agreed c how m b v h a z r sound
+demand-3 c how zero b v h d a z r sound = absurd (none 0 refl (h .some))
+demand-3 c how (suc m) b v h d a z r sound =
+    subst (λ w. Agreed c (suc m) b v (Prover.proved c b) (verdict c w (suc m) (Prover.proved c b) v)) (sym (alike c how d)) (agreed c (how .live) m b v h a z r sound)
 
 -- ANOTHER SUM, NOT ASSERTED
 
@@ -181,16 +193,16 @@ differs x h = go (E.same x E.nil) refl
 
 pub other-sum : OtherSum
 unfolding Gkr.fractional-sumcheck
-other-sum c how zero b v h a z r sound = absurd (none 0 refl (h .some))
-other-sum c how (suc m) b v h a z r sound =
-    let ch = supplied (take (4 * challenges (suc m)) (c .challenges)) in
+other-sum c how zero b v h d a z r sound = absurd (none 0 refl (h .some))
+other-sum c how (suc m) b v h d a z r sound =
+    let ch = sourceOf c (suc m) in
     let f = node (c .rows) in
     let t = Drawing ch .observe (root c (suc m) .p) empty in
     let e : Gkr.fractional-sumcheck Extension (Drawing ch) (c .modes .«assert_zero») m f empty ≡ done (Gkr.run Extension (Drawing ch) m f t) =
     ap (λ s. Gkr.fractional-sumcheck Extension (Drawing ch) s m f empty) a in
     let r′ : Room (c .modes .«assert_zero») (suc m) b v = subst (λ s. Room s (suc m) b v) (sym a) r in
     let n = Honest.not-zero Extension (Drawing ch) m f t empty (differs (root c (suc m) .p) z) in
-    (sum-run c how m b v h r′ sound t e, ap (λ o. o .answer) (verdict-run c how m b v h r′ sound t e ∙ ap (λ w. Verifier.laid (Verifier.ended ch w) v) n))
+    (sum-run c (how .live) m b v h r′ sound t e, ap (λ w. verdict c w (suc m) (Prover.proved c b) v .answer) (alike c how d) ∙ ap (λ o. o .answer) (verdict-run c (how .live) m b v h r′ sound t e ∙ ap (λ w. Verifier.laid (Verifier.ended ch w) v) n))
 
 -- PROVED LIVE
 

@@ -49,7 +49,7 @@ module _ (c : Call) (b : Buffers) (n : ℕ) (s : Frac) where
       go : (t : Tested) → firstRefusal c (roomsOf b) ≡ t → entered c t .answer ≡ Done n s → Admitted
       go passed e k =
           let N = roundsOf (rowCount (c .rows)) in
-          record { opened = e; rounds = each-end (λ f. f .answer ≡ Done n s → n ≡ N) (c .rows) (c .modes .«assert_zero») (c .challenges) N (rounds-told N) k }
+          record { opened = e; rounds = each-end (λ f. f .answer ≡ Done n s → n ≡ N) (c .rows) (c .modes) (c .challenges) N (rounds-told N) k }
       go (refused r) e k = absurd (done-refused n s r (sym k))
 
 -- so n is within the limit, and the proof's bytes are there
@@ -86,8 +86,8 @@ module _ (c : Call) (how : Verifying) (b : Buffers) (v : Lent) where
       ∙ ap (λ o. follow c how v o (o .answer)) h
 
   -- DEMAND 3
-  pub agrees : (j : Joined) → j ≡ together c how b v → (n : ℕ) → Taken c n → c .modes .«assert_zero» ≡ true → root c n .p ≡ E.nil → Room true n b v → (how .live ≡ true → Sound (c .rows)) → Agrees c n b v j
+  pub agrees : (j : Joined) → j ≡ together c how b v → (n : ℕ) → Taken c n → how .drawn ≡ c .modes .drawn → c .modes .«assert_zero» ≡ true → root c n .p ≡ E.nil → Room true n b v → (how .live ≡ true → Sound (c .rows)) → Agrees c n b v j
   unfolding together
-  agrees j e n h a z r s =
-      let A = demand-3 c how n b v h a z r s in
+  agrees j e n h d a z r s =
+      let A = demand-3 c how n b v h d a z r s in
       subst (Agrees c n b v) (sym e) (subst (λ w. Agrees c n b v (follow c how v (proved c b) w)) (sym (A .done)) A)

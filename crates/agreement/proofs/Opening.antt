@@ -2,17 +2,16 @@
 -- Assumes nothing.
 use mathlib.Core.Path.{_≡_, refl, _∙_, ap}
 use mathlib.Core.Bool.{Bool, true, false, not, _&&_}
-use Prim.Native.Nat.{ℕ, suc, _*_, _≤_}
+use Prim.Native.Nat.{ℕ, suc, _≤_}
 use native.Mathlib.Omega.{arith}
 use borrow.Author.Tests.{le-ltb, eq-eqb}
 use lib.Dec.{ltb}
 use lib.ListN.{length, take}
-use Rattle.gkr.specs.Sizes.{challenges}
 use Rattle.refusal.specs.Limits.{maxRows}
 use Rattle.refusal.specs.Tests.{passed}
 use Rattle.refusal.specs.TestLaws.{all-passed}
 use Rattle.wire.specs.Words.{allCanonical}
-use Rattle.sizes.specs.Sizes.{rowCount, roundsOf, isSize}
+use Rattle.sizes.specs.Sizes.{rowCount, roundsOf, isSize, neededWords}
 use Rattle.prover_gate.specs.Refusals.{Call, shortRoom, lowest, tests, firstRefusal}
 use Rattle.refusal.specs.TestWays.{both}
 use Rattle.prover.specs.Proved.{Buffers, roomsOf}
@@ -48,10 +47,10 @@ module _ (c : Call) (m : ℕ) (b : Buffers) (v : Lent) (h : Taken c (suc m)) (r 
       (both (ap not (eq-eqb _ _ (whole (c .rows) (suc m) (h .rows))))
       (both (le-ltb _ _ within)
       (both (ap not sized)
-      (both (ap (λ k. ltb (length (c .challenges)) (4 * challenges k)) n ∙ le-ltb _ _ (h .enough))
+      (both (ap (λ k. ltb (length (c .challenges)) (neededWords (c .modes .drawn) k)) n ∙ le-ltb _ _ (h .enough))
       (both (ap (λ k. shortRoom (c .modes .«assert_zero») k (roomsOf b)) n ∙ r .prover)
       (both (ap not (h .valid-rows))
-      (both (ap (λ k. not (allCanonical (take (4 * challenges k) (c .challenges)))) n ∙ ap not (h .valid-challenges))
+      (both (ap (λ k. not (allCanonical (take (neededWords (c .modes .drawn) k) (c .challenges)))) n ∙ ap not (h .valid-challenges))
       (both (checked (c .modes .live) refl) tt))))))))
 
   pub rounds-taken-are : roundsOf (rowCount (c .rows)) ≡ suc m

@@ -1,7 +1,7 @@
 -- A row over zero: the proof of such a sheet has both counts right and a q0 of zero, so that a live verifier refuses it by 27.
 -- Assumes nothing.
 use mathlib.Core.Path.{_≡_, sym, _∙_, ap, subst}
-use mathlib.Core.Bool.{true, false≢true}
+use mathlib.Core.Bool.{true, false, false≢true}
 use mathlib.Core.List.{map}
 use mathlib.Core.Logic.{⊎-elim}
 use Prim.Native.Nat.{ℕ, zero, suc, _*_}
@@ -13,12 +13,10 @@ use Rattle.field.specs.ElementLaws.{dec-enc}
 use Rattle.field.specs.Extension.{Extension}
 use Rattle.gkr.specs.Run.{Transcript, Proof}
 use Rattle.gkr.specs.Transcripts.{Words, empty}
-use Rattle.gkr.specs.Sizes.{challenges}
 use Rattle.gkr.specs.Count as Count
 use Rattle.gkr.specs.Gkr as Gkr
 use Rattle.gkr.specs.Gkr.{done}
 use Rattle.transcript.specs.Log.{Drawing}
-use Rattle.transcript.specs.Source.{supplied}
 use Rattle.refusal.specs.declared.Refusal.the-variants.{ZeroRoot}
 use Rattle.stored.specs.Layout.{layout}
 use Rattle.stored.specs.Parse.{layerCount, entryCount, proofOf}
@@ -34,20 +32,19 @@ use Rattle.roots.proofs.Rows.{lowest-or-sound, lowest-sum}
 use Rattle.verifier_round.specs.declared.Verdict.the-variants.{Refused as TurnedAway}
 use Rattle.verifier.specs.Verified as Verifier
 use Rattle.verifier.specs.Verified.{Lent}
-use Rattle.verifier.specs.Gates.{sandbox}
 use Rattle.verifier.specs.Companions.{ZeroRooted}
 use Rattle.verifier.proofs.Modes.{live-verifying}
 use Rattle.agreement.specs.Demand3.{Taken, root, Room, verdict}
 use Rattle.agreement.specs.Companions.{RowOverZero}
-use Rattle.agreement.proofs.Agreeing.{front, back, opened-run, is-done, r′}
+use Rattle.agreement.proofs.Agreeing.{sourceOf, like, front, back, opened-run, is-done, r′}
 
 -- The run over a sheet that is taken, zero asserted or not, as in `Agreeing`: t is the log before root q.
 module _ (c : Call) (m : ℕ) (b : Prover.Buffers) (v : Lent) (h : Taken c (suc m)) (r : Room (c .modes .«assert_zero») (suc m) b v) where
   abbrev S : Transcript E.Ext
-  S = Drawing (supplied (take (4 * challenges (suc m)) (c .challenges)))
+  S = Drawing (sourceOf c (suc m))
 
   -- the sandbox asks nothing of the rows
-  none : sandbox .live ≡ true → Sound (c .rows)
+  none : false ≡ true → Sound (c .rows)
   none e = absurd (false≢true e)
 
   module _ (t : Words) (e : Gkr.fractional-sumcheck Extension S (c .modes .«assert_zero») m (node (c .rows)) empty ≡ done (Gkr.run Extension S m (node (c .rows)) t)) where
@@ -55,11 +52,11 @@ module _ (c : Call) (m : ℕ) (b : Prover.Buffers) (v : Lent) (h : Taken c (suc 
     π = Gkr.run Extension S m (node (c .rows)) t .proof
 
     abbrev asked : Verifier.Asked
-    asked = Verifier.asked (layout (encoded π)) (suc m) sandbox (c .challenges)
+    asked = Verifier.asked (layout (encoded π)) (suc m) (like c false) (c .challenges)
 
     -- the proof that the bytes are of
     is : proofOf (asked .proof) ≡ encoded π
-    is = back c sandbox m b v h r none t e .proof
+    is = back c false m b v h r none t e .proof
 
     rooted : OverZero (c .rows) (suc m) → ZeroRooted asked
     unfolding Gkr.run
@@ -70,15 +67,15 @@ module _ (c : Call) (m : ℕ) (b : Prover.Buffers) (v : Lent) (h : Taken c (suc 
           q0 = ap (λ p. decoded p .q0) is ∙ dec-enc (root c (suc m) .q) ∙ over;
         }
 
-    pub refused-live : OverZero (c .rows) (suc m) → verdict c (record { live = true }) (suc m) (Prover.proved c b) v .answer ≡ TurnedAway ZeroRoot
+    pub refused-live : OverZero (c .rows) (suc m) → verdict c (like c true) (suc m) (Prover.proved c b) v .answer ≡ TurnedAway ZeroRoot
     refused-live over =
-        ap (λ bs. Verifier.verified (Verifier.asked bs (suc m) (record { live = true }) (c .challenges)) v .answer) (front c sandbox m b v h r none t e)
-        ∙ live-verifying asked v .given .1 (opened-run c sandbox m b v h r none t e, rooted over)
+        ap (λ bs. Verifier.verified (Verifier.asked bs (suc m) (like c true) (c .challenges)) v .answer) (front c false m b v h r none t e)
+        ∙ live-verifying asked v .given .1 (opened-run c false m b v h r none t e, rooted over)
 
 -- THE THEOREM
 pub row-over-zero : RowOverZero
 row-over-zero c zero b v h a z r s = absurd (let k = h .some in omega arith)
 row-over-zero c (suc m) b v h a z r s =
     let n = none c m b v h (subst (λ x. Room x (suc m) b v) (sym a) r) in
-    refused-live c m b v h (r′ c sandbox m b v h a z r n) empty (is-done c sandbox m b v h a z r n)
+    refused-live c m b v h (r′ c false m b v h a z r n) empty (is-done c false m b v h a z r n)
     (⊎-elim (λ (l : (i : ℕ) × Lowest (c .rows) i). lowest-sum (c .rows) (suc m) (counted (c .rows) (suc m) (h .rows)) (l .0) (l .1)) (λ (k : Sound (c .rows)). absurd (s k)) (lowest-or-sound (c .rows)))

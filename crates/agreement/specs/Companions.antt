@@ -19,14 +19,15 @@ use Rattle.agreement.specs.Demand3.{Taken, root, Room, verdict}
 -- ANOTHER SUM, not asserted: the prover is done, and the verifier answers 16 with that sum
 abbrev pub OtherSum : Type 0
 OtherSum =
-    (c : Call) (how : Verifying) (n : ℕ) (b : Buffers) (v : Lent) → Taken c n → c .modes .«assert_zero» ≡ false → (root c n .p ≡ E.nil → ⊥) → Room false n b v → (how .live ≡ true → Sound (c .rows))
+    (c : Call) (how : Verifying) (n : ℕ) (b : Buffers) (v : Lent) → Taken c n → how .drawn ≡ c .modes .drawn
+    → c .modes .«assert_zero» ≡ false → (root c n .p ≡ E.nil → ⊥) → Room false n b v → (how .live ≡ true → Sound (c .rows))
     → (proved c b .answer ≡ Done n (encFrac (root c n))) × (verdict c how n (proved c b) v .answer ≡ TurnedAway (ZeroCheckFailed (enc (root c n .p))))
 
 -- A ROW OVER ZERO: the sandbox proves such a sheet, and a live verifier refuses its proof by 27
 abbrev pub RowOverZero : Type 0
 RowOverZero =
     (c : Call) (n : ℕ) (b : Buffers) (v : Lent) → Taken c n → c .modes .«assert_zero» ≡ true → root c n .p ≡ E.nil → Room true n b v → ¬ (Sound (c .rows))
-    → verdict c (record { live = true }) n (proved c b) v .answer ≡ TurnedAway ZeroRoot
+    → verdict c (record { live = true; drawn = c .modes .drawn }) n (proved c b) v .answer ≡ TurnedAway ZeroRoot
 
 -- PROVED LIVE: what a live verifier asks of the rows follows from done
 abbrev pub ProvedLive : Type 0

@@ -9,11 +9,12 @@ use Rattle.field.specs.Ext as E
 use Rattle.field.specs.ExtRing.{ExtRing}
 use Rattle.field.specs.Element.{enc, pointWords}
 use Rattle.gkr.specs.Run.{Frac}
-use Rattle.gkr.specs.Sizes.{challenges, proof-bytes, point-words, log-words}
+use Rattle.gkr.specs.Sizes.{proof-bytes, point-words, log-words}
 use Rattle.gkr.specs.Tree as Tree
 use Rattle.refusal.specs.declared.Verifying.{Verifying}
 use Rattle.refusal.specs.Limits.{maxRounds}
 use Rattle.refusal.specs.Fronts.{over}
+use Rattle.sizes.specs.Sizes.{neededWords}
 use Rattle.wire.specs.Words.{allCanonical}
 use Rattle.prover_tree.specs.Nodes.{node}
 use Rattle.prover_gate.specs.Refusals.{Call, shortRoom}
@@ -24,14 +25,14 @@ use Rattle.verifier.specs.Verified as Verifier
 use Rattle.verifier.specs.Verified.{Lent}
 use Rattle.verifier_round.specs.declared.Verdict.the-variants.{Accepted}
 
--- a sheet that both take: 2 ^ n rows and enough challenges, all valid words, n from 1 to the limit, and in live mode the row check passed
+-- a sheet that both take: 2 ^ n rows and, where they are not drawn, enough challenges, all valid words, n from 1 to the limit, and in live mode the row check passed
 pub record Taken (c : Call) (n : ℕ) : Type 0 where
   pub some : 1 ≤ n
   pub few : n ≤ maxRounds
   pub rows : length (c .rows) ≡ 8 * 2 ^ n
-  pub enough : 4 * challenges n ≤ length (c .challenges)
+  pub enough : neededWords (c .modes .drawn) n ≤ length (c .challenges)
   pub valid-rows : allCanonical (c .rows) ≡ true
-  pub valid-challenges : allCanonical (take (4 * challenges n) (c .challenges)) ≡ true
+  pub valid-challenges : allCanonical (take (neededWords (c .modes .drawn) n) (c .challenges)) ≡ true
   pub checked : c .modes .live ≡ true → Sound (c .rows)
 
 -- the sum of all rows
@@ -64,8 +65,9 @@ pub record Agreed (c : Call) (n : ℕ) (b : Prover.Buffers) (v : Lent) (P : Prov
   pub proved-log : P .buffers .log ≡ over logged (b .log)
   pub verified-log : Q .buffers .log ≡ over logged (v .log)
 
--- THE DEMAND: zero asserted, the root numerator zero, and where the verifier is live no row over zero
+-- THE DEMAND: both draw or neither does, zero asserted, the root numerator zero, and where the verifier is live no row over zero
 abbrev pub Demand3 : Type 0
 Demand3 =
-    (c : Call) (how : Verifying) (n : ℕ) (b : Prover.Buffers) (v : Lent) → Taken c n → c .modes .«assert_zero» ≡ true → root c n .p ≡ E.nil → Room true n b v → (how .live ≡ true → Sound (c .rows))
+    (c : Call) (how : Verifying) (n : ℕ) (b : Prover.Buffers) (v : Lent) → Taken c n → how .drawn ≡ c .modes .drawn
+    → c .modes .«assert_zero» ≡ true → root c n .p ≡ E.nil → Room true n b v → (how .live ≡ true → Sound (c .rows))
     → let P = Prover.proved c b in Agreed c n b v P (verdict c how n P v)

@@ -46,7 +46,7 @@ rowWords [] = []
 rowWords (f ∷ fs) = words (f .p) ++ (words (f .q) ++ rowWords fs)
 
 abbrev pub sheet : (live asserted : Bool) (fs : List (Frac E.Ext)) (challenges : List E.Ext) → Call
-sheet live asserted fs ch = record { rows = rowWords fs; modes = record { live = live; «assert_zero» = asserted }; challenges = pointWords ch }
+sheet live asserted fs ch = record { rows = rowWords fs; modes = record { live = live; «assert_zero» = asserted; drawn = false }; challenges = pointWords ch }
 
 -- buffers of zeros, as long as n rounds need
 abbrev pub room : ℕ → Prover.Buffers
@@ -66,7 +66,7 @@ abbrev pub point : Call → ℕ → List ℕ
 point c n = Prover.proved c (room n) .buffers .point
 
 abbrev pub in-sandbox : Verifying
-in-sandbox = record { live = false }
+in-sandbox = record { live = false; drawn = false }
 
 abbrev pub verdictOf : Verifying → Call → ℕ → Verdict
 verdictOf how c n = verdict c how n (Prover.proved c (room n)) (room-again n) .answer
@@ -84,7 +84,7 @@ abbrev pub verifies : Call → ℕ → Verdict → Case
 verifies c n a = record { Answers = Verdict; asked = verdictOf in-sandbox c n; expected = a }
 
 abbrev pub verifies-live : Call → ℕ → Verdict → Case
-verifies-live c n a = record { Answers = Verdict; asked = verdictOf (record { live = true }) c n; expected = a }
+verifies-live c n a = record { Answers = Verdict; asked = verdictOf (record { live = true; drawn = false }) c n; expected = a }
 
 abbrev pub ends-at : Call → ℕ → List E.Ext → Case
 ends-at c n z = record { Answers = List ℕ; asked = point c n; expected = pointWords z }

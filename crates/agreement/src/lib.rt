@@ -55,7 +55,7 @@ pub fn number_and_values(joint: Joint) -> JointReport
     }
 }
 
-// Proves a sheet, and hands the proof's bytes, n and the same challenges to the verifier, which has its own mode, point and log.
+// Proves a sheet, and hands the proof's bytes, n and the same challenges to the verifier, which has its own modes, point and log.
 pub fn prove_and_verify(
     rows: &[u32],
     modes: Proving,
@@ -71,8 +71,8 @@ pub fn prove_and_verify(
     ensures both { λ r. ⌜ joined r (lent (now (proof .exit)) (now (point .exit)) (now (log .exit)) (now (work .exit))) (again (now («point_again» .exit)) (now («log_again» .exit)))
         ≡ together (call (now (rows .entry)) modes (now (challenges .entry))) how
         (lent (now (proof .entry)) (now (point .entry)) (now (log .entry)) (now (work .entry))) (again (now («point_again» .entry)) (now («log_again» .entry))) ⌝ }
-    ensures demand { λ r. ⌜ ((n : ℕ) → Taken (call (now (rows .entry)) modes (now (challenges .entry))) n → modes .«assert_zero» ≡ true
-        → root (call (now (rows .entry)) modes (now (challenges .entry))) n .p ≡ E.nil
+    ensures demand { λ r. ⌜ ((n : ℕ) → Taken (call (now (rows .entry)) modes (now (challenges .entry))) n → how .drawn ≡ modes .drawn
+        → modes .«assert_zero» ≡ true → root (call (now (rows .entry)) modes (now (challenges .entry))) n .p ≡ E.nil
         → Room true n (lent (now (proof .entry)) (now (point .entry)) (now (log .entry)) (now (work .entry))) (again (now («point_again» .entry)) (now («log_again» .entry)))
         → (how .live ≡ true → Sound (now (rows .entry)))
         → Agrees (call (now (rows .entry)) modes (now (challenges .entry))) n

@@ -1,7 +1,7 @@
 -- Where an argument stands, and when a word is a text.
 -- Assumes nothing.
 use mathlib.Core.Path.{_≡_, refl, sym, _∙_, ap}
-use mathlib.Core.Bool.{Bool, true, false, _&&_}
+use mathlib.Core.Bool.{Bool, true, false, cond, _&&_}
 use mathlib.Core.List.{List, [], _∷_}
 use Prim.Native.Nat.{ℕ, zero, suc, _+_, _-_, _≤_, min}
 use native.Mathlib.Omega.{arith}
@@ -12,8 +12,8 @@ use lib.Seq.{drop-drop}
 use Rattle.field.specs.ExtRing.{both}
 use Rattle.sheet_text.specs.Reading.{lengthTo}
 use Rattle.sheet_text.proofs.Listing.{started}
-use Rattle.command.specs.Arguments.{argument, sameText, live, noAssert, challenges, sheet, wordOf}
-use Rattle.command.specs.declared.words.Word.the-variants.{Empty, Live, NoAssert, Challenges, Sheet, Other}
+use Rattle.command.specs.Arguments.{argument, sameText}
+use Rattle.command.specs.declared.words.Word.{Word}
 
 -- ---- a word and a text
 same-true : (a b : List ℕ) → sameText a b ≡ true → a ≡ b
@@ -38,49 +38,13 @@ module _ (a b : List ℕ) where
   is-same true h = sym (rw (← h .0 refl) (same-self a))
   is-same false h = by (sameText a b) refl (h .1)
 
--- `check::same` answers whether the word is this text
-abbrev Tells : Bool → List ℕ → List ℕ → Type 0
-Tells r w t = (r ≡ true → w ≡ t) × (w ≡ t → r ≡ true)
+-- what a word means, where `check::same` answers whether it is this text
+module _ (w t : List ℕ) (meant other : Word) (r : Bool) (h : (r ≡ true → w ≡ t) × (w ≡ t → r ≡ true)) where
+  pub picked : r ≡ true → meant ≡ cond (sameText w t) meant other
+  picked e = sym (rw (sym (is-same w t r h) ∙ e))
 
-some : (w : List ℕ) → (length w ≡ 0 → ⊥) → sameText w [] ≡ false
-unfolding sameText
-some [] z = absurd (z refl)
-some (x ∷ w) z = refl
-
-none : (w : List ℕ) → length w ≡ 0 → sameText w [] ≡ true
-unfolding sameText
-none [] z = refl
-none (x ∷ w) z = absurd (omega arith)
-
-module _ (w : List ℕ) where
-  test : (r v : Bool) (t : List ℕ) → Tells r w t → r ≡ v → sameText w t ≡ v
-  test r v t h e = sym (is-same w t r h) ∙ e
-
-  pub is-empty : length w ≡ 0 → Empty ≡ wordOf w
-  unfolding wordOf
-  is-empty z = sym (rw (none w z))
-
-  module _ (z : length w ≡ 0 → ⊥) where
-    pub is-live : (a : Bool) → Tells a w live → a ≡ true → Live ≡ wordOf w
-    unfolding wordOf
-    is-live a h e = sym (rw (some w z, test a true live h e))
-
-    pub is-no-assert : (a b : Bool) → Tells a w live → a ≡ false → Tells b w noAssert → b ≡ true → NoAssert ≡ wordOf w
-    unfolding wordOf
-    is-no-assert a b h e h₂ e₂ = sym (rw (some w z, test a false live h e, test b true noAssert h₂ e₂))
-
-    pub is-challenges : (a b c : Bool) → Tells a w live → a ≡ false → Tells b w noAssert → b ≡ false → Tells c w challenges → c ≡ true → Challenges ≡ wordOf w
-    unfolding wordOf
-    is-challenges a b c h e h₂ e₂ h₃ e₃ = sym (rw (some w z, test a false live h e, test b false noAssert h₂ e₂, test c true challenges h₃ e₃))
-
-    module _ (a b c d : Bool) (h : Tells a w live) (e : a ≡ false) (h₂ : Tells b w noAssert) (e₂ : b ≡ false) (h₃ : Tells c w challenges) (e₃ : c ≡ false) (h₄ : Tells d w sheet) where
-      pub is-sheet : d ≡ true → Sheet ≡ wordOf w
-      unfolding wordOf
-      is-sheet e₄ = sym (rw (some w z, test a false live h e, test b false noAssert h₂ e₂, test c false challenges h₃ e₃, test d true sheet h₄ e₄))
-
-      pub is-other : d ≡ false → Other ≡ wordOf w
-      unfolding wordOf
-      is-other e₄ = sym (rw (some w z, test a false live h e, test b false noAssert h₂ e₂, test c false challenges h₃ e₃, test d false sheet h₄ e₄))
+  pub passed : r ≡ false → other ≡ cond (sameText w t) meant other
+  passed e = sym (rw (sym (is-same w t r h) ∙ e))
 
 -- ---- argument k
 module _ (args : List ℕ) (from to : ℕ) (e : to ≡ from + lengthTo 0 (drop from args)) where

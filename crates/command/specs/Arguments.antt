@@ -7,7 +7,9 @@ use lib.Dec.{eqb}
 use lib.ListN.{take, drop}
 use Rattle.sheet_text.specs.Reading.{lengthTo}
 use Rattle.command.specs.declared.words.Word.{Word}
-use Rattle.command.specs.declared.words.Word.the-variants.{Empty, Live, NoAssert, Challenges, Sheet, Other}
+use Rattle.command.specs.declared.words.Word.the-variants.{Empty, Mode, Name, Other}
+use Rattle.command.specs.declared.words.Mode.the-variants.{Live, NoAssert, Drawn}
+use Rattle.command.specs.declared.words.Name.the-variants.{Challenges, Sheet}
 
 -- argument k, from 0: what stands before a byte 0 or the end, after k bytes 0
 unfoldable pub argument : ℕ → List ℕ → List ℕ
@@ -20,12 +22,15 @@ sameText [] (b ∷ y) = false
 sameText (a ∷ x) [] = false
 sameText (a ∷ x) (b ∷ y) = eqb a b && sameText x y
 
--- --live, --no-assert, --challenges, --sheet
+-- --live, --no-assert, --drawn, --challenges, --sheet
 abbrev pub live : List ℕ
 live = 45 ∷ 45 ∷ 108 ∷ 105 ∷ 118 ∷ 101 ∷ []
 
 abbrev pub noAssert : List ℕ
 noAssert = 45 ∷ 45 ∷ 110 ∷ 111 ∷ 45 ∷ 97 ∷ 115 ∷ 115 ∷ 101 ∷ 114 ∷ 116 ∷ []
+
+abbrev pub drawn : List ℕ
+drawn = 45 ∷ 45 ∷ 100 ∷ 114 ∷ 97 ∷ 119 ∷ 110 ∷ []
 
 abbrev pub challenges : List ℕ
 challenges = 45 ∷ 45 ∷ 99 ∷ 104 ∷ 97 ∷ 108 ∷ 108 ∷ 101 ∷ 110 ∷ 103 ∷ 101 ∷ 115 ∷ []
@@ -33,10 +38,16 @@ challenges = 45 ∷ 45 ∷ 99 ∷ 104 ∷ 97 ∷ 108 ∷ 108 ∷ 101 ∷ 110 ∷
 abbrev pub sheet : List ℕ
 sheet = 45 ∷ 45 ∷ 115 ∷ 104 ∷ 101 ∷ 101 ∷ 116 ∷ []
 
-unfoldable pub wordOf : List ℕ → Word
+-- the options that are modes
+abbrev pub modeWord : List ℕ → Word
+modeWord w =
+    cond (sameText w live) (Mode Live)
+    (cond (sameText w noAssert) (Mode NoAssert)
+    (cond (sameText w drawn) (Mode Drawn) Other))
+
+-- those that a name follows come before them
+abbrev pub wordOf : List ℕ → Word
 wordOf w =
     cond (sameText w []) Empty
-    (cond (sameText w live) Live
-    (cond (sameText w noAssert) NoAssert
-    (cond (sameText w challenges) Challenges
-    (cond (sameText w sheet) Sheet Other))))
+    (cond (sameText w challenges) (Name Challenges)
+    (cond (sameText w sheet) (Name Sheet) (modeWord w)))

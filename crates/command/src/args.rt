@@ -21,11 +21,11 @@ fn is_word(args: &[u8], k: usize, word: &[u8]) -> bool {
 fn usage() {
     io::write_all(
         2,
-        b"sheetproof prove SHEET PROOF [--live] [--no-assert] [--challenges TEXT]\n",
+        b"sheetproof prove SHEET PROOF [--live] [--no-assert] [--drawn | --challenges TEXT]\n",
     );
     io::write_all(
         2,
-        b"sheetproof verify PROOF ROUNDS [--live] [--challenges TEXT] [--sheet SHEET]\n",
+        b"sheetproof verify PROOF ROUNDS [--live] [--drawn | --challenges TEXT] [--sheet SHEET]\n",
     );
     io::write_all(2, b"sheetproof show SHEET\n");
     io::write_all(2, b"sheetproof make TEXT SHEET\n");
@@ -40,12 +40,13 @@ fn run_prove(args: &[u8], n: usize) {
         return usage();
     }
     let modes = Proving {
-        live: o.live,
-        assert_zero: o.asserted,
+        live: o.flags.live,
+        assert_zero: o.flags.asserted,
+        drawn: o.flags.drawn,
     };
     let sheet = part_at(args, 1);
     let proof = part_at(args, 2);
-    let challenges = part_at(args, o.challenges);
+    let challenges = part_at(args, o.names.challenges);
     let a = sheet.from;
     let b = sheet.to;
     let c = proof.from;
@@ -72,13 +73,13 @@ fn run_verify(args: &[u8], n: usize) {
     if n < 3 {
         return usage();
     }
-    if !fit_verify(o) {
+    if !fit_verify(o, n) {
         return usage();
     }
     let proof = part_at(args, 1);
     let rounds = part_at(args, 2);
-    let challenges = part_at(args, o.challenges);
-    let sheet = part_at(args, o.sheet);
+    let challenges = part_at(args, o.names.challenges);
+    let sheet = part_at(args, o.names.sheet);
     let a = proof.from;
     let b = proof.to;
     let c = rounds.from;
@@ -90,7 +91,10 @@ fn run_verify(args: &[u8], n: usize) {
     verify_rounds(
         &args[a..b],
         &args[c..d],
-        Verifying { live: o.live },
+        Verifying {
+            live: o.flags.live,
+            drawn: o.flags.drawn,
+        },
         &args[e..f],
         &args[g..h],
     );

@@ -3,26 +3,61 @@ ghost use mathlib.Core.Path.{_≡_};
 ghost use mathlib.Core.Bool.{_&&_};
 ghost use Prim.Native.Nat.{_-_};
 ghost use lib.Dec.{eqb};
-ghost use Rattle.command.specs.Meaning.{isName, isNothing, none, asked, taken, optionsFrom, whole};
+ghost use Rattle.command.specs.Meaning.{set, named, isName, isNothing, none, asked, taken, optionsFrom, whole, oneSource};
+use crate::words::Mode;
+use crate::words::Name;
 use crate::words::Word;
 use crate::words::word_at;
 use sheet_text::scan::both;
 
-// What the next argument has to be: an option, or the name of what the option before it takes.
+// What the next argument has to be: an option, or what the option before it names.
 pub enum Awaits {
     Nothing,
-    Challenges,
-    Sheet,
+    Name(Name),
 }
 
-// Modes, the arguments that name a text of challenges and a sheet, whether all of it is known, and what is still to come.
-pub struct Options {
+// What the options that are modes set.
+pub struct Flags {
     pub live: bool,
     pub asserted: bool,
+    pub drawn: bool,
+}
+
+// The arguments that name a text of challenges and a sheet.
+pub struct Names {
     pub challenges: usize,
     pub sheet: usize,
+}
+
+// Modes, names, whether all of it is known, and what is still to come.
+pub struct Options {
+    pub flags: Flags,
+    pub names: Names,
     pub known: bool,
     pub awaits: Awaits,
+}
+
+fn set_flag(flags: Flags, mode: Mode) -> Flags
+    ensures { λ r. ⌜ r ≡ set flags mode ⌝ }
+{
+    let mut next = flags;
+    match mode {
+        Mode::Live => next.live = true,
+        Mode::NoAssert => next.asserted = false,
+        Mode::Drawn => next.drawn = true,
+    }
+    next
+}
+
+fn set_name(names: Names, name: Name, k: usize) -> Names
+    ensures { λ r. ⌜ r ≡ named names name k ⌝ }
+{
+    let mut next = names;
+    match name {
+        Name::Challenges => next.challenges = k,
+        Name::Sheet => next.sheet = k,
+    }
+    next
 }
 
 fn is_name(word: Word) -> bool
@@ -30,10 +65,8 @@ fn is_name(word: Word) -> bool
 {
     match word {
         Word::Empty => false,
-        Word::Live => true,
-        Word::NoAssert => true,
-        Word::Challenges => true,
-        Word::Sheet => true,
+        Word::Mode(_) => true,
+        Word::Name(_) => true,
         Word::Other => true,
     }
 }
@@ -43,8 +76,7 @@ fn is_nothing(awaits: Awaits) -> bool
 {
     match awaits {
         Awaits::Nothing => true,
-        Awaits::Challenges => false,
-        Awaits::Sheet => false,
+        Awaits::Name(_) => false,
     }
 }
 
@@ -52,23 +84,19 @@ fn is_nothing(awaits: Awaits) -> bool
 fn ask(o: Options, word: Word) -> Options
     ensures { λ r. ⌜ r ≡ asked o word ⌝ }
 {
-    let mut live = o.live;
-    let mut asserted = o.asserted;
+    let mut flags = o.flags;
+    let names = o.names;
     let mut known = o.known;
     let mut awaits = Awaits::Nothing;
     match word {
-        Word::Live => live = true,
-        Word::NoAssert => asserted = false,
-        Word::Challenges => awaits = Awaits::Challenges,
-        Word::Sheet => awaits = Awaits::Sheet,
+        Word::Mode(mode) => flags = set_flag(flags, mode),
+        Word::Name(name) => awaits = Awaits::Name(name),
         Word::Empty => known = false,
         Word::Other => known = false,
     }
     Options {
-        live,
-        asserted,
-        challenges: o.challenges,
-        sheet: o.sheet,
+        flags,
+        names,
         known,
         awaits,
     }
@@ -78,22 +106,14 @@ fn ask(o: Options, word: Word) -> Options
 fn take_word(o: Options, word: Word, k: usize) -> Options
     ensures { λ r. ⌜ r ≡ taken o word k ⌝ }
 {
+    let flags = o.flags;
+    let names = o.names;
     let awaits = o.awaits;
     match awaits {
         Awaits::Nothing => ask(o, word),
-        Awaits::Challenges => Options {
-            live: o.live,
-            asserted: o.asserted,
-            challenges: k,
-            sheet: o.sheet,
-            known: both(o.known, is_name(word)),
-            awaits: Awaits::Nothing,
-        },
-        Awaits::Sheet => Options {
-            live: o.live,
-            asserted: o.asserted,
-            challenges: o.challenges,
-            sheet: k,
+        Awaits::Name(name) => Options {
+            flags,
+            names: set_name(names, name, k),
             known: both(o.known, is_name(word)),
             awaits: Awaits::Nothing,
         },
@@ -104,10 +124,15 @@ fn no_options(n: usize) -> Options
     ensures { λ r. ⌜ r ≡ none n ⌝ }
 {
     Options {
-        live: false,
-        asserted: true,
-        challenges: n,
-        sheet: n,
+        flags: Flags {
+            live: false,
+            asserted: true,
+            drawn: false,
+        },
+        names: Names {
+            challenges: n,
+            sheet: n,
+        },
         known: true,
         awaits: Awaits::Nothing,
     }
@@ -131,16 +156,33 @@ fn is_whole(o: Options) -> bool
     both(o.known, is_nothing(awaits))
 }
 
-// Whether the options are those of `prove`: all known, and no sheet beside the one that is proved, of n arguments.
-pub fn fit_prove(o: Options, n: usize) -> bool
-    ensures { λ r. ⌜ r ≡ (whole o && eqb (o .sheet) n) ⌝ }
+// Where challenges are drawn, none are named, of n arguments.
+fn has_one_source(o: Options, n: usize) -> bool
+    ensures { λ r. ⌜ r ≡ oneSource o n ⌝ }
 {
-    both(is_whole(o), o.sheet == n)
+    if o.flags.drawn {
+        return o.names.challenges == n;
+    }
+    true
 }
 
-// Whether they are those of `verify`: all known, and nothing about the sum's numerator, which it always asks to be zero.
-pub fn fit_verify(o: Options) -> bool
-    ensures { λ r. ⌜ r ≡ (whole o && o .asserted) ⌝ }
+// What `prove` and `verify` ask of their options: all known, and challenges not both drawn and named, of n arguments.
+fn fit(o: Options, n: usize) -> bool
+    ensures { λ r. ⌜ r ≡ (whole o && oneSource o n) ⌝ }
 {
-    both(is_whole(o), o.asserted)
+    both(is_whole(o), has_one_source(o, n))
+}
+
+// Whether the options are those of `prove`: all known, challenges not both drawn and named, no sheet beside the one that is proved, of n arguments.
+pub fn fit_prove(o: Options, n: usize) -> bool
+    ensures { λ r. ⌜ r ≡ ((whole o && oneSource o n) && eqb (o .names .sheet) n) ⌝ }
+{
+    both(fit(o, n), o.names.sheet == n)
+}
+
+// Whether they are those of `verify`: all known, challenges not both drawn and named, and nothing about the sum's numerator, which it always asks to be zero.
+pub fn fit_verify(o: Options, n: usize) -> bool
+    ensures { λ r. ⌜ r ≡ ((whole o && oneSource o n) && o .flags .asserted) ⌝ }
+{
+    both(fit(o, n), o.flags.asserted)
 }

@@ -1,8 +1,9 @@
 // The arguments of a command in one buffer, each ended by a byte 0; and which of them are options.
 ghost use mathlib.Core.Path.{_≡_};
+ghost use mathlib.Core.Bool.{cond};
 ghost use Prim.Native.Nat.{_-_, _≤_};
 ghost use lib.ListN.{length, take, drop};
-ghost use Rattle.command.specs.Arguments.{argument, wordOf};
+ghost use Rattle.command.specs.Arguments.{argument, sameText, modeWord, wordOf};
 use sheet_text::list::beyond;
 use sheet_text::list::find;
 
@@ -11,13 +12,24 @@ pub struct Part {
     pub to: usize,
 }
 
+// An option that is a mode by itself.
+pub enum Mode {
+    Live,
+    NoAssert,
+    Drawn,
+}
+
+// An option after which a name stands.
+pub enum Name {
+    Challenges,
+    Sheet,
+}
+
 // What a word is: an option, any other word, or nothing.
 pub enum Word {
     Empty,
-    Live,
-    NoAssert,
-    Challenges,
-    Sheet,
+    Mode(Mode),
+    Name(Name),
     Other,
 }
 
@@ -50,25 +62,31 @@ pub fn part_at(args: &[u8], k: usize) -> Part
     Part { from, to }
 }
 
+// One meaning for a word that is this text, another for any other.
+fn pick(word: &[u8], text: &[u8], meant: Word, other: Word) -> Word
+    ensures { λ r. ⌜ r ≡ cond (sameText (now (word .entry)) (now (text .entry))) meant other ⌝ }
+{
+    if check::same(word, text) {
+        return meant;
+    }
+    other
+}
+
+fn read_mode(word: &[u8]) -> Word
+    ensures { λ r. ⌜ r ≡ modeWord (now (word .entry)) ⌝ }
+{
+    let drawn = pick(word, b"--drawn", Word::Mode(Mode::Drawn), Word::Other);
+    let no_assert = pick(word, b"--no-assert", Word::Mode(Mode::NoAssert), drawn);
+    pick(word, b"--live", Word::Mode(Mode::Live), no_assert)
+}
+
 fn read_word(word: &[u8]) -> Word
     ensures { λ r. ⌜ r ≡ wordOf (now (word .entry)) ⌝ }
 {
-    if word.len() == 0 {
-        return Word::Empty;
-    }
-    if check::same(word, b"--live") {
-        return Word::Live;
-    }
-    if check::same(word, b"--no-assert") {
-        return Word::NoAssert;
-    }
-    if check::same(word, b"--challenges") {
-        return Word::Challenges;
-    }
-    if check::same(word, b"--sheet") {
-        return Word::Sheet;
-    }
-    Word::Other
+    let mode = read_mode(word);
+    let sheet = pick(word, b"--sheet", Word::Name(Name::Sheet), mode);
+    let name = pick(word, b"--challenges", Word::Name(Name::Challenges), sheet);
+    pick(word, b"", Word::Empty, name)
 }
 
 // What argument k is.

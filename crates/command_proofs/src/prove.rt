@@ -1,4 +1,6 @@
 // `prove SHEET PROOF`: the proof goes to a file, and rows, rounds and sum are printed.
+use crate::challenges::are_counted;
+use crate::challenges::lend_challenges;
 use crate::notes::print_notes;
 use command_files::inputs;
 use command_text::refusals::print_refusal;
@@ -51,14 +53,15 @@ fn prove_with(rows: &[u32], challenges: &[u32], counted: bool, modes: Proving, p
 
 fn prove_rows(rows: &[u32], challenges: &[u8], modes: Proving, path: &[u8]) {
     let mut words = [0u32; 256];
-    let given = inputs::read_challenges(challenges, &mut words);
+    let given = lend_challenges(challenges, modes.drawn, &mut words);
     let n = given.count;
     if given.good {
-        prove_with(rows, &words[..n], challenges.len() == 0, modes, path);
+        let counted = are_counted(challenges, modes.drawn);
+        prove_with(rows, &words[..n], counted, modes, path);
     }
 }
 
-// The names of the sheet, of the proof, and of a text of challenges; an empty one stands for counted challenges.
+// The names of the sheet, of the proof, and of a text of challenges; an empty one stands for counted challenges, and where they are drawn none is read.
 pub fn prove(sheet: &[u8], proof: &[u8], challenges: &[u8], modes: Proving) {
     let mut rows = [0u32; 8192];
     let given = inputs::read_sheet(sheet, &mut rows);

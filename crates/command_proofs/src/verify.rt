@@ -1,8 +1,9 @@
 // `verify PROOF ROUNDS`: the verdict, the two claims and the point are printed, and whether the claims are a sheet's.
+use crate::challenges::are_counted;
+use crate::challenges::lend_challenges;
 use crate::compare::compare_sheet;
 use crate::notes::print_notes;
 use command_files::After;
-use command_files::inputs;
 use command_text::print;
 use command_text::refusals::print_refusal;
 use refusal::Verifying;
@@ -31,17 +32,11 @@ fn verify_with(
 
 fn verify_bytes(proof: &[u8], rounds: usize, modes: Verifying, challenges: &[u8], sheet: &[u8]) {
     let mut words = [0u32; 256];
-    let given = inputs::read_challenges(challenges, &mut words);
+    let given = lend_challenges(challenges, modes.drawn, &mut words);
     let n = given.count;
     if given.good {
-        verify_with(
-            proof,
-            rounds,
-            modes,
-            &words[..n],
-            challenges.len() == 0,
-            sheet,
-        );
+        let counted = are_counted(challenges, modes.drawn);
+        verify_with(proof, rounds, modes, &words[..n], counted, sheet);
     }
 }
 
@@ -52,7 +47,7 @@ fn too_long(proof: &[u8]) {
     print(b" has more than 65536 bytes, and a proof of 10 rounds has 2832\n");
 }
 
-// The names of the proof, of a text of challenges, and of a sheet; an empty one stands for counted challenges, and for no sheet.
+// The names of the proof, of a text of challenges, and of a sheet; an empty one stands for counted challenges, and for no sheet. Where challenges are drawn none are read.
 pub fn verify(proof: &[u8], rounds: usize, modes: Verifying, challenges: &[u8], sheet: &[u8]) {
     let mut bytes = [0u8; 65536];
     let input = command_files::read(proof, &mut bytes);

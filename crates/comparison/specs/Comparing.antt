@@ -85,8 +85,8 @@ module _ (rows : List ℕ) (n : ℕ) (some : 1 ≤ n) (few : n ≤ Limits.maxRou
 
 -- THE THEOREM
 pub comparison : Comparison
-comparison c how n b v h a z r s =
-    let A = demand-3 c how n b v h a z r s in
+comparison c how n b v h d a z r s =
+    let A = demand-3 c how n b v h d a z r s in
     let at = at-point (c .rows) n (h .some) (h .few) (h .rows) (h .valid-rows) (A .point) (A .coordinates) in
     record {
       numer = enc (Tree.value ExtRing (node (c .rows)) (A .point) .p);

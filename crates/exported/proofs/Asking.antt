@@ -17,7 +17,7 @@ use Rattle.prover.specs.Proved.{Buffers, roomsOf}
 use Rattle.verifier.specs.Verified.{Lent}
 use Rattle.sizes.specs.SizeLaws.{rounds-taken, size-taken, counted}
 use Rattle.accudrina.specs.Rooms.{rounds}
-use Rattle.exported.specs.Exported.{Sheet, Premises, wordOf}
+use Rattle.exported.specs.Exported.{Sheet, Premises, wordOf, wordAgain}
 use Rattle.exported.specs.Asked.{asked, ForProver, ForVerifier, Demand3Asked}
 use Rattle.exported.proofs.Wording.{read-back}
 use Rattle.exported.proofs.Lending.{fits, log-lent, log-room}
@@ -34,7 +34,7 @@ module _ (c : Call) (how : Verifying) (n : ℕ) (b : Buffers) (v : Lent) (s : Sh
   one-or-more : eqb n 0 ≡ false
   one-or-more = ne-eqb n 0 (λ e. omega (arith, s .taken .some))
 
-  pub premises : ForProver n (wordOf c) (c .challenges) b → ForVerifier n (c .challenges) v → Premises c how n b v
+  pub premises : ForProver n (wordOf c) (c .challenges) b → ForVerifier n (wordAgain how) (c .challenges) v → Premises c how n b v
   premises h k =
       let few = s .taken .few in
       record {
@@ -50,4 +50,4 @@ module _ (c : Call) (how : Verifying) (n : ℕ) (b : Buffers) (v : Lent) (s : Sh
 pub demand-3-asked : Demand3Asked
 demand-3-asked c how n b v s h k =
     let e = answers-n c how n b v s in
-    demand-3-exported c how n b v (premises c how n b v s (subst (λ j. ForProver j (wordOf c) (c .challenges) b) e h) (subst (λ j. ForVerifier j (c .challenges) v) e k))
+    demand-3-exported c how n b v (premises c how n b v s (subst (λ j. ForProver j (wordOf c) (c .challenges) b) e h) (subst (λ j. ForVerifier j (wordAgain how) (c .challenges) v) e k))

@@ -29,7 +29,7 @@ telling field f h = ap (λ (w : ℕ). done w f) (mod-eq-of-lt h)
 pub demand-3-exported : Demand3Exported
 demand-3-exported c how n b v h =
     let s = h .sheet in
-    let A = demand-3 c how n b v (s .taken) (s .asserted) (s .zero-sum) (h .room) (s .sound) in
+    let A = demand-3 c how n b v (s .taken) (s .alike) (s .asserted) (s .zero-sum) (h .room) (s .sound) in
     subst (λ P. Exchanged c n b v P (handed c how n P v)) (sym (in-its-modes c b))
     (subst (Exchanged c n b v (provingTaken c b)) (sym (in-its-mode c how n (provingTaken c b) v))
     (record {

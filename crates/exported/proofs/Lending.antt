@@ -8,9 +8,9 @@ use borrow.Author.Tests.{le-ltb, eqb-false}
 use lib.Dec.{eqb, ltb}
 use Rattle.gkr.specs.Sizes.{log-words}
 use Rattle.refusal.specs.Limits.{maxRounds}
-use Rattle.sizes.specs.Sizes.{logRoom}
+use Rattle.sizes.specs.Sizes.{neededWords, logRoom}
 use Rattle.accudrina.specs.Modes.{ASSERT-ZERO, has}
-use Rattle.accudrina.specs.Rooms.{taken, logWords}
+use Rattle.accudrina.specs.Rooms.{taken, logWords, challengeWords}
 use Rattle.accudrina.proofs.RoomLaws.{within}
 use Rattle.exported.specs.Asked.{NotShort}
 
@@ -23,6 +23,11 @@ fits n room have few h = subst (λ (k : ℕ). k ≤ have) (within n room few) h
 
 pub lent : (n room have : ℕ) → n ≤ maxRounds → taken n room ≤ have → ltb have room ≡ false
 lent n room have few h = le-ltb have room (fits n room have few h)
+
+-- the challenges, where they are not drawn
+pub challenges-lent : (drawn : Bool) (n have : ℕ) → n ≤ maxRounds → (drawn ≡ false → challengeWords n ≤ have) → ltb have (neededWords drawn n) ≡ false
+challenges-lent true n have few h = le-ltb have 0 (omega arith)
+challenges-lent false n have few h = lent n (neededWords false n) have few (h refl)
 
 -- the log, where zero is asserted
 pub log-lent : (n have : ℕ) → n ≤ maxRounds → logWords n ASSERT-ZERO ≤ have → logRoom true n ≤ have

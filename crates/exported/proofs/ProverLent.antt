@@ -2,8 +2,8 @@
 -- Assumes nothing.
 use mathlib.Core.Path.{_≡_, refl, subst}
 use mathlib.Core.Bool.{Bool, true, false, _||_}
-use mathlib.Core.List.{List, [], _∷_}
-use Prim.Native.Nat.{ℕ, _+_, _*_, _≤_}
+use mathlib.Core.List.{List}
+use Prim.Native.Nat.{ℕ, _+_, _≤_}
 use borrow.Author.Tests.{not-false}
 use lib.Dec.{eqb}
 use Rattle.gkr.specs.Tests.{pass, either}
@@ -16,10 +16,10 @@ use Rattle.prover.specs.Proved as Prover
 use Rattle.prover.specs.Report.{answerReport}
 use Rattle.prover.proofs.Theorems.{Ends, each-end, each-front}
 use Rattle.sizes.specs.SizeLaws.{few-rounds}
-use Rattle.accudrina.specs.Modes.{LIVE, ASSERT-ZERO, has, untaken, provingOf}
+use Rattle.accudrina.specs.Modes.{ASSERT-ZERO, DRAWN, provingBits, has, untaken, provingOf}
 use Rattle.accudrina.specs.Calls.{Returned, provingTaken}
 use Rattle.exported.specs.Asked.{asked, ForProver, NotShort, ProverNotShort}
-use Rattle.exported.proofs.Lending.{never, lent, other}
+use Rattle.exported.proofs.Lending.{never, lent, challenges-lent, other}
 
 -- no buffer is short
 none : {p q r s : Bool} → p ≡ false → q ≡ false → r ≡ false → s ≡ false → (p || (q || (r || s))) ≡ false
@@ -51,13 +51,13 @@ run-not-short rows modes ch b h =
     both (λ e. other 2 refl refl) (λ u2.
     both (λ e. other 3 refl refl) (λ u3.
     let a = asks (not-false (isSize count) u3) in
-    both (never (lent n (4 * Sizes.challenges n) _ few (a .challenges))) (λ u4.
+    both (never (challenges-lent (has DRAWN modes) n _ few (a .challenges))) (λ u4.
     both (never (roomy modes ch b n few a)) (λ u5.
     both (λ e. other 6 refl refl) (λ u6.
     both (λ e. other 6 refl refl) (λ u7.
     both (λ e. other 7 refl refl) (λ u8.
-    each-end Fine rows (has ASSERT-ZERO modes) ch n (ends n))))))))))
+    each-end Fine rows (provingOf modes) ch n (ends n))))))))))
 
 pub prover-not-short : ProverNotShort
 prover-not-short rows modes ch b h =
-    either (λ (r : Returned Prover.Buffers). NotShort (r .told .number)) (eqb (untaken (LIVE ∷ ASSERT-ZERO ∷ []) modes) 0) _ _ (λ e. run-not-short rows modes ch b h) (λ e. other 28 refl refl)
+    either (λ (r : Returned Prover.Buffers). NotShort (r .told .number)) (eqb (untaken provingBits modes) 0) _ _ (λ e. run-not-short rows modes ch b h) (λ e. other 28 refl refl)

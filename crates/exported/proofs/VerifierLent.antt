@@ -2,8 +2,8 @@
 -- Assumes nothing.
 use mathlib.Core.Path.{refl, ap₂}
 use mathlib.Core.Bool.{true, not, _&&_, _||_}
-use mathlib.Core.List.{[], _∷_}
-use Prim.Native.Nat.{_*_}
+use mathlib.Core.List.{List}
+use Prim.Native.Nat.{ℕ, _*_}
 use native.Mathlib.Omega.{arith}
 use borrow.Author.Tests.{le-ltb, ltb-false}
 use lib.Dec.{eqb, ltb}
@@ -11,9 +11,7 @@ use lib.ListN.{length, getD}
 use Rattle.field.specs.Ext as E
 use Rattle.gkr.specs.Tests.{either}
 use Rattle.gkr.specs.Transcripts.{Source}
-use Rattle.gkr.specs.Sizes as Sizes
 use Rattle.gkr.specs.Gkr.{accepted, zero-rounds, layer-count, poly-count, zero-check, root-check, subround-count, layer-check}
-use Rattle.transcript.specs.Source.{supplied}
 use Rattle.refusal.specs.Limits.{maxRounds}
 use Rattle.refusal.specs.Tests.{Tested, firstOf}
 use Rattle.wire.specs.Words.{allCanonical}
@@ -21,16 +19,16 @@ use Rattle.stored.specs.Layout.{proofWords}
 use Rattle.stored.specs.Parse as Parse
 use Rattle.stored.specs.Parse.{proofOf}
 use Rattle.stored.specs.Elements.{overZero}
-use Rattle.sizes.specs.Sizes.{logRoom}
+use Rattle.sizes.specs.Sizes.{neededWords, logRoom}
 use Rattle.verifier_round.specs.Verdicts.{Model, answerOf}
 use Rattle.verifier.specs.Verified as Verifier
-use Rattle.verifier.specs.Verified.{Asked, Lent, asked, counted, needed, fronts}
+use Rattle.verifier.specs.Verified.{Asked, Lent, asked, counted, needed, sourceOf, fronts}
 use Rattle.verifier.specs.Gates.{verdict}
 use Rattle.verifier_round.specs.Report.{verdictReport}
-use Rattle.accudrina.specs.Modes.{LIVE, untaken, verifyingOf}
+use Rattle.accudrina.specs.Modes.{DRAWN, verifyingBits, has, untaken, verifyingOf}
 use Rattle.accudrina.specs.Calls.{Returned, verifyingTaken}
 use Rattle.exported.specs.Asked.{ForVerifier, NotShort, VerifierNotShort}
-use Rattle.exported.proofs.Lending.{never, lent, log-lent, other}
+use Rattle.exported.proofs.Lending.{never, lent, challenges-lent, log-lent, other}
 
 -- what the run answers
 model : (ch : Source E.Ext) (w : Model ch) → NotShort (verdictReport (answerOf ch w) .number)
@@ -46,23 +44,23 @@ model ch (layer-check round expected actual t) = other 19 refl refl
 abbrev Passed : Asked → Tested → Type 0
 Passed a w = NotShort (verdictReport (fronts a w .answer) .number)
 
-run-not-short : (a : Asked) (v : Lent) → ForVerifier (a .rounds) (a .challenges) v → NotShort (verifyingTaken a v .told .number)
+run-not-short : (proof : List ℕ) (n modes : ℕ) (ch : List ℕ) (v : Lent) → ForVerifier n modes ch v → NotShort (verifyingTaken (asked proof n (verifyingOf modes) ch) v .told .number)
 unfolding Verifier.verified firstOf
-run-not-short a v h =
+run-not-short proof n modes ch v h =
+    let a = asked proof n (verifyingOf modes) ch in
     let P = Passed a in
-    let n = a .rounds in
     either P (eqb n 0) _ _ (λ e. other 10 refl refl) (λ some.
     either P (ltb maxRounds n) _ _ (λ e. other 11 refl refl) (λ e.
     let few = ltb-false maxRounds n e in
     let logs = le-ltb _ _ (log-lent n (length (v .log)) few (omega (arith, h .log))) in
-    either P (ltb (length (a .challenges)) (4 * Sizes.challenges n)) _ _ (never (lent n _ _ few (h .challenges))) (λ e3.
+    either P (ltb (length (a .challenges)) (neededWords (has DRAWN modes) n)) _ _ (never (challenges-lent (has DRAWN modes) n _ few (h .challenges))) (λ e3.
     either P (ltb (length (v .point)) (4 * n) || ltb (length (v .log)) (logRoom true n)) _ _ (never (ap₂ _||_ (lent n (4 * n) _ few (h .point)) logs)) (λ e4.
     either P (not (eqb (getD (a .proof) 0 0) 1)) _ _ (λ e. other 12 refl refl) (λ e5.
     either P (not (Parse.fits (a .proof))) _ _ (λ e. other 13 refl refl) (λ e6.
     either P (not (allCanonical (proofWords (proofOf (a .proof))))) _ _ (λ e. other 6 refl refl) (λ e7.
     either P (not (allCanonical (needed a))) _ _ (λ e. other 6 refl refl) (λ e8.
-    either P (a .modes .live && (counted (a .proof) n && overZero (a .proof))) _ _ (λ e. other 27 refl refl) (λ e9. model (supplied (needed a)) (verdict (a .proof) n (supplied (needed a))))))))))))
+    either P (a .modes .live && (counted (a .proof) n && overZero (a .proof))) _ _ (λ e. other 27 refl refl) (λ e9. model (sourceOf a) (verdict (a .proof) n (sourceOf a)))))))))))
 
 pub verifier-not-short : VerifierNotShort
 verifier-not-short proof n modes ch v h =
-    either (λ (r : Returned Lent). NotShort (r .told .number)) (eqb (untaken (LIVE ∷ []) modes) 0) _ _ (λ e. run-not-short (asked proof n (verifyingOf modes) ch) v h) (λ e. other 28 refl refl)
+    either (λ (r : Returned Lent). NotShort (r .told .number)) (eqb (untaken verifyingBits modes) 0) _ _ (λ e. run-not-short proof n modes ch v h) (λ e. other 28 refl refl)

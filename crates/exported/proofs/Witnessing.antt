@@ -27,7 +27,7 @@ use Rattle.agreement.specs.KTable.{K3, room, room-again}
 use Rattle.accudrina.specs.Answer.{answerWords}
 use Rattle.accudrina.specs.Modes.{has, without}
 use Rattle.accudrina.specs.Rooms.{logWords}
-use Rattle.exported.specs.Exported.{Sheet, done, wordOf, proves, handed}
+use Rattle.exported.specs.Exported.{Sheet, done, wordOf, wordAgain, proves, handed}
 use Rattle.exported.specs.Asked.{ForProver, ForVerifier}
 use Rattle.exported.specs.Witness.{n, K3Met, K3Accepted}
 use Rattle.exported.proofs.Exporting.{demand-3-exported}
@@ -42,7 +42,7 @@ sound (suc (suc zero)) h = refl
 sound (suc (suc (suc zero))) h = refl
 sound (suc (suc (suc (suc i)))) h = absurd (omega arith)
 
-sheet : (live again : Bool) → Sheet (in-mode live K3) (record { live = again }) n
+sheet : (live again : Bool) → Sheet (in-mode live K3) (record { live = again; drawn = false }) n
 unfolding model arithmetic cell allCanonical pointWords
 sheet live again =
     record {
@@ -55,6 +55,7 @@ sheet live again =
         valid-challenges = refl;
         checked = λ e. sound;
       };
+      alike = refl;
       asserted = refl;
       zero-sum = refl;
       sound = λ e. sound;
@@ -69,27 +70,27 @@ for-prover live =
       point = leb-true _ _ refl;
       log = logs live;
       work = leb-true _ _ refl;
-      challenges = leb-true _ _ refl;
+      challenges = λ _. leb-true _ _ refl;
     }
   where
     logs : (live : Bool) → logWords n (wordOf (in-mode live K3)) ≤ length (room n .log)
     logs true = leb-true _ _ refl
     logs false = leb-true _ _ refl
 
-for-verifier : ForVerifier n (K3 .challenges) (room-again n)
+for-verifier : (again : Bool) → ForVerifier n (wordAgain (record { live = again; drawn = false })) (K3 .challenges) (room-again n)
 unfolding pointWords has
-for-verifier = record { point = leb-true _ _ refl; log = leb-true _ _ refl; challenges = leb-true _ _ refl }
+for-verifier again = record { point = leb-true _ _ refl; log = leb-true _ _ refl; challenges = λ _. leb-true _ _ refl }
 
 pub K3-met : K3Met
 unfolding roundsFrom isSize
 K3-met live again =
     record {
-      premises = premises (in-mode live K3) (record { live = again }) n (room n) (room-again n) (sheet live again) (for-prover live) for-verifier;
+      premises = premises (in-mode live K3) (record { live = again; drawn = false }) n (room n) (room-again n) (sheet live again) (for-prover live) (for-verifier again);
       for-prover = for-prover live;
-      for-verifier = for-verifier;
+      for-verifier = for-verifier again;
     }
 
-claims : (live again : Bool) → handed (in-mode live K3) (record { live = again }) n (proves (in-mode live K3) (room n)) (room-again n) .told ≡ done 0 (frac (minus 25) (el 1))
+claims : (live again : Bool) → handed (in-mode live K3) (record { live = again; drawn = false }) n (proves (in-mode live K3) (room n)) (room-again n) .told ≡ done 0 (frac (minus 25) (el 1))
 unfolding model arithmetic cell allCanonical bytesOf word claimsWords cubicsWords polysWords entriesBytes layout claimsFrom cubicsFrom entriesFrom entriesFit fits overZero roundsFrom isSize shortRoom degenerate lowest firstOf firstRefusal pointWords Prover.fronts Prover.proved Verifier.verified answerWords has without
 claims true true = refl
 claims true false = refl
@@ -102,5 +103,5 @@ sum = refl
 
 pub K3-accepted : K3Accepted
 K3-accepted live again =
-    let e = demand-3-exported (in-mode live K3) (record { live = again }) n (room n) (room-again n) (K3-met live again .premises) in
+    let e = demand-3-exported (in-mode live K3) (record { live = again; drawn = false }) n (room n) (room-again n) (K3-met live again .premises) in
     record { exchanged = e; proved = e .proved ∙ ap (done n) sum; accepted = claims live again }

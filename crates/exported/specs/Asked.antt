@@ -1,6 +1,7 @@
 -- A caller who asks the room questions and lends at least what they answer: such a caller is never refused as 4 or 5, and demand 3 asks nothing else of lengths.
 -- Assumes nothing.
 use mathlib.Core.Path.{_≡_}
+use mathlib.Core.Bool.{false}
 use mathlib.Core.List.{List}
 use Prim.Native.Nat.{ℕ, _≤_}
 use lib.ListN.{length}
@@ -9,28 +10,28 @@ use Rattle.refusal.specs.declared.Verifying.{Verifying}
 use Rattle.prover_gate.specs.Refusals.{Call}
 use Rattle.prover.specs.Proved.{Buffers}
 use Rattle.verifier.specs.Verified.{Lent}
-use Rattle.accudrina.specs.Modes.{ASSERT-ZERO}
+use Rattle.accudrina.specs.Modes.{ASSERT-ZERO, DRAWN, has}
 use Rattle.accudrina.specs.Calls.{proving, verifying}
 use Rattle.accudrina.specs.Rooms.{proofBytes, pointWords, logWords, workspaceWords, challengeWords, rounds}
-use Rattle.exported.specs.Exported.{Sheet, Exchanged, wordOf, proves, handed}
+use Rattle.exported.specs.Exported.{Sheet, Exchanged, wordOf, wordAgain, proves, handed}
 
 -- the answer to accudrina_rounds for these row words
 abbrev pub asked : List ℕ → ℕ
 asked rows = rounds (rowCount rows)
 
--- lent to the prover, for n rounds in these modes: four buffers and the challenges
+-- lent to the prover, for n rounds in these modes: four buffers and, where they are not drawn, the challenges
 pub record ForProver (n modes : ℕ) (ch : List ℕ) (b : Buffers) : Type 0 where
   pub proof : proofBytes n ≤ length (b .proof)
   pub point : pointWords n ≤ length (b .point)
   pub log : logWords n modes ≤ length (b .log)
   pub work : workspaceWords n ≤ length (b .work)
-  pub challenges : challengeWords n ≤ length ch
+  pub challenges : has DRAWN modes ≡ false → challengeWords n ≤ length ch
 
--- lent to the verifier, for n rounds: two buffers and the challenges
-pub record ForVerifier (n : ℕ) (ch : List ℕ) (v : Lent) : Type 0 where
+-- lent to the verifier, likewise: two buffers and the challenges
+pub record ForVerifier (n modes : ℕ) (ch : List ℕ) (v : Lent) : Type 0 where
   pub point : pointWords n ≤ length (v .point)
   pub log : logWords n ASSERT-ZERO ≤ length (v .log)
-  pub challenges : challengeWords n ≤ length ch
+  pub challenges : has DRAWN modes ≡ false → challengeWords n ≤ length ch
 
 -- the number returned is neither ShortChallenges nor ShortRoom
 pub record NotShort (number : ℕ) : Type 0 where
@@ -42,10 +43,10 @@ abbrev pub ProverNotShort : Type 0
 ProverNotShort = (rows : List ℕ) (modes : ℕ) (ch : List ℕ) (b : Buffers) → ForProver (asked rows) modes ch b → NotShort (proving rows modes ch b .told .number)
 
 abbrev pub VerifierNotShort : Type 0
-VerifierNotShort = (proof : List ℕ) (n modes : ℕ) (ch : List ℕ) (v : Lent) → ForVerifier n ch v → NotShort (verifying proof n modes ch v .told .number)
+VerifierNotShort = (proof : List ℕ) (n modes : ℕ) (ch : List ℕ) (v : Lent) → ForVerifier n modes ch v → NotShort (verifying proof n modes ch v .told .number)
 
 -- DEMAND 3 FOR SUCH A CALLER: of the lengths of the buffers nothing else is said
 abbrev pub Demand3Asked : Type 0
 Demand3Asked =
     (c : Call) (how : Verifying) (n : ℕ) (b : Buffers) (v : Lent) → Sheet c how n → ForProver (asked (c .rows)) (wordOf c) (c .challenges) b
-    → ForVerifier (asked (c .rows)) (c .challenges) v → let P = proves c b in Exchanged c n b v P (handed c how n P v)
+    → ForVerifier (asked (c .rows)) (wordAgain how) (c .challenges) v → let P = proves c b in Exchanged c n b v P (handed c how n P v)

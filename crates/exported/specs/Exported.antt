@@ -21,16 +21,19 @@ use Rattle.prover.specs.Companions.{Sound}
 use Rattle.verifier.specs.Verified.{Lent}
 use Rattle.agreement.specs.Demand3.{Taken, root, Room}
 use Rattle.accudrina.specs.Answer.{Told}
-use Rattle.accudrina.specs.Modes.{LIVE, ASSERT-ZERO}
+use Rattle.accudrina.specs.Modes.{LIVE, ASSERT-ZERO, DRAWN}
 use Rattle.accudrina.specs.Calls.{Returned, proving, verifying}
 
 -- done: the number 0 is returned, and the sixteen words are 0, a plain field, two zeros, two elements, four zeros
 abbrev pub done : (field : ℕ) → Frac E.Ext → Told
 done field f = record { number = 0; words = 0 ∷ field ∷ 0 ∷ 0 ∷ (words (f .p) ++ (words (f .q) ++ (0 ∷ 0 ∷ 0 ∷ 0 ∷ []))) }
 
--- the word of modes of proving
+-- the word of modes of proving, and of verifying
 abbrev pub word : Proving → ℕ
-word m = cond (m .live) LIVE 0 + cond (m .«assert_zero») ASSERT-ZERO 0
+word m = cond (m .live) LIVE 0 + cond (m .«assert_zero») ASSERT-ZERO 0 + cond (m .drawn) DRAWN 0
+
+abbrev pub wordAgain : Verifying → ℕ
+wordAgain m = cond (m .live) LIVE 0 + cond (m .drawn) DRAWN 0
 
 abbrev pub wordOf : Call → ℕ
 wordOf c = word (c .modes)
@@ -39,13 +42,14 @@ wordOf c = word (c .modes)
 abbrev pub proves : (c : Call) (b : Buffers) → Returned Buffers
 proves c b = proving (c .rows) (wordOf c) (c .challenges) b
 
--- the verifier's call: the first bytes of the buffer with the proof, n, the word of its mode and the same challenges
+-- the verifier's call: the first bytes of the buffer with the proof, n, the word of its modes and the same challenges
 abbrev pub handed : (c : Call) (how : Verifying) (n : ℕ) (P : Returned Buffers) (v : Lent) → Returned Lent
-handed c how n P v = verifying (take (proof-bytes n) (P .buffers .proof)) n (cond (how .live) LIVE 0) (c .challenges) v
+handed c how n P v = verifying (take (proof-bytes n) (P .buffers .proof)) n (wordAgain how) (c .challenges) v
 
--- DEMAND 3'S PREMISES: a sheet that is taken, zero asserted, the root numerator zero, no row over zero where the verifier is live; and every buffer long enough
+-- DEMAND 3'S PREMISES: a sheet that is taken, both draw or neither does, zero asserted, the root numerator zero, no row over zero where the verifier is live; and every buffer long enough
 pub record Sheet (c : Call) (how : Verifying) (n : ℕ) : Type 0 where
   pub taken : Taken c n
+  pub alike : how .drawn ≡ c .modes .drawn
   pub asserted : c .modes .«assert_zero» ≡ true
   pub zero-sum : root c n .p ≡ E.nil
   pub sound : how .live ≡ true → Sound (c .rows)

@@ -1,14 +1,14 @@
 -- The premises can be met, in both modes of proving and of verifying: document 01's K3. It is proved and accepted through the exported calls.
 -- Assumes nothing.
 use mathlib.Core.Path.{_≡_}
-use mathlib.Core.Bool.{Bool}
+use mathlib.Core.Bool.{Bool, false}
 use Prim.Native.Nat.{ℕ}
 use Rattle.gkr.specs.Compute.{el, minus, frac}
 use Rattle.refusal.specs.declared.Verifying.{Verifying}
 use Rattle.prover_gate.specs.Refusals.{Call}
 use Rattle.prover.specs.Companions.{in-mode}
 use Rattle.agreement.specs.KTable.{K3, room, room-again}
-use Rattle.exported.specs.Exported.{Premises, Exchanged, done, wordOf, proves, handed}
+use Rattle.exported.specs.Exported.{Premises, Exchanged, done, wordOf, wordAgain, proves, handed}
 use Rattle.exported.specs.Asked.{asked, ForProver, ForVerifier}
 
 -- its rounds
@@ -19,7 +19,7 @@ n = 2
 pub record Met (c : Call) (how : Verifying) : Type 0 where
   pub premises : Premises c how n (room n) (room-again n)
   pub for-prover : ForProver (asked (c .rows)) (wordOf c) (c .challenges) (room n)
-  pub for-verifier : ForVerifier (asked (c .rows)) (c .challenges) (room-again n)
+  pub for-verifier : ForVerifier (asked (c .rows)) (wordAgain how) (c .challenges) (room-again n)
 
 -- both calls return 0; the prover's words say two rounds and the sum 0/1, the verifier's the claims −25 and 1
 pub record Accepted (c : Call) (how : Verifying) : Type 0 where
@@ -28,7 +28,7 @@ pub record Accepted (c : Call) (how : Verifying) : Type 0 where
   pub accepted : handed c how n (proves c (room n)) (room-again n) .told ≡ done 0 (frac (minus 25) (el 1))
 
 abbrev pub K3Met : Type 0
-K3Met = (live again : Bool) → Met (in-mode live K3) (record { live = again })
+K3Met = (live again : Bool) → Met (in-mode live K3) (record { live = again; drawn = false })
 
 abbrev pub K3Accepted : Type 0
-K3Accepted = (live again : Bool) → Accepted (in-mode live K3) (record { live = again })
+K3Accepted = (live again : Bool) → Accepted (in-mode live K3) (record { live = again; drawn = false })

@@ -1,4 +1,4 @@
--- What holds of all calls of the prover: isolation, what is left of a run, live mode. Each speaks of what a call writes: `proved` lays that over the buffers.
+-- What holds of all calls of the prover: isolation, what is left of a run, live mode, drawn challenges. Each speaks of what a call writes: `proved` lays that over the buffers.
 -- Assumes nothing.
 use mathlib.Core.Path.{_≡_}
 use mathlib.Core.Bool.{Bool, true, false}
@@ -7,7 +7,7 @@ use Prim.Native.Nat.{ℕ, _<_}
 use lib.ListN.{replicate}
 use Rattle.refusal.specs.Tests.{passed, refused}
 use Rattle.refusal.specs.declared.Refusal.{Refusal}
-use Rattle.refusal.specs.declared.Refusal.the-variants.{ZeroDenominator, NonZeroRootSum}
+use Rattle.refusal.specs.declared.Refusal.the-variants.{ShortChallenges, ZeroDenominator, NonZeroRootSum}
 use Rattle.step.specs.declared.Frac.{Frac}
 use Rattle.prover_tree.specs.Nodes.{node}
 use Rattle.sizes.specs.Sizes.{rowCount, roundsOf, workRoom}
@@ -31,7 +31,7 @@ Wiping = (c : Call) (r : Rooms) → Left (roundsOf (rowCount (c .rows))) (fronts
 -- LIVE MODE
 
 abbrev pub in-mode : (live : Bool) → Call → Call
-in-mode live c = call (c .rows) (record { live = live; «assert_zero» = c .modes .«assert_zero» }) (c .challenges)
+in-mode live c = call (c .rows) (record { live = live; «assert_zero» = c .modes .«assert_zero»; drawn = c .modes .drawn }) (c .challenges)
 
 -- no row is over zero
 abbrev pub Sound : List ℕ → Type 0
@@ -49,3 +49,8 @@ pub record LiveMode (c : Call) (r : Rooms) : Type 0 where
   pub earlier : (e : Refusal) → firstRefusal (in-mode false c) r ≡ refused e → fronts (in-mode true c) r ≡ untouched e
   pub lowest : (i : ℕ) → Lowest (c .rows) i → firstRefusal (in-mode false c) r ≡ passed → fronts (in-mode true c) r ≡ untouched (ZeroDenominator i)
   pub sandbox : (i : ℕ) → fronts (in-mode false c) r .answer ≡ Refused (ZeroDenominator i) → ⊥
+
+-- DRAWN CHALLENGES: those lent are not read, whatever they are and however many; 4 is never given
+pub record DrawnMode (c : Call) (r : Rooms) : Type 0 where
+  pub unread : c .modes .drawn ≡ true → (lent : List ℕ) → fronts (call (c .rows) (c .modes) lent) r ≡ fronts c r
+  pub enough : c .modes .drawn ≡ true → fronts c r .answer ≡ Refused ShortChallenges → ⊥

@@ -1,7 +1,7 @@
 -- What the prover's inner functions ask for and leave.
 -- Assumes nothing.
 use mathlib.Core.Path.{_≡_}
-use mathlib.Core.Bool.{Bool, cond}
+use mathlib.Core.Bool.{Bool, false, cond}
 use mathlib.Core.List.{List}
 use Prim.Native.Nat.{ℕ, suc, _+_, _*_, _^_, _<_, _≤_}
 use lib.ListN.{length, take, replicate}
@@ -22,7 +22,8 @@ use Rattle.stored.specs.Lengths.{proofSize}
 use Rattle.prover_run.specs.Runs.{begun}
 use Rattle.prover_rounds.specs.Layers.{logUpTo, usedUpTo}
 use Rattle.refusal.specs.Limits.{maxRounds}
-use Rattle.sizes.specs.Sizes.{rowCount, roundsOf, logRoom, workRoom}
+use Rattle.refusal.specs.declared.Proving.{Proving}
+use Rattle.sizes.specs.Sizes.{rowCount, roundsOf, neededWords, logRoom, workRoom}
 use Rattle.prover_gate.specs.Refusals.{Rooms}
 use Rattle.refusal.specs.Fronts.{over}
 use Rattle.prover.specs.Proved.{Buffers}
@@ -39,27 +40,27 @@ pub record Written (f : ℕ → Frac E.Ext) (asserted : Bool) (m : ℕ) (ch : So
   pub work : b' .work ≡ replicate (length (b .work)) 0
 
 -- the room of a run over n rounds, in the lent parts
-pub record Room (asserted : Bool) (n size : ℕ) (c p x l w : ℕ) : Type 0 where
+pub record Room (asserted drawn : Bool) (n size : ℕ) (c p x l w : ℕ) : Type 0 where
   pub some : 1 ≤ n
   pub few : n < 256
   pub pow : size ≡ 2 ^ n
   pub proof : proofSize n ≤ p
   pub point : x ≡ 4 * n
   pub log : cond asserted 0 4 + logUpTo n ≤ l
-  pub used : 4 * usedUpTo n ≤ c + 4
+  pub used : drawn ≡ false → 4 * usedUpTo n ≤ c + 4
   pub work : w ≡ workRoom n
 
 -- what an open gate tells of a sheet of n rounds and of size rows
-pub record Opens (rows : List ℕ) (asserted : Bool) (ch : List ℕ) (r : Rooms) (n size : ℕ) : Type 0 where
+pub record Opens (rows : List ℕ) (modes : Proving) (ch : List ℕ) (r : Rooms) (n size : ℕ) : Type 0 where
   pub rounds : n ≡ roundsOf (rowCount rows)
   pub few : n ≤ maxRounds
   pub pow : size ≡ 2 ^ n
   pub words : length rows ≡ 8 * rowCount rows
   pub all : (rowCount rows ≡ 0 → ⊥) → rowCount rows ≡ 2 ^ roundsOf (rowCount rows)
-  pub challenges : 4 * Sizes.challenges n ≤ length ch
+  pub challenges : neededWords (modes .drawn) n ≤ length ch
   pub proof : Sizes.proof-bytes n ≤ r .proof
   pub point : Sizes.point-words n ≤ r .point
-  pub log : logRoom asserted n ≤ r .log
+  pub log : logRoom (modes .«assert_zero») n ≤ r .log
   pub work : workRoom n ≤ r .work
   pub clean : Clean rows
-  pub supplied : Clean (take (4 * Sizes.challenges n) ch)
+  pub supplied : Clean (take (neededWords (modes .drawn) n) ch)

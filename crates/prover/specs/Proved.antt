@@ -2,7 +2,7 @@
 -- Assumes nothing.
 use mathlib.Core.Bool.{Bool, cond, not, _&&_}
 use mathlib.Core.List.{List, []}
-use Prim.Native.Nat.{ℕ, zero, suc, _*_}
+use Prim.Native.Nat.{ℕ, zero, suc}
 use lib.Dec.{eqb}
 use lib.ListN.{length, take, replicate}
 use Rattle.field.specs.Ext as E
@@ -10,10 +10,9 @@ use Rattle.field.specs.Extension.{Extension}
 use Rattle.field.specs.Element.{enc, pointWords}
 use Rattle.gkr.specs.Run.{Frac}
 use Rattle.gkr.specs.Transcripts.{empty, Source}
-use Rattle.gkr.specs.Sizes.{challenges}
 use Rattle.gkr.specs.Gkr as Gkr
 use Rattle.gkr.specs.Gkr.{done, non-zero-root-sum}
-use Rattle.transcript.specs.Source.{supplied}
+use Rattle.transcript.specs.Source.{supplied, source}
 use Rattle.transcript.specs.Log.{Drawing}
 use Rattle.step.specs.declared.Frac.{Frac as FracW}
 use Rattle.prover_tree.specs.Nodes.{node}
@@ -21,9 +20,10 @@ use Rattle.stored.specs.Layout.{layout}
 use Rattle.stored.specs.Elements.{encoded}
 use Rattle.refusal.specs.Tests.{Tested, passed, refused}
 use Rattle.refusal.specs.Fronts.{over}
+use Rattle.refusal.specs.declared.Proving.{Proving}
 use Rattle.refusal.specs.declared.Refusal.{Refusal}
 use Rattle.refusal.specs.declared.Refusal.the-variants.{NonZeroRootSum, SingleRow}
-use Rattle.sizes.specs.Sizes.{rowCount, roundsOf, workRoom}
+use Rattle.sizes.specs.Sizes.{rowCount, roundsOf, neededWords, workRoom}
 use Rattle.prover_gate.specs.Refusals.{Call, Rooms, firstRefusal}
 use Rattle.prover.specs.declared.Answer.{Answer}
 use Rattle.prover.specs.declared.Answer.the-variants.{Done, Refused}
@@ -73,16 +73,18 @@ after ch n non-zero-root-sum = outcome (Refused NonZeroRootSum) [] [] [] (replic
 abbrev pub oneRow : (rows : List ℕ) (asserted : Bool) → Refusal
 oneRow rows asserted = cond (asserted && not (E.same (node rows 0 .p) E.nil)) NonZeroRootSum SingleRow
 
--- n rounds: 0 for no rows and for one row; else over 2 ^ n rows
-abbrev pub ran : (rows : List ℕ) (asserted : Bool) (ch : List ℕ) (n : ℕ) → Outcome
-ran rows asserted ch zero = cond (eqb (rowCount rows) 0) (finished (supplied []) 0 (Gkr.no-rows Extension (Drawing (supplied [])) empty)) (untouched (oneRow rows asserted))
-ran rows asserted ch (suc m) =
-    let needed = supplied (take (4 * challenges (suc m)) ch) in
-    after needed (suc m) (Gkr.fractional-sumcheck Extension (Drawing needed) asserted m (node rows) empty)
+-- the model's run over 2 ^ suc m rows
+abbrev pub modelled : (rows : List ℕ) (asserted : Bool) (ch : Source E.Ext) (m : ℕ) → Outcome
+modelled rows asserted ch m = after ch (suc m) (Gkr.fractional-sumcheck Extension (Drawing ch) asserted m (node rows) empty)
+
+-- n rounds: 0 for no rows and for one row; else over 2 ^ n rows, with the needed challenges
+abbrev pub ran : (rows : List ℕ) (modes : Proving) (challenges : List ℕ) (n : ℕ) → Outcome
+ran rows modes challenges zero = cond (eqb (rowCount rows) 0) (finished (supplied []) 0 (Gkr.no-rows Extension (Drawing (supplied [])) empty)) (untouched (oneRow rows (modes .«assert_zero»)))
+ran rows modes challenges (suc m) = modelled rows (modes .«assert_zero») (source (modes .drawn) (take (neededWords (modes .drawn) (suc m)) challenges)) m
 
 abbrev pub entered : Call → Tested → Outcome
 entered c (refused e) = untouched e
-entered c passed = ran (c .rows) (c .modes .«assert_zero») (c .challenges) (roundsOf (rowCount (c .rows)))
+entered c passed = ran (c .rows) (c .modes) (c .challenges) (roundsOf (rowCount (c .rows)))
 
 -- the answer, and the words at the front of each buffer
 unfoldable pub fronts : Call → Rooms → Outcome

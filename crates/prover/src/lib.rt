@@ -6,21 +6,16 @@ ghost use Prim.Native.Nat.{ℕ, suc, _*_, _≤_};
 ghost use lib.ListN.{length};
 ghost use Rattle.field.specs.Ext as E;
 ghost use Rattle.field.specs.ExtRing.{ExtRing};
-ghost use Rattle.field.specs.Extension.{Extension};
 ghost use Rattle.field.specs.Element.{dec};
 ghost use Rattle.field.specs.Cells.{Clean};
 ghost use Rattle.gkr.specs.Run.{Frac as Fraction};
-ghost use Rattle.gkr.specs.Transcripts.{empty};
 ghost use Rattle.gkr.specs.Tree as Tree;
-ghost use Rattle.gkr.specs.Gkr as Gkr;
-ghost use Rattle.transcript.specs.Source.{supplied};
-ghost use Rattle.transcript.specs.Log.{Drawing};
+ghost use Rattle.transcript.specs.Source.{source};
 ghost use Rattle.step.specs.Values.{CanonFrac, IsFrac};
-ghost use Rattle.prover_tree.specs.Nodes.{node};
 ghost use Rattle.prover_rounds.specs.Layers.{Levels};
 ghost use Rattle.sizes.specs.Sizes.{rowCount};
 ghost use Rattle.prover_gate.specs.Refusals.{call, rooms};
-ghost use Rattle.prover.specs.Proved.{lent, outcome, laid, oneRow, after, ran, proved};
+ghost use Rattle.prover.specs.Proved.{lent, outcome, laid, oneRow, modelled, ran, proved};
 ghost use Rattle.prover.specs.Inner.{Written, Room, Opens};
 ghost use Rattle.prover.specs.Report.{answerReport};
 use field::Ext;
@@ -43,19 +38,20 @@ fn write_run(
     size: usize,
     root: Frac,
     asserted: bool,
+    drawn: bool,
     challenges: &[u32],
     proof: &mut [u8],
     xi: &mut [u32],
     log: &mut [u32],
     work: &mut [u32],
 )
-    requires room { ⌜ Room asserted n size (length (now challenges)) (length (now proof)) (length (now xi)) (length (now log)) (length (now work)) ⌝ }
+    requires room { ⌜ Room asserted drawn n size (length (now challenges)) (length (now proof)) (length (now xi)) (length (now log)) (length (now work)) ⌝ }
     requires clean { ⌜ Clean (now work) × Clean (now challenges) × CanonFrac root ⌝ }
     ensures { λ _. ⌜ ((f : ℕ → Fraction E.Ext) (m : ℕ) → n ≡ suc m → Levels f (now (work .entry)) n 0 → IsFrac root (Tree.tree ExtRing f (suc m) 0)
-        → Written f asserted m (supplied (now (challenges .entry))) (lent (now (proof .entry)) (now (xi .entry)) (now (log .entry)) (now (work .entry)))
+        → Written f asserted m (source drawn (now (challenges .entry))) (lent (now (proof .entry)) (now (xi .entry)) (now (log .entry)) (now (work .entry)))
         (lent (now (proof .exit)) (now (xi .exit)) (now (log .exit)) (now (work .exit)))) ⌝ }
 {
-    let first = transcript::start(false);
+    let first = transcript::start(drawn);
     let pos = prover_run::begin(log, first, asserted, root.p);
     let mut lanes = [0u64; 25]; // of a sponge that has taken in nothing
     prover_run::run_rounds(n, size, root.q, work, xi, log, &mut lanes, challenges, pos);
@@ -78,6 +74,7 @@ fn contradicts(asserted: bool, p: Ext) -> bool
 fn prove(
     rows: &[u32],
     asserted: bool,
+    drawn: bool,
     n: usize,
     size: usize,
     challenges: &[u32],
@@ -86,10 +83,10 @@ fn prove(
     log: &mut [u32],
     work: &mut [u32],
 ) -> Answer
-    requires room { ⌜ Room asserted n size (length (now challenges)) (length (now proof)) (length (now xi)) (length (now log)) (length (now work)) × (8 * size ≤ length (now rows)) ⌝ }
-    requires clean { ⌜ Clean (now rows) × Clean (now challenges) ⌝ }
+    requires room { ⌜ Room asserted drawn n size (length (now challenges)) (length (now proof)) (length (now xi)) (length (now log)) (length (now work)) ⌝ }
+    requires clean { ⌜ (8 * size ≤ length (now rows)) × Clean (now rows) × Clean (now challenges) ⌝ }
     ensures { λ r. ⌜ ((m : ℕ) → n ≡ suc m → outcome r (now (proof .exit)) (now (xi .exit)) (now (log .exit)) (now (work .exit))
-        ≡ laid (after (supplied (now (challenges .entry))) n (Gkr.fractional-sumcheck Extension (Drawing (supplied (now (challenges .entry)))) asserted m (node (now (rows .entry))) empty))
+        ≡ laid (modelled (now (rows .entry)) asserted (source drawn (now (challenges .entry))) m)
         (lent (now (proof .entry)) (now (xi .entry)) (now (log .entry)) (now (work .entry)))) ⌝ }
 {
     let root = prover_run::sum_rows(rows, size, work);
@@ -97,7 +94,18 @@ fn prove(
         prover_tree::clear(work);
         return Answer::Refused(Refusal::NonZeroRootSum);
     }
-    write_run(n, size, root, asserted, challenges, proof, xi, log, work);
+    write_run(
+        n,
+        size,
+        root,
+        asserted,
+        drawn,
+        challenges,
+        proof,
+        xi,
+        log,
+        work,
+    );
     Answer::Done {
         rounds: n,
         sum: root,
@@ -116,9 +124,9 @@ fn one_row(rows: &[u32], asserted: bool) -> Refusal
 }
 
 // No rounds: no rows are done, with the 23 bytes of their proof; one row is refused.
-fn no_rounds(rows: &[u32], asserted: bool, proof: &mut [u8]) -> Answer
+fn no_rounds(rows: &[u32], modes: Proving, proof: &mut [u8]) -> Answer
     requires { ⌜ (length (now rows) ≡ 8 * rowCount (now rows)) × (23 ≤ length (now proof)) × Clean (now rows) ⌝ }
-    ensures { λ r. ⌜ ((pt lg ws : List ℕ) → outcome r (now (proof .exit)) pt lg ws ≡ laid (ran (now (rows .entry)) asserted [] 0) (lent (now (proof .entry)) pt lg ws)) ⌝ }
+    ensures { λ r. ⌜ ((pt lg ws : List ℕ) → outcome r (now (proof .exit)) pt lg ws ≡ laid (ran (now (rows .entry)) modes [] 0) (lent (now (proof .entry)) pt lg ws)) ⌝ }
 {
     if rows.len() / 8 == 0 {
         stored_writer::put_no_rows(proof);
@@ -130,35 +138,36 @@ fn no_rounds(rows: &[u32], asserted: bool, proof: &mut [u8]) -> Answer
             },
         };
     }
-    Answer::Refused(one_row(rows, asserted))
+    Answer::Refused(one_row(rows, modes.assert_zero))
 }
 
 // What passed the gate, with its size. A run gets the needed parts of the challenges, the point and the workspace.
 fn admitted(
     rows: &[u32],
     size: Size,
-    asserted: bool,
+    modes: Proving,
     challenges: &[u32],
     proof: &mut [u8],
     point: &mut [u32],
     log: &mut [u32],
     work: &mut [u32],
 ) -> Answer
-    requires { ⌜ Opens (now rows) asserted (now challenges) (rooms (length (now proof)) (length (now point)) (length (now log)) (length (now work))) (size .n) (size .rows) ⌝ }
+    requires { ⌜ Opens (now rows) modes (now challenges) (rooms (length (now proof)) (length (now point)) (length (now log)) (length (now work))) (size .n) (size .rows) ⌝ }
     ensures { λ r. ⌜ outcome r (now (proof .exit)) (now (point .exit)) (now (log .exit)) (now (work .exit))
-        ≡ laid (ran (now (rows .entry)) asserted (now (challenges .entry)) (size .n))
+        ≡ laid (ran (now (rows .entry)) modes (now (challenges .entry)) (size .n))
         (lent (now (proof .entry)) (now (point .entry)) (now (log .entry)) (now (work .entry))) ⌝ }
 {
     let n = size.n;
     if n == 0 {
-        return no_rounds(rows, asserted, proof);
+        return no_rounds(rows, modes, proof);
     }
-    let need = sizes::challenge_words(n);
+    let need = sizes::needed_words(modes.drawn, n);
     let w = sizes::work_words(n, size.rows);
     let k = 4 * n;
     prove(
         rows,
-        asserted,
+        modes.assert_zero,
+        modes.drawn,
         n,
         size.rows,
         &challenges[..need],
@@ -195,16 +204,7 @@ pub fn fractional_sumcheck(
     );
     match gate {
         Gate::Shut(r) => Answer::Refused(r),
-        Gate::Open(size) => admitted(
-            rows,
-            size,
-            modes.assert_zero,
-            challenges,
-            proof,
-            point,
-            log,
-            work,
-        ),
+        Gate::Open(size) => admitted(rows, size, modes, challenges, proof, point, log, work),
     }
 }
 

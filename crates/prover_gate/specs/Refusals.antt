@@ -2,17 +2,17 @@
 -- Assumes nothing.
 use mathlib.Core.Bool.{Bool, cond, not, _&&_, _||_}
 use mathlib.Core.List.{List, [], _∷_}
-use Prim.Native.Nat.{ℕ, zero, suc, _*_, _%_, _^_}
+use Prim.Native.Nat.{ℕ, zero, suc, _%_, _^_}
 use lib.Dec.{eqb, ltb}
 use lib.ListN.{length, take}
 use Rattle.field.specs.Ext as E
 use Rattle.gkr.specs.Run.{Frac}
-use Rattle.gkr.specs.Sizes.{challenges, proof-bytes, point-words}
+use Rattle.gkr.specs.Sizes.{proof-bytes, point-words}
 use Rattle.refusal.specs.Limits.{maxRows}
 use Rattle.refusal.specs.declared.Proving.{Proving}
 use Rattle.refusal.specs.declared.Refusal.the-variants.{RaggedRows, TooManyRows, NotPowerOfTwo, ShortChallenges, ShortRoom, BadWord, ZeroDenominator}
 use Rattle.refusal.specs.Tests.{Test, Tested, passed, refused, test, firstOf}
-use Rattle.sizes.specs.Sizes.{rowCount, roundsOf, isSize, logRoom, workRoom}
+use Rattle.sizes.specs.Sizes.{rowCount, roundsOf, isSize, neededWords, logRoom, workRoom}
 use Rattle.wire.specs.Words.{allCanonical}
 use Rattle.prover_tree.specs.Nodes.{node}
 use Rattle.prover_gate.specs.declared.Gate.{Gate}
@@ -52,7 +52,7 @@ lowest rows (suc left) i = cond (degenerate (node rows i)) i (lowest rows left (
 -- 1 to 7
 abbrev pub tests : Call → Rooms → List Test
 tests c r =
-    let count = rowCount (c .rows) in let n = roundsOf count in let need = 4 * challenges n in let low = lowest (c .rows) count 0 in
+    let count = rowCount (c .rows) in let n = roundsOf count in let need = neededWords (c .modes .drawn) n in let low = lowest (c .rows) count 0 in
     test (not (eqb (length (c .rows) % 8) 0)) RaggedRows
     ∷ test (ltb maxRows count) TooManyRows
     ∷ test (not (isSize count)) NotPowerOfTwo

@@ -87,7 +87,7 @@ pub fn first_refusal(
     if !sizes::fills(count, size) {
         return Gate::Shut(Refusal::NotPowerOfTwo);
     }
-    let need = sizes::challenge_words(size.n);
+    let need = sizes::needed_words(modes.drawn, size.n);
     if challenges.len() < need {
         return Gate::Shut(Refusal::ShortChallenges);
     }

@@ -25,15 +25,17 @@ pub fn most_rows() -> usize
     MAX_ROWS
 }
 
-// How a sheet is proved: whether a row over zero is refused, and whether the sum's numerator must be zero.
+// How a sheet is proved: whether a row over zero is refused, whether the sum's numerator must be zero, and whether challenges are drawn.
 pub struct Proving {
     pub live: bool,
     pub assert_zero: bool,
+    pub drawn: bool,
 }
 
-// How a proof is verified: whether a root over zero is refused.
+// How a proof is verified: whether a root over zero is refused, and whether challenges are drawn.
 pub struct Verifying {
     pub live: bool,
+    pub drawn: bool,
 }
 
 pub enum Refusal {

@@ -42,8 +42,12 @@ fn show_rows(rows: &[u32], count: usize, work: &mut [u32]) {
         Proving {
             live: false,
             assert_zero: true,
+            drawn: false,
         },
-        Verifying { live: false },
+        Verifying {
+            live: false,
+            drawn: false,
+        },
         &challenges,
         &mut proof,
         &mut point,

@@ -2,10 +2,10 @@
 -- Assumes nothing.
 use mathlib.Core.Bool.{Bool, cond, _||_}
 use mathlib.Core.List.{List}
-use Prim.Native.Nat.{ℕ, zero, suc, _/_, _^_}
+use Prim.Native.Nat.{ℕ, zero, suc, _*_, _/_, _^_}
 use lib.Dec.{eqb, leb}
 use lib.ListN.{length}
-use Rattle.gkr.specs.Sizes.{log-words, workspace-words}
+use Rattle.gkr.specs.Sizes.{challenges, log-words, workspace-words}
 use Rattle.refusal.specs.Limits.{maxRounds}
 
 -- eight words a row
@@ -23,6 +23,10 @@ roundsOf count = roundsFrom maxRounds 0 count
 -- 0 or a power of two
 unfoldable pub isSize : ℕ → Bool
 isSize count = eqb count 0 || eqb count (2 ^ roundsOf count)
+
+-- the words of challenges that n rounds take from those lent: none where they are drawn
+abbrev pub neededWords : (drawn : Bool) (n : ℕ) → ℕ
+neededWords drawn n = cond drawn 0 (4 * challenges n)
 
 -- 0 or 1 row takes no rounds, and needs no log and no workspace
 abbrev pub logRoom : (asserted : Bool) (n : ℕ) → ℕ

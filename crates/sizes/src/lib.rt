@@ -3,7 +3,7 @@ ghost use mathlib.Core.Path.{_≡_};
 ghost use Prim.Native.Nat.{_*_, _^_, _≤_};
 ghost use Rattle.gkr.specs.Sizes as Sizes;
 ghost use Rattle.refusal.specs.Limits.{maxRounds};
-ghost use Rattle.sizes.specs.Sizes.{roundsOf, isSize, logRoom, workRoom};
+ghost use Rattle.sizes.specs.Sizes.{roundsOf, isSize, neededWords, logRoom, workRoom};
 
 // n rounds, and the 2^n rows that they take.
 pub struct Size {
@@ -54,6 +54,17 @@ pub fn challenge_words(n: usize) -> usize
         return 0;
     }
     4 * (2 * n - 1 + n * (n - 1) / 2)
+}
+
+// The words of challenges that n rounds take from those lent: none where they are drawn.
+pub fn needed_words(drawn: bool, n: usize) -> usize
+    requires { ⌜ n ≤ maxRounds ⌝ }
+    ensures { λ r. ⌜ r ≡ neededWords drawn n ⌝ }
+{
+    if drawn {
+        return 0;
+    }
+    challenge_words(n)
 }
 
 // The bytes of the stored proof of n rounds.

@@ -1,13 +1,14 @@
--- What stands beside `verified`: isolation, what a refusal leaves, live mode.
+-- What stands beside `verified`: isolation, what a refusal leaves, live mode, drawn challenges.
 -- Assumes nothing.
 use mathlib.Core.Path.{_≡_}
 use mathlib.Core.Bool.{Bool, true, false}
 use mathlib.Core.Logic.{_↔_}
-use Prim.Native.Nat.{_-_, _≤_}
+use mathlib.Core.List.{List}
+use Prim.Native.Nat.{ℕ, _-_, _≤_}
 use lib.ListN.{length}
 use Rattle.field.specs.Ext as E
 use Rattle.refusal.specs.declared.Refusal.{Refusal}
-use Rattle.refusal.specs.declared.Refusal.the-variants.{ZeroRoot}
+use Rattle.refusal.specs.declared.Refusal.the-variants.{ShortChallenges, ZeroRoot}
 use Rattle.refusal.specs.Numbers.{reportOf}
 use Rattle.refusal.specs.Tests.{passed, firstOf}
 use Rattle.stored.specs.Parse.{layerCount, entryCount, proofOf}
@@ -32,7 +33,7 @@ pub record Untouched (a : Asked) (b : Lent) : Type 0 where
 -- LIVE MODE
 
 abbrev pub in-mode : (live : Bool) → Asked → Asked
-in-mode live a = asked (a .proof) (a .rounds) (record { live = live }) (a .challenges)
+in-mode live a = asked (a .proof) (a .rounds) (record { live = live; drawn = a .modes .drawn }) (a .challenges)
 
 -- both counts are those of the rounds, and q0 is zero
 pub record ZeroRooted (a : Asked) : Type 0 where
@@ -45,3 +46,8 @@ pub record LiveVerifying (a : Asked) (b : Lent) : Type 0 where
   pub equal : ¬ (verified (in-mode true a) b .answer ≡ Refused ZeroRoot) → verified (in-mode true a) b ≡ verified (in-mode false a) b
   pub given : (verified (in-mode true a) b .answer ≡ Refused ZeroRoot) ↔ ((firstOf (tests (in-mode false a) (length (b .point)) (length (b .log))) ≡ passed) × ZeroRooted a)
   pub sandbox : ¬ (verified (in-mode false a) b .answer ≡ Refused ZeroRoot)
+
+-- DRAWN CHALLENGES: those lent are not read, whatever they are and however many; 4 is never given
+pub record DrawnVerifying (a : Asked) (b : Lent) : Type 0 where
+  pub unread : a .modes .drawn ≡ true → (lent : List ℕ) → verified (asked (a .proof) (a .rounds) (a .modes) lent) b ≡ verified a b
+  pub enough : a .modes .drawn ≡ true → ¬ (verified a b .answer ≡ Refused ShortChallenges)

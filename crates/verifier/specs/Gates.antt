@@ -1,7 +1,7 @@
 -- What the checks before the run tell the run, and what the run leaves.
 -- Assumes nothing.
 use mathlib.Core.Path.{_≡_}
-use mathlib.Core.Bool.{true, false, cond, _&&_}
+use mathlib.Core.Bool.{Bool, true, false, cond, _&&_}
 use mathlib.Core.List.{List, _++_}
 use Prim.Native.Nat.{ℕ, _*_, _≤_}
 use lib.ListN.{length, take, drop}
@@ -9,14 +9,13 @@ use Rattle.field.specs.Ext as E
 use Rattle.field.specs.Extension.{Extension}
 use Rattle.field.specs.Cells.{Clean}
 use Rattle.gkr.specs.Transcripts.{Source, empty}
-use Rattle.gkr.specs.Sizes.{challenges}
 use Rattle.gkr.specs.Gkr as Gkr
 use Rattle.transcript.specs.declared.Pos.{Pos}
 use Rattle.transcript.specs.Log.{Drawing}
 use Rattle.refusal.specs.declared.Verifying.{Verifying}
 use Rattle.refusal.specs.declared.Refusal.the-variants.{BadWord, ZeroRoot}
 use Rattle.refusal.specs.Tests.{passed, refused, firstOf}
-use Rattle.sizes.specs.Sizes.{logRoom}
+use Rattle.sizes.specs.Sizes.{neededWords, logRoom}
 use Rattle.wire.specs.Words.{allCanonical}
 use Rattle.stored.specs.declared.Outline.{Outline}
 use Rattle.stored.specs.Layout.{proofWords}
@@ -40,9 +39,9 @@ wordsGate bs o needs = cond (allCanonical (proofWords (proofOf bs))) (cond (allC
 abbrev pub rootGate : (modes : Verifying) (bs : List ℕ) (n : ℕ) (o : Outline) → Gate
 rootGate modes bs n o = cond (modes .live && (counted bs n && overZero bs)) (Shut ZeroRoot) (Open o)
 
--- without the mode; the run does not look at it
-abbrev pub sandbox : Verifying
-sandbox = record { live = false }
+-- without live mode; the run does not look at it
+abbrev pub sandbox : (drawn : Bool) → Verifying
+sandbox drawn = record { live = false; drawn = drawn }
 
 -- nothing is refused before the run, and the bytes have this outline
 pub record Opened (a : Asked) (points logs : ℕ) (o : Outline) : Type 0 where
@@ -54,13 +53,13 @@ Gated a points logs (Open o) = Opened a points logs o
 Gated a points logs (Shut e) = firstOf (tests a points logs) ≡ refused e
 
 -- what the run asks
-pub record Ready (bs pt lg ch : List ℕ) (n : ℕ) (o : Outline) : Type 0 where
+pub record Ready (bs pt lg ch : List ℕ) (drawn : Bool) (n : ℕ) (o : Outline) : Type 0 where
   pub some : 1 ≤ n
   pub shaped : Shaped bs o
   pub canon : allCanonical (proofWords (proofOf bs)) ≡ true
   pub room : 4 * n ≤ length pt
   pub log-room : logRoom true n ≤ length lg
-  pub chals : 4 * challenges n ≤ length ch
+  pub chals : neededWords drawn n ≤ length ch
   pub points : Clean pt
   pub clean : Clean ch
 

@@ -7,17 +7,16 @@ use lib.Dec.{eqb, ltb}
 use lib.ListN.{length, getD, take}
 use Rattle.field.specs.Ext as E
 use Rattle.field.specs.Extension.{Extension}
-use Rattle.gkr.specs.Sizes.{challenges}
 use Rattle.gkr.specs.Gkr as Gkr
 use Rattle.gkr.specs.Transcripts.{empty, Source}
-use Rattle.transcript.specs.Source.{supplied}
+use Rattle.transcript.specs.Source.{source}
 use Rattle.transcript.specs.Log.{Drawing}
 use Rattle.refusal.specs.Limits.{maxRounds}
 use Rattle.refusal.specs.declared.Verifying.{Verifying}
 use Rattle.refusal.specs.declared.Refusal.the-variants.{ShortChallenges, ShortRoom, BadWord, ZeroRounds, TooManyRounds, BadVersion, BadLength, ZeroRoot}
 use Rattle.refusal.specs.Tests.{Test, Tested, passed, refused, test, firstOf}
 use Rattle.refusal.specs.Fronts.{over}
-use Rattle.sizes.specs.Sizes.{logRoom}
+use Rattle.sizes.specs.Sizes.{neededWords, logRoom}
 use Rattle.wire.specs.Words.{allCanonical}
 use Rattle.stored.specs.Layout.{proofWords}
 use Rattle.stored.specs.Parse.{layerCount, entryCount, fits, proofOf}
@@ -26,7 +25,7 @@ use Rattle.verifier_round.specs.declared.Verdict.{Verdict}
 use Rattle.verifier_round.specs.declared.Verdict.the-variants.{Refused}
 use Rattle.verifier_round.specs.Verdicts.{Model, answerOf, pointOf, loggedBy}
 
--- what a call is given: a proof's bytes, the rounds, live or sandbox, and challenge words, four a challenge
+-- what a call is given: a proof's bytes, the rounds, the modes of verifying, and challenge words, four a challenge
 pub record Asked : Type 0 where
   pub proof : List ℕ
   pub rounds : ℕ
@@ -52,9 +51,12 @@ pub record Outcome : Type 0 where
 abbrev pub outcome : Verdict → (point log : List ℕ) → Outcome
 outcome answer point log = record { answer = answer; buffers = lent point log }
 
--- the needed challenges
+-- the needed challenges, and where a run's come from
 abbrev pub needed : Asked → List ℕ
-needed a = take (4 * challenges (a .rounds)) (a .challenges)
+needed a = take (neededWords (a .modes .drawn) (a .rounds)) (a .challenges)
+
+abbrev pub sourceOf : Asked → Source E.Ext
+sourceOf a = source (a .modes .drawn) (needed a)
 
 -- both counts are those of the rounds
 abbrev pub counted : (proof : List ℕ) (rounds : ℕ) → Bool
@@ -64,7 +66,7 @@ counted proof rounds = eqb (layerCount proof) rounds && eqb (entryCount proof) (
 abbrev pub tests : Asked → (points logs : ℕ) → List Test
 tests a points logs = test (eqb (a .rounds) 0) ZeroRounds
     ∷ test (ltb maxRounds (a .rounds)) TooManyRounds
-    ∷ test (ltb (length (a .challenges)) (4 * challenges (a .rounds))) ShortChallenges
+    ∷ test (ltb (length (a .challenges)) (neededWords (a .modes .drawn) (a .rounds))) ShortChallenges
     ∷ test (ltb points (4 * a .rounds) || ltb logs (logRoom true (a .rounds))) ShortRoom
     ∷ test (not (eqb (getD (a .proof) 0 0) 1)) BadVersion
     ∷ test (not (fits (a .proof))) BadLength
@@ -79,7 +81,7 @@ ended ch v = outcome (answerOf ch v) (pointOf ch v) (loggedBy ch v)
 -- what a call answers and writes: nothing where it is refused before the run, else what the model's verifier does over an empty log
 abbrev pub fronts : Asked → Tested → Outcome
 fronts a (refused e) = outcome (Refused e) [] []
-fronts a passed = let ch = supplied (needed a) in ended ch (Gkr.verify-gkr Extension (Drawing ch) (a .rounds) (decoded (proofOf (a .proof))) empty)
+fronts a passed = let ch = sourceOf a in ended ch (Gkr.verify-gkr Extension (Drawing ch) (a .rounds) (decoded (proofOf (a .proof))) empty)
 
 -- written at the fronts of the buffers, the rest as before
 abbrev pub laid : Outcome → Lent → Outcome

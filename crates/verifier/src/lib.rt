@@ -38,8 +38,15 @@ fn check_words(proof: &[u8], outline: Outline, needs: &[u32]) -> Gate
 }
 
 // The first refusal of the sandbox, in document 01's order.
-fn check(proof: &[u8], rounds: usize, challenges: &[u32], points: usize, logs: usize) -> Gate
-    ensures { λ r. ⌜ Gated (asked (now (proof .entry)) rounds sandbox (now (challenges .entry))) points logs r ⌝ }
+fn check(
+    proof: &[u8],
+    rounds: usize,
+    drawn: bool,
+    challenges: &[u32],
+    points: usize,
+    logs: usize,
+) -> Gate
+    ensures { λ r. ⌜ Gated (asked (now (proof .entry)) rounds (sandbox drawn) (now (challenges .entry))) points logs r ⌝ }
 {
     if rounds == 0 {
         return Gate::Shut(Refusal::ZeroRounds);
@@ -47,7 +54,7 @@ fn check(proof: &[u8], rounds: usize, challenges: &[u32], points: usize, logs: u
     if refusal::MAX_ROUNDS < rounds {
         return Gate::Shut(Refusal::TooManyRounds);
     }
-    let needs = sizes::challenge_words(rounds);
+    let needs = sizes::needed_words(drawn, rounds);
     if challenges.len() < needs {
         return Gate::Shut(Refusal::ShortChallenges);
     }
@@ -94,7 +101,7 @@ fn admit(
 ) -> Gate
     ensures { λ r. ⌜ Gated (asked (now (proof .entry)) rounds modes (now (challenges .entry))) points logs r ⌝ }
 {
-    match check(proof, rounds, challenges, points, logs) {
+    match check(proof, rounds, modes.drawn, challenges, points, logs) {
         Gate::Shut(refusal) => Gate::Shut(refusal),
         Gate::Open(outline) => check_root(proof, rounds, modes, outline),
     }
@@ -110,7 +117,7 @@ fn verify_counted(
     challenges: &[u32],
     pos: Pos,
 ) -> Advance
-    requires { ⌜ Ready (now proof) (now xi) (now log) (now challenges) rounds outline × Starts pos ⌝ }
+    requires { ⌜ Ready (now proof) (now xi) (now log) (now challenges) (pos .drawn) rounds outline × Starts pos ⌝ }
     ensures { λ r. ⌜ Counted (now (proof .entry)) (now (xi .exit)) (now (log .entry)) (now (log .exit)) (source (pos .drawn) (now (challenges .entry))) rounds pos r ⌝ }
 {
     let layers = outline.layers;
@@ -186,16 +193,17 @@ fn run(
     proof: &[u8],
     rounds: usize,
     outline: Outline,
+    drawn: bool,
     challenges: &[u32],
     point: &mut [u32],
     log: &mut [u32],
 ) -> Verdict
-    requires { ⌜ Opened (asked (now proof) rounds sandbox (now challenges)) (length (now point)) (length (now log)) outline ⌝ }
+    requires { ⌜ Opened (asked (now proof) rounds (sandbox drawn) (now challenges)) (length (now point)) (length (now log)) outline ⌝ }
     ensures { λ r. ⌜ outcome r (now (point .exit)) (now (log .exit))
-        ≡ verified (asked (now (proof .entry)) rounds sandbox (now (challenges .entry))) (lent (now (point .entry)) (now (log .entry))) ⌝ }
+        ≡ verified (asked (now (proof .entry)) rounds (sandbox drawn) (now (challenges .entry))) (lent (now (point .entry)) (now (log .entry))) ⌝ }
 {
-    let pos = transcript::start(false);
-    let needs = sizes::challenge_words(rounds);
+    let pos = transcript::start(drawn);
+    let needs = sizes::needed_words(drawn, rounds);
     let mut xi = [0u32; 4 * refusal::MAX_ROUNDS];
     let end = verify_counted(
         proof,
@@ -224,6 +232,6 @@ pub fn verify_gkr(
 {
     match admit(proof, rounds, modes, challenges, point.len(), log.len()) {
         Gate::Shut(refusal) => Verdict::Refused(refusal),
-        Gate::Open(outline) => run(proof, rounds, outline, challenges, point, log),
+        Gate::Open(outline) => run(proof, rounds, outline, modes.drawn, challenges, point, log),
     }
 }

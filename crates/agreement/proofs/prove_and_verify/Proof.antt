@@ -49,7 +49,7 @@ same-length-6 c = search needs
 returns : tie.Need-returns
 returns c =
     let t = joined-proved _ _ _ _ (c .before .before .before .before .before .before .before .before .before .before .before .before .before .before .before .before .before .before .before .before .fractional-sumcheck .ensures) (c .before .before .before .before .before .before .before .before .before .before .rounds .given .1) (c .before .before .before .before .before .before .before .before .proof-bytes .ensures) (c .before .before .before .before .verify-gkr .ensures) in
-    (t, λ n h a z r s. agrees _ _ _ _ _ t n h a z r s)
+    (t, λ n h d a z r s. agrees _ _ _ _ _ t n h d a z r s)
 
 same-length-7 : tie.Need-same-length-7
 same-length-7 c = search needs
@@ -64,7 +64,7 @@ same-length-10 : tie.Need-same-length-10
 same-length-10 c = search needs
 
 returns-2 : tie.Need-returns-2
-returns-2 c = let t = joined-refused _ _ _ _ (c .before .before .before .before .before .before .before .before .before .before .before .fractional-sumcheck .ensures) (c .before .refusal .given .1) in (t, λ n h a z r s. agrees _ _ _ _ _ t n h a z r s)
+returns-2 c = let t = joined-refused _ _ _ _ (c .before .before .before .before .before .before .before .before .before .before .before .fractional-sumcheck .ensures) (c .before .refusal .given .1) in (t, λ n h d a z r s. agrees _ _ _ _ _ t n h d a z r s)
 
 pub prove-and-verify-spec : {M : Type 1} → statement M
 prove-and-verify-spec =

@@ -5,8 +5,11 @@ use Rattle.accudrina.proofs.modes.verifying.Tie as tie
 has-requires : tie.Need-has-requires
 has-requires c κs = search needs
 
+has-requires-2 : tie.Need-has-requires-2
+has-requires-2 c κs = search needs
+
 returns : tie.Need-returns
-returns c = λ i. record { live = c .has .ensures i }
+returns c = λ i. record { live = c .before .has .ensures i; drawn = c .has2 .ensures i }
 
 pub verifying-spec : {M : Type 1} → statement M
-verifying-spec = tie.close (tie.spec has-requires returns)
+verifying-spec = tie.close (tie.spec has-requires has-requires-2 returns)

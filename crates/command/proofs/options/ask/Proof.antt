@@ -2,9 +2,19 @@
 -- Assumes nothing.
 use mathlib.Core.Path.{sym, ap}
 use Rattle.command.specs.Meaning.{asked}
+use Rattle.command.proofs.Folding.{asks-mode}
 use borrow.Author.Needs.{needs}
 use Rattle.command.proofs.options.ask.Statement.{statement}
 use Rattle.command.proofs.options.ask.Tie as tie
+
+enum-known-word : tie.Need-enum-known-word
+enum-known-word c = search needs
+
+set-flag-requires : tie.Need-set-flag-requires
+set-flag-requires c κs = search needs
+
+enum-known-word-2 : tie.Need-enum-known-word-2
+enum-known-word-2 c = search needs
 
 enum-told : tie.Need-enum-told
 enum-told c = search needs
@@ -12,49 +22,28 @@ enum-told c = search needs
 enum-told-2 : tie.Need-enum-told-2
 enum-told-2 c = search needs
 
-enum-told-3 : tie.Need-enum-told-3
-enum-told-3 c = search needs
-
-enum-told-4 : tie.Need-enum-told-4
-enum-told-4 c = search needs
-
-enum-told-5 : tie.Need-enum-told-5
-enum-told-5 c = search needs
-
-enum-told-6 : tie.Need-enum-told-6
-enum-told-6 c = search needs
-
 returns : tie.Need-returns
-returns c = sym (ap (asked (c .before .before .args .o)) (c .enum-told .given .1))
+returns c = asks-mode (c .before .before .before .before .before .before .args .o) _ _ _ (c .before .before .word .given .1) (c .set-flag .ensures)
 
 returns-2 : tie.Need-returns-2
-returns-2 c = sym (ap (asked (c .before .before .args .o)) (c .enum-told2 .given .1))
+returns-2 c = sym (ap (asked (c .before .before .before .before .before .args .o)) (c .before .word2 .given .1))
 
 returns-3 : tie.Need-returns-3
-returns-3 c = sym (ap (asked (c .before .before .args .o)) (c .enum-told3 .given .1))
+returns-3 c = sym (ap (asked (c .before .before .before .before .args .o)) (c .enum-told .given .1))
 
 returns-4 : tie.Need-returns-4
-returns-4 c = sym (ap (asked (c .before .before .args .o)) (c .enum-told4 .given .1))
-
-returns-5 : tie.Need-returns-5
-returns-5 c = sym (ap (asked (c .before .before .args .o)) (c .enum-told5 .given .1))
-
-returns-6 : tie.Need-returns-6
-returns-6 c = sym (ap (asked (c .before .before .args .o)) (c .enum-told6 .given .1))
+returns-4 c = sym (ap (asked (c .before .before .before .before .args .o)) (c .enum-told2 .given .1))
 
 pub ask-spec : {M : Type 1} → statement M
 ask-spec =
     tie.close
     (tie.spec
+    enum-known-word
+    set-flag-requires
+    enum-known-word-2
     enum-told
     enum-told-2
-    enum-told-3
-    enum-told-4
-    enum-told-5
-    enum-told-6
     returns
     returns-2
     returns-3
-    returns-4
-    returns-5
-    returns-6)
+    returns-4)

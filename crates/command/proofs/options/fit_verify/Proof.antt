@@ -6,14 +6,14 @@ use borrow.Author.Needs.{needs}
 use Rattle.command.proofs.options.fit_verify.Statement.{statement}
 use Rattle.command.proofs.options.fit_verify.Tie as tie
 
-is-whole-requires : tie.Need-is-whole-requires
-is-whole-requires c κs = search needs
+fit-requires : tie.Need-fit-requires
+fit-requires c κs = search needs
 
 both-requires : tie.Need-both-requires
 both-requires c κs = search needs
 
 returns : tie.Need-returns
-returns c = both-are _ _ _ _ _ (c .both .ensures) (c .before .is-whole .ensures) refl
+returns c = both-are _ _ _ _ _ (c .both .ensures) (c .before .fit .ensures) refl
 
 pub fit-verify-spec : {M : Type 1} → statement M
-fit-verify-spec = tie.close (tie.spec is-whole-requires both-requires returns)
+fit-verify-spec = tie.close (tie.spec fit-requires both-requires returns)
