@@ -78,16 +78,23 @@ fn verifier(n: usize, challenges: Option<&[u32]>) {
 }
 
 fn layer() {
-    let l = Layer { work: words(7, 32 << 10), eq: 4096, pq: 1024, half: 256 };
+    let begun = words(9, 8).try_into().expect("two elements");
+    let l = Layer { work: words(7, 32 << 10), at: 4096, pq: 1024, half: 256, begun };
     let x = words(8, 4);
     let (sums, fold) = (ours::round_sums(&l), ours::fold(&l, &x));
-    compare("round sums, 512 entries", 1000, || timed(|| sums(&l)), || theirs::round_sums(&l, &[0; 4]));
+    let copied = || Layer { work: l.work.clone(), ..l };
+    let summed = || {
+        let mut m = copied();
+        timed(|| sums(&mut m))
+    };
+    compare("round sums, 512 entries", 1000, summed, || theirs::round_sums(&l, &[0; 4]));
     let folded = || {
-        let mut m = Layer { work: l.work.clone(), ..l };
+        let mut m = copied();
+        sums(&mut m);
         let (t, ()) = timed(|| fold(&mut m, &x));
         (t, theirs::columns(&m, m.half))
     };
-    compare("fold, 5 columns of 512 entries", 1000, folded, || theirs::fold(&l, &x));
+    compare("fold, 4 columns of 512 entries", 1000, folded, || theirs::fold(&l, &x));
 }
 
 fn products() {

@@ -16,9 +16,9 @@ extern "C" {
     fn field_bench_chain(a: u32, b: u32, n: usize) -> u32;
     fn field_bench_chains(a: u32, b: u32, n: usize) -> u32;
     fn layer_bench_round_sums(
-        work: *const u32, work_len: usize, eq: usize, pq: usize, half: usize, out: *mut u32, out_len: usize,
+        work: *mut u32, work_len: usize, at: usize, pq: usize, half: usize, begun: *const u32, begun_len: usize, out: *mut u32, out_len: usize,
     );
-    fn layer_bench_fold(work: *mut u32, work_len: usize, eq: usize, pq: usize, half: usize, rho: *const u32, rho_len: usize);
+    fn layer_bench_fold(work: *mut u32, work_len: usize, pq: usize, half: usize, rho: *const u32, rho_len: usize);
 }
 
 const LIVE: u32 = 1;
@@ -80,31 +80,34 @@ pub fn chains(a: u32, b: u32, n: usize) -> u32 {
     unsafe { field_bench_chains(a, b, n) }
 }
 
-/// The columns of a layer as they stand in a workspace: the claims from node `pq` on, the eq table from cell `eq` on.
+/// The claims of a layer as they stand in a workspace, from node `pq` on, and half as many weights from cell `at` on;
+/// `begun`: eq of the coordinates so far, and the coordinate of this sub-round.
 pub struct Layer {
     pub work: Vec<u32>,
-    pub eq: usize,
+    pub at: usize,
     pub pq: usize,
     pub half: usize,
+    pub begun: [u32; 8],
 }
 
 /// All that the inner functions ask for of their caller is tested here.
 fn fits(l: &Layer, x: &[u32]) {
-    assert!(2 * l.pq + 8 * l.half <= l.eq && 4 * (l.eq + 2 * l.half) <= l.work.len() && x.len() >= 4);
-    assert!(l.work.iter().chain(x).all(|&w| w < p3_field::P));
+    assert!(2 * l.pq + 8 * l.half <= l.at && 4 * (l.at + l.half) <= l.work.len() && x.len() >= 4);
+    assert!(l.work.iter().chain(&l.begun).chain(x).all(|&w| w < p3_field::P));
 }
 
-/// Over weighed claims: lambda is in p1 already.
-pub fn round_sums(l: &Layer) -> impl Fn(&Layer) -> [u32; 12] {
+/// Over weighed claims: lambda is in p1 already. Every odd entry becomes a difference.
+pub fn round_sums(l: &Layer) -> impl Fn(&mut Layer) -> [u32; 12] {
     fits(l, &[0; 4]);
     |l| {
         let mut out = [0; 12];
-        unsafe { layer_bench_round_sums(l.work.as_ptr(), l.work.len(), l.eq, l.pq, l.half, out.as_mut_ptr(), 12) };
+        unsafe { layer_bench_round_sums(l.work.as_mut_ptr(), l.work.len(), l.at, l.pq, l.half, l.begun.as_ptr(), 8, out.as_mut_ptr(), 12) };
         out
     }
 }
 
+/// Over the differences that the sums leave.
 pub fn fold(l: &Layer, rho: &[u32]) -> impl Fn(&mut Layer, &[u32]) {
     fits(l, rho);
-    |l, rho| unsafe { layer_bench_fold(l.work.as_mut_ptr(), l.work.len(), l.eq, l.pq, l.half, rho.as_ptr(), rho.len()) }
+    |l, rho| unsafe { layer_bench_fold(l.work.as_mut_ptr(), l.work.len(), l.pq, l.half, rho.as_ptr(), rho.len()) }
 }

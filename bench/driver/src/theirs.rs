@@ -78,18 +78,19 @@ pub fn verify(proof: &GkrProof<SC>, n: usize, challenges: Option<&[u32]>) -> (f6
     (t, (point, log))
 }
 
-/// The first `n` entries of eq, p0, q0, p1, q1, one column after another.
+/// The first `n` entries of p0, q0, p1, q1, one column after another.
 pub fn columns(l: &Layer, n: usize) -> Vec<u32> {
     let cell = |i: usize| l.work[4 * i..4 * i + 4].to_vec();
-    let eq = (0..n).map(|y| cell(l.eq + y));
-    let pq = (0..4).flat_map(|j| (0..n).map(move |y| 2 * l.pq + 4 * y + j)).map(cell);
-    eq.chain(pq).flatten().collect()
+    (0..4).flat_map(|j| (0..n).map(move |y| 2 * l.pq + 4 * y + j)).flat_map(cell).collect()
 }
 
+/// eq as a column over this sub-round's variable too, and the four columns of claims.
 fn matrices(l: &Layer) -> (ColMajorMatrix<Ext>, ColMajorMatrix<Ext>) {
-    let mut all: Vec<Ext> = columns(l, 2 * l.half).chunks(4).map(ext).collect();
-    let pq = all.split_off(2 * l.half);
-    (ColMajorMatrix::new(all, 1), ColMajorMatrix::new(pq, 4))
+    let (c, x) = (ext(&l.begun[..4]), ext(&l.begun[4..]));
+    let weight = |y: usize| ext(&l.work[4 * (l.at + y)..4 * (l.at + y) + 4]);
+    let eq = (0..l.half).flat_map(|y| [(c - c * x) * weight(y), c * x * weight(y)]).collect();
+    let pq = columns(l, 2 * l.half).chunks(4).map(ext).collect();
+    (ColMajorMatrix::new(eq, 1), ColMajorMatrix::new(pq, 4))
 }
 
 pub fn round_sums(l: &Layer, lambda: &[u32]) -> (f64, [u32; 12]) {
@@ -105,9 +106,9 @@ pub fn round_sums(l: &Layer, lambda: &[u32]) -> (f64, [u32; 12]) {
 }
 
 pub fn fold(l: &Layer, rho: &[u32]) -> (f64, Vec<u32>) {
-    let (rho, (eq, pq)) = (ext(rho), matrices(l));
-    let (t, (eq, pq)) = timed(|| (fold_mle_evals(eq, rho), fold_mle_evals(pq, rho)));
-    (t, (0..4).fold(flat(eq.column(0)), |all, j| [all, flat(pq.column(j))].concat()))
+    let (rho, (_, pq)) = (ext(rho), matrices(l));
+    let (t, pq) = timed(|| fold_mle_evals(pq, rho));
+    (t, (0..4).flat_map(|j| flat(pq.column(j))).collect())
 }
 
 pub fn chain(mut x: Ext, y: Ext, n: usize) -> u32 {

@@ -2,3 +2,6 @@
 pub mod Weights
 pub mod Entries
 pub mod Agree
+pub mod Heaps
+pub mod Saying
+pub mod Passing

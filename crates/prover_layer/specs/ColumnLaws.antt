@@ -1,4 +1,4 @@
--- No second workspace fits a fold in place or claims that are weighed: both say what every cell holds. A lent slice keeps its length.
+-- No second workspace fits claims that are weighed: they say what every cell holds. A lent slice keeps its length.
 -- Assumes nothing.
 use mathlib.Core.Path.{_≡_, sym, _∙_, ap}
 use mathlib.Core.List.{List}
@@ -11,7 +11,7 @@ use Rattle.field.specs.Cells.{cell}
 use Rattle.field.specs.CellLaws.{cells-unique}
 use Rattle.multilinear.specs.RoundSum.{Claims}
 use Rattle.prover_tree.specs.NodeLaws.{below-or-not}
-use Rattle.prover_layer.specs.Columns.{claims, Weighed, Folded}
+use Rattle.prover_layer.specs.Columns.{claims, Weighed}
 
 -- the cells of entry y
 claims-cell : (l m : List ℕ) (b y r : ℕ) → r < 4 → claims l b y ≡ claims m b y → cell l (2 * b + 4 * y + r) ≡ cell m (2 * b + 4 * y + r)
@@ -22,7 +22,7 @@ claims-cell l m b y (suc (suc (suc zero))) h e = let q : 2 * b + 4 * y + 3 ≡ 2
 claims-cell l m b y (suc (suc (suc (suc r)))) h e = absurd (omega arith)
 
 -- the cells of the first n entries
-in-nodes : (l m : List ℕ) (b n : ℕ) → ((y : ℕ) → y < n → claims l b y ≡ claims m b y) → (j : ℕ) → 2 * b ≤ j → j < 2 * b + 4 * n → cell l j ≡ cell m j
+pub in-nodes : (l m : List ℕ) (b n : ℕ) → ((y : ℕ) → y < n → claims l b y ≡ claims m b y) → (j : ℕ) → 2 * b ≤ j → j < 2 * b + 4 * n → cell l j ≡ cell m j
 in-nodes l m b n h j u v =
     let y : ℕ = (j - 2 * b) / 4 in
     let r : ℕ = (j - 2 * b) % 4 in
@@ -30,22 +30,6 @@ in-nodes l m b n h j u v =
     let q : 2 * b + 4 * y + r ≡ j = omega arith in
     let w : y < n = omega arith in
     ap (cell l) (sym q) ∙ claims-cell l m b y r (omega arith) (h y w) ∙ ap (cell m) q
-
-pub folded-unique : {ws l m : List ℕ} {at b n : ℕ} {rho : E.Ext} → length l ≡ length m → Folded ws l at b n rho → Folded ws m at b n rho → l ≡ m
-folded-unique {ws} {l} {m} {at} {b} {n} e h h' = cells-unique l m (h .clean) (h' .clean) e here
-  where
-    in-eq : (j : ℕ) → at ≤ j → j < at + n → cell l j ≡ cell m j
-    in-eq j u v =
-        let q : at + (j - at) ≡ j = omega arith in
-        let w : j - at < n = omega arith in
-        ap (cell l) (sym q) ∙ h .eq (j - at) w ∙ sym (h' .eq (j - at) w) ∙ ap (cell m) q
-
-    here : (j : ℕ) → cell l j ≡ cell m j
-    here j =
-        below-or-not j (2 * b) (λ u. h .low j u ∙ sym (h' .low j u))
-        (λ u. below-or-not j (2 * b + 4 * n) (in-nodes l m b n (λ y w. h .nodes y w ∙ sym (h' .nodes y w)) j u)
-        (λ v. below-or-not j at (λ w. h .mid j v w ∙ sym (h' .mid j v w))
-        (λ w. below-or-not j (at + n) (in-eq j w) (λ x. h .high j x ∙ sym (h' .high j x)))))
 
 pub weighed-unique : {ws l m : List ℕ} {b n : ℕ} {lambda : E.Ext} → length l ≡ length m → Weighed ws l b n lambda → Weighed ws m b n lambda → l ≡ m
 weighed-unique {ws} {l} {m} {b} {n} e h h' =

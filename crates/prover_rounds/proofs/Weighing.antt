@@ -1,15 +1,17 @@
 -- Over weighed claims, with a lambda of nothing, the sub-rounds send what they send over the claims with lambda.
 -- Assumes nothing.
-use mathlib.Core.Path.{_≡_, refl, sym, _∙_, ap, subst}
+use mathlib.Core.Path.{_≡_, refl, sym, _∙_, ap, ap₂, subst}
 use mathlib.Core.List.{List, _∷_}
-use Prim.Native.Nat.{ℕ, zero, suc, _+_, _*_, _^_, _<_, _≤_}
+use Prim.Native.Nat.{ℕ, zero, suc, _+_, _*_, _/_, _^_, _<_, _≤_}
 use native.Mathlib.Omega.{arith}
 use lib.Pow.{pow-pos}
 use Rattle.ring.specs.Ring.{num}
 use Rattle.field.specs.Ext as E
 use Rattle.field.specs.ExtRing.{ExtRing}
 use Rattle.field.specs.Extension.{Extension}
+use Rattle.field.specs.Cells.{cells}
 use Rattle.multilinear.specs.Table as Table
+use Rattle.multilinear.specs.TableLaws as TableLaws
 use Rattle.multilinear.specs.RoundSum as RoundSum
 use Rattle.multilinear.specs.RoundSum.{Claims}
 use Rattle.gkr.specs.Run.{Transcript, Cubic}
@@ -17,13 +19,13 @@ use Rattle.gkr.specs.Sumcheck as Sumcheck
 use Rattle.gkr.specs.Transcripts.{Source}
 use Rattle.transcript.specs.declared.Pos.{Pos}
 use Rattle.transcript.specs.Log.{Drawing, logOf}
-use Rattle.transcript.proofs.Logs.{retold}
 use Rattle.step.specs.Values.{minus, weigh}
 use Rattle.step.proofs.Algebra.{line-weighed, weighed-back}
 use Rattle.step.proofs.Pairs.{weighed-cross, numerator-cross}
-use Rattle.prover_layer.specs.Columns.{eqs, claims, Weighed}
+use Rattle.prover_layer.specs.declared.Turn.{Turn}
+use Rattle.prover_layer.specs.Columns.{claims, Weighed}
 use Rattle.prover_layer.proofs.Agree.{send-same}
-use Rattle.prover_rounds.specs.SubRounds.{sends, SubRounds}
+use Rattle.prover_rounds.specs.SubRounds.{sends, faced, Facing, SubRounds}
 
 abbrev weighs : E.Ext → (ℕ → Claims E.Ext) → ℕ → Claims E.Ext
 weighs l c y = weigh l (c y)
@@ -94,22 +96,42 @@ weigh-back l n c e = λ i. record {
   q1 = c .q1;
 }
 
--- weighed before, taken back after
-pub weighed-rounds : (ws ws₁ ws₂ ws₃ pt pt' lg lg' : List ℕ) {ls ls' : List ℕ} (ch : Source E.Ext) (at b k size : ℕ) (l n : E.Ext) (pos pos' : Pos) → size ≡ 2 ^ k → 2 * b + 4 * size ≤ at → n ≡ minus E.nil l
-    → Weighed ws ws₁ b size l → SubRounds ws₁ ws₂ pt pt' lg lg' ls ls' ch at b k size E.nil pos pos' → Weighed ws₂ ws₃ b 1 n
-    → SubRounds ws ws₃ pt pt' lg lg' ls ls' ch at b k size l pos pos'
-weighed-rounds ws ws₁ ws₂ ws₃ pt pt' lg lg' ch at b k size l n pos pos' z u o w s v =
-    let e : sends ws₁ lg ch at b k E.nil pos ≡ Sumcheck.send Extension (Drawing ch) k E.nil (eqs ws at) (weighs l (claims ws b)) (logOf lg pos) =
-    send-same Extension (Drawing ch) k E.nil (eqs ws₁ at) (eqs ws at) (claims ws₁ b) (weighs l (claims ws b)) (logOf lg pos)
-    (λ y q. w .above (at + y) (omega arith)) (λ y q. w .nodes y (subst (λ n. y < n) (sym z) q)) in
-    let h = send-weighed (Drawing ch) k l (eqs ws at) (claims ws b) (logOf lg pos) in
+-- WEIGHED BEFORE, TAKEN BACK AFTER
+module _ (ws ws₁ : List ℕ) (at b k size : ℕ) (l : E.Ext) (z : size ≡ 2 ^ k) (u : 2 * b + 4 * size ≤ at) (w : Weighed ws ws₁ b size l) where
+  cross-weighed : (i : ℕ) → i < size → RoundSum.cross ExtRing l (claims ws b i) ≡ RoundSum.cross ExtRing E.nil (claims ws₁ b i)
+  cross-weighed i h = sym (weighed-cross l (claims ws b i)) ∙ numerator-cross (weigh l (claims ws b i)) ∙ ap (RoundSum.cross ExtRing E.nil) (sym (w .nodes i h))
+
+  faced-weighed : (off : ℕ) → off < 2 → faced ws (at + size / 2) b off (size / 2) l ≡ faced ws₁ (at + size / 2) b off (size / 2) E.nil
+  faced-weighed off h = TableLaws.sum-below ExtRing (size / 2) _ _ (λ y v. ap₂ E.mul (sym (w .above (at + size / 2 + y) (omega arith))) (cross-weighed (2 * y + off) (omega arith)))
+
+  pub facing-weighed : (pt : List ℕ) (t : Turn) → Facing ws pt at b k (size / 2) l t → Facing ws₁ pt at b k (size / 2) E.nil t
+  facing-weighed pt t F = record {
+    heap = λ i y v h. w .above (at + 2 ^ i + y) (omega arith) ∙ F .heap i y v h;
+    c = F .c;
+    x = F .x;
+    h0 = F .h0 ∙ faced-weighed 0 (omega arith);
+    h1 = F .h1 ∙ faced-weighed 1 (omega arith);
+  }
+
+pub weighed-rounds : (ws ws₁ ws₂ ws₃ pt pt' lg lg' : List ℕ) {ls ls' : List ℕ} (ch : Source E.Ext) (at b k size : ℕ) (l n : E.Ext) (t : Turn) (pos pos' : Pos) → size ≡ 2 ^ k → 2 * b + 4 * size ≤ at → n ≡ minus E.nil l
+    → Weighed ws ws₁ b size l → SubRounds ws₁ ws₂ pt pt' lg lg' ls ls' ch at b k size E.nil t pos pos' → Weighed ws₂ ws₃ b 1 n
+    → SubRounds ws ws₃ pt pt' lg lg' ls ls' ch at b k size l t pos pos'
+weighed-rounds ws ws₁ ws₂ ws₃ pt pt' lg lg' ch at b k size l n t pos pos' z u o w s v =
+    let g = Table.weight ExtRing (cells pt 0 k) in
+    let e : sends g ws₁ lg ch b k E.nil pos ≡ Sumcheck.send Extension (Drawing ch) k E.nil g (weighs l (claims ws b)) (logOf lg pos) =
+    send-same Extension (Drawing ch) k E.nil g g (claims ws₁ b) (weighs l (claims ws b)) (logOf lg pos) (λ y q. refl) (λ y q. w .nodes y (subst (λ n. y < n) (sym z) q)) in
+    let h = send-weighed (Drawing ch) k l g (claims ws b) (logOf lg pos) in
     let p = pow-pos k in
     record {
       clean = v .clean;
       points = s .points;
-      first = s .first;
-      point = s .point ∙ ap (λ s. s .point) e ∙ h .point;
-      last = v .nodes 0 (omega arith) ∙ ap (weigh n) (s .last ∙ ap (λ s. s .last) e ∙ h .last) ∙ weigh-back l n (sends ws lg ch at b k l pos .last) o;
-      steps = retold lg lg' pos pos' (16 * k) k (16 * k) k _ _ refl refl (ap (λ s. s .log) e ∙ h .log) (s .steps);
-      kept = λ i a c. v .above i (omega (arith, p)) ∙ s .kept i a c ∙ w .above i a;
+      steps = s .steps;
+      kept = λ i a. v .above i (omega (arith, p)) ∙ s .kept i a ∙ w .above i a;
+      sent = λ F.
+          let S = s .sent (facing-weighed ws ws₁ at b k size l z u w pt t F) in
+          record {
+            point = S .point ∙ ap (λ s. s .point) e ∙ h .point;
+            last = v .nodes 0 (omega arith) ∙ ap (weigh n) (S .last ∙ ap (λ s. s .last) e ∙ h .last) ∙ weigh-back l n (sends g ws lg ch b k l pos .last) o;
+            log = S .log ∙ ap (λ s. s .log) e ∙ h .log;
+          };
     }

@@ -9,6 +9,7 @@ use Rattle.field.specs.ExtRing.{ExtRing}
 use Rattle.field.specs.Extension.{Extension}
 use Rattle.field.specs.Cells.{cell, Clean, Stored, cells}
 use Rattle.multilinear.specs.Table as Table
+use Rattle.multilinear.specs.RoundSum as RoundSum
 use Rattle.multilinear.specs.RoundSum.{Claims}
 use Rattle.gkr.specs.Run.{Frac}
 use Rattle.gkr.specs.Transcripts.{Words, Source}
@@ -40,12 +41,23 @@ layerSends ws pt lg ch b k pos =
 abbrev pub layerTold : (ws pt lg : List ℕ) (ch : Source E.Ext) (b k : ℕ) (pos : Pos) → Words
 layerTold ws pt lg ch b k pos = let P = layerSends ws pt lg ch b k pos in Gkr.observe-layer-claims Extension (Drawing ch) (P .last) (P .log)
 
+-- the claims of the layer before, on nodes size and size + 1, are the values at the point, but for its first coordinate, of the sums of the claims on the nodes from 2 * size on
+abbrev pub Opened : (ws pt : List ℕ) (k size : ℕ) → Type 0
+Opened ws pt k size = claims ws size 0 ≡ RoundSum.values ExtRing (Tree.children ExtRing (λ i. Tree.compute-recursive-relations ExtRing (claims ws (2 * size) i))) (cells pt 1 (k - 1))
+
+-- the model's mu, rhos, last claims and log
+pub record LayerSent (ws ws' pt pt' lg lg' : List ℕ) (ch : Source E.Ext) (k size : ℕ) (pos pos' : Pos) : Type 0 where
+  pub mu : cell pt' 0 ≡ ch (layerTold ws pt lg ch (2 * size) k pos)
+  pub point : cells pt' 1 k ≡ layerSends ws pt lg ch (2 * size) k pos .point
+  pub last : claims ws' (2 * size) 0 ≡ layerSends ws pt lg ch (2 * size) k pos .last
+  pub log : logOf lg' pos' ≡ Drawing ch .drawn (layerTold ws pt lg ch (2 * size) k pos)
+
 pub record OneLayer (ws ws' pt pt' lg lg' ls ls' : List ℕ) (ch : Source E.Ext) (at k size : ℕ) (pos pos' : Pos) : Type 0 where
   pub clean : Clean ws'
   pub points : Clean pt'
-  pub point : cells pt' 0 (suc k) ≡ ch (layerTold ws pt lg ch (2 * size) k pos) ∷ layerSends ws pt lg ch (2 * size) k pos .point
-  pub steps : Steps lg lg' ls ls' pos pos' (16 * k + 24) (k + 2) (Drawing ch .drawn (layerTold ws pt lg ch (2 * size) k pos))
+  pub steps : Steps lg lg' ls ls' pos pos' (16 * k + 24) (k + 2) (logOf lg' pos')
   pub kept : (i : ℕ) → 8 * size ≤ i → i < at → cell ws' i ≡ cell ws i
+  pub sent : Opened ws pt k size → LayerSent ws ws' pt pt' lg lg' ch k size pos pos'
 
 -- the levels below level r are the model's tree over the rows f
 pub record Levels (f : ℕ → Frac E.Ext) (ws : List ℕ) (n r : ℕ) : Type 0 where
@@ -67,6 +79,7 @@ runs f pt lg ch h r pos = Gkr.send Extension (Drawing ch) f h (cells pt 0 r) (lo
 -- After the layers below r, with h still to come, the model goes on from here to where it goes from layer 1.
 pub record Running (f : ℕ → Frac E.Ext) (ws pt₀ pt lg₀ lg : List ℕ) (ch : Source E.Ext) (n r h g : ℕ) (pos₀ pos : Pos) : Type 0 where
   pub levels : Levels f ws n r
+  pub before : claims ws (2 ^ r) 0 ≡ RoundSum.values ExtRing (Tree.children ExtRing (Tree.tree ExtRing f h)) (cells pt 1 (r - 1))
   pub point : runs f pt lg ch h r pos .point ≡ runs f pt₀ lg₀ ch g 1 pos₀ .point
   pub log : runs f pt lg ch h r pos .log ≡ runs f pt₀ lg₀ ch g 1 pos₀ .log
 
@@ -87,4 +100,4 @@ pub record Midway (ws₀ ws pt₀ pt lg₀ lg ls₀ ls : List ℕ) (ch : Source 
   pub drawn : pos .drawn ≡ pos₀ .drawn
   pub rest : drop (pos .put) lg ≡ drop (pos .put) lg₀
   pub enough : (buffer : List ℕ) → Enough lg₀ ls₀ buffer pos₀ (usedUpTo n - usedUpTo 1) → Enough lg ls buffer pos (usedUpTo n - usedUpTo r)
-  pub run : (f : ℕ → Frac E.Ext) (g : ℕ) → n ≡ suc g → Levels f ws₀ n 1 → Running f ws pt₀ pt lg₀ lg ch n r (n - r) g pos₀ pos
+  pub run : (f : ℕ → Frac E.Ext) (g : ℕ) → n ≡ suc g → Levels f ws₀ n 0 → Running f ws pt₀ pt lg₀ lg ch n r (n - r) g pos₀ pos

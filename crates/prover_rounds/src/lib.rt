@@ -5,14 +5,17 @@ ghost use Prim.Native.Nat.{ℕ, suc, _+_, _*_, _-_, _^_, _<_, _≤_};
 ghost use lib.ListN.{length, drop};
 ghost use Rattle.field.specs.Ext as E;
 ghost use Rattle.field.specs.Element.{dec, Canon};
-ghost use Rattle.field.specs.Cells.{Clean};
+ghost use Rattle.field.specs.Cells.{cell, Clean};
 ghost use Rattle.gkr.specs.Run.{Frac as Fraction};
 ghost use Rattle.transcript.specs.Source.{source};
 ghost use Rattle.transcript.specs.Log.{Enough, logOf, Steps};
 ghost use Rattle.step.specs.Values.{CanonFrac, decFrac, CanonThree};
+ghost use Rattle.prover_tree.specs.Nodes.{node};
+ghost use Rattle.prover_layer.specs.Message.{CanonTurn, IsTurn};
 ghost use Rattle.prover_rounds.specs.SubRounds.{observedThree, SubRound, SubRounds};
 ghost use Rattle.prover_rounds.specs.Layers.{observedFrac, Closed, OneLayer, Levels, logUpTo, usedUpTo, AllLayers};
 use field::Ext;
+use prover_layer::Turn;
 use step::Frac;
 use step::Three;
 use transcript::Pos;
@@ -28,12 +31,13 @@ fn observe_round_poly(log: &mut [u32], pos: Pos, s: Three) -> Pos
     transcript::observe_ext(log, b, s.s3)
 }
 
-// One sub-round over weighed claims: its polynomial is observed, rho sampled and kept in cell i of the point, and all columns are folded at rho.
+// One sub-round over weighed claims that begins with t: its polynomial is observed, rho sampled and kept in cell i of the point, and the claims are folded at rho.
 fn sub_round(
     work: &mut [u32],
-    eq: usize,
+    at: usize,
     pq: usize,
     half: usize,
+    t: Turn,
     xi: &mut [u32],
     i: usize,
     log: &mut [u32],
@@ -41,29 +45,30 @@ fn sub_round(
     challenges: &[u32],
     pos: Pos,
 ) -> Pos
-    requires layer { ⌜ (2 * pq + 8 * half ≤ eq) × (4 * (eq + 2 * half) ≤ length (now work)) ⌝ }
+    requires layer { ⌜ (2 * pq + 8 * half ≤ at) × (4 * (at + half) ≤ length (now work)) ⌝ }
     requires room { ⌜ (4 * i + 3 < length (now xi)) × (pos .put + 16 ≤ length (now log)) × Enough (now log) (now lanes) (now challenges) pos 1 ⌝ }
-    requires clean { ⌜ Clean (now work) × Clean (now xi) ⌝ }
-    ensures { λ r. ⌜ ((k : ℕ) → half ≡ 2 ^ k →
-        SubRound (now (work .entry)) (now (work .exit)) (now (xi .entry)) (now (xi .exit)) (now (log .entry)) (now (log .exit)) (now (lanes .entry)) (now (lanes .exit))
-        (source (pos .drawn) (now (challenges .entry))) eq pq k half i E.nil pos r) ⌝ }
+    requires clean { ⌜ Clean (now work) × Clean (now xi) × CanonTurn t ⌝ }
+    ensures { λ r. ⌜ SubRound (now (work .entry)) (now (work .exit)) (now (xi .entry)) (now (xi .exit)) (now (log .entry)) (now (log .exit)) (now (lanes .entry)) (now (lanes .exit))
+        (source (pos .drawn) (now (challenges .entry))) at pq half i t pos r ⌝ }
 {
-    let s = prover_layer::sumcheck_round_poly_evals(work, eq, pq, half);
+    let s = prover_layer::passes::sumcheck_round_poly_evals(work, at, pq, half, t);
     let p = observe_round_poly(log, pos, s);
     let d = transcript::sample_ext(log, lanes, challenges, p);
     let rho = d.x;
     field::store(xi, i, rho);
-    prover_layer::fold_mle_evals(work, eq, pq, half, rho);
+    prover_layer::passes::fold_mle_evals(work, pq, half, rho);
     d.pos
 }
 
-// The sub-rounds of a round over size = 2^round entries with weighed claims; each rho goes into the point behind cell 0, in order.
+// The sub-rounds of a round over size = 2^round entries with weighed claims; each rho goes into the point behind cell 0, in order,
+// after the old coordinate there is read.
 fn weighed_sub_rounds(
     work: &mut [u32],
     eq: usize,
     pq: usize,
     round: usize,
     size: usize,
+    first: Turn,
     xi: &mut [u32],
     log: &mut [u32],
     lanes: &mut [u64; 25],
@@ -73,15 +78,32 @@ fn weighed_sub_rounds(
     requires size { ⌜ size ≡ 2 ^ round ⌝ }
     requires layer { ⌜ (2 * pq + 4 * size ≤ eq) × (4 * (eq + size) ≤ length (now work)) ⌝ }
     requires room { ⌜ (4 * round + 4 ≤ length (now xi)) × (pos .put + 16 * round ≤ length (now log)) × Enough (now log) (now lanes) (now challenges) pos round ⌝ }
-    requires clean { ⌜ Clean (now work) × Clean (now xi) ⌝ }
+    requires clean { ⌜ Clean (now work) × Clean (now xi) × CanonTurn first ⌝ }
     ensures { λ r. ⌜ SubRounds (now (work .entry)) (now (work .exit)) (now (xi .entry)) (now (xi .exit)) (now (log .entry)) (now (log .exit)) (now (lanes .entry)) (now (lanes .exit))
-        (source (pos .drawn) (now (challenges .entry))) eq pq round size E.nil pos r ⌝ }
+        (source (pos .drawn) (now (challenges .entry))) eq pq round size E.nil first pos r ⌝ }
 {
     let mut p = pos;
-    let mut half = size;
+    let mut t = first;
+    let mut half = size / 2;
     for j in 0..round {
+        let i = j + 1;
+        let x = field::load(xi, i);
+        p = sub_round(
+            work,
+            eq + half,
+            pq,
+            half,
+            t,
+            xi,
+            i,
+            log,
+            lanes,
+            challenges,
+            p,
+        );
+        let rho = field::load(xi, i);
         half = half / 2;
-        p = sub_round(work, eq, pq, half, xi, j + 1, log, lanes, challenges, p);
+        t = prover_layer::passes::next_turn(work, eq + half, pq, half, t, rho, x);
     }
     p
 }
@@ -94,6 +116,7 @@ fn sub_rounds(
     round: usize,
     size: usize,
     lambda: Ext,
+    first: Turn,
     xi: &mut [u32],
     log: &mut [u32],
     lanes: &mut [u64; 25],
@@ -103,14 +126,44 @@ fn sub_rounds(
     requires size { ⌜ size ≡ 2 ^ round ⌝ }
     requires layer { ⌜ (2 * pq + 4 * size ≤ eq) × (4 * (eq + size) ≤ length (now work)) ⌝ }
     requires room { ⌜ (4 * round + 4 ≤ length (now xi)) × (pos .put + 16 * round ≤ length (now log)) × Enough (now log) (now lanes) (now challenges) pos round ⌝ }
-    requires clean { ⌜ Clean (now work) × Clean (now xi) × Canon lambda ⌝ }
+    requires clean { ⌜ Clean (now work) × Clean (now xi) × Canon lambda × CanonTurn first ⌝ }
     ensures { λ r. ⌜ SubRounds (now (work .entry)) (now (work .exit)) (now (xi .entry)) (now (xi .exit)) (now (log .entry)) (now (log .exit)) (now (lanes .entry)) (now (lanes .exit))
-        (source (pos .drawn) (now (challenges .entry))) eq pq round size (dec lambda) pos r ⌝ }
+        (source (pos .drawn) (now (challenges .entry))) eq pq round size (dec lambda) first pos r ⌝ }
 {
     prover_layer::weigh(work, pq, size, lambda);
-    let p = weighed_sub_rounds(work, eq, pq, round, size, xi, log, lanes, challenges, pos);
+    let p = weighed_sub_rounds(
+        work,
+        eq,
+        pq,
+        round,
+        size,
+        first,
+        xi,
+        log,
+        lanes,
+        challenges,
+        pos,
+    );
     prover_layer::weigh(work, pq, 1, Ext::ZERO.minus(lambda));
     p
+}
+
+// What a round begins with: the claims of the round before, on nodes size and size + 1, batched by lambda, are h at 0 and at 1.
+fn first_turn(work: &[u32], size: usize, lambda: Ext, xi: &[u32]) -> Turn
+    requires room { ⌜ (8 * size + 15 < length (now work)) × (4 ≤ length (now xi)) ⌝ }
+    requires clean { ⌜ Clean (now work) × Clean (now xi) × Canon lambda ⌝ }
+    ensures { λ r. ⌜ IsTurn r E.one (cell (now (xi .entry)) 0)
+        (E.add (E.mul (node (now (work .entry)) size .q) (dec lambda)) (node (now (work .entry)) size .p))
+        (E.add (E.mul (node (now (work .entry)) (size + 1) .q) (dec lambda)) (node (now (work .entry)) (size + 1) .p)) ⌝ }
+{
+    let l = prover_tree::load_node(work, size);
+    let r = prover_tree::load_node(work, size + 1);
+    Turn {
+        c: Ext::ONE,
+        x: field::load(xi, 0),
+        h0: l.q.times_plus(lambda, l.p),
+        h1: r.q.times_plus(lambda, r.p),
+    }
 }
 
 // p, then q, go into the log.
@@ -145,7 +198,7 @@ pub fn close_round(
     d.pos
 }
 
-// Round `round`, over size = 2^round entries: lambda, the eq table of the old point, the sub-rounds, the claims and mu.
+// Round `round`, over size = 2^round entries: lambda, the eq tables of the old point, the sub-rounds, the claims and mu.
 fn gkr_round(
     work: &mut [u32],
     eq: usize,
@@ -157,7 +210,7 @@ fn gkr_round(
     challenges: &[u32],
     pos: Pos,
 ) -> Pos
-    requires size { ⌜ size ≡ 2 ^ round ⌝ }
+    requires size { ⌜ (size ≡ 2 ^ round) × (1 ≤ round) ⌝ }
     requires layer { ⌜ (8 * size ≤ eq) × (4 * (eq + size) ≤ length (now work)) ⌝ }
     requires room { ⌜ (4 * round + 4 ≤ length (now xi)) × (pos .put + 16 * round + 24 ≤ length (now log)) × Enough (now log) (now lanes) (now challenges) pos (round + 2) ⌝ }
     requires clean { ⌜ Clean (now work) × Clean (now xi) ⌝ }
@@ -166,7 +219,8 @@ fn gkr_round(
 {
     let pq = 2 * size;
     let lambda = transcript::sample_ext(log, lanes, challenges, pos);
-    prover_layer::evals_eq_hypercube(work, eq, xi, round, size);
+    let first = first_turn(work, size, lambda.x, xi);
+    prover_layer::heap::eq_heap(work, eq, xi, round);
     let p = sub_rounds(
         work,
         eq,
@@ -174,6 +228,7 @@ fn gkr_round(
         round,
         size,
         lambda.x,
+        first,
         xi,
         log,
         lanes,
@@ -197,7 +252,7 @@ pub fn gkr_rounds(
     requires layer { ⌜ (1 ≤ n) × (4 * 2 ^ n ≤ eq) × (4 * eq + 2 * 2 ^ n ≤ length (now work)) ⌝ }
     requires room { ⌜ (4 * n ≤ length (now xi)) × (pos .put + logUpTo n ≤ length (now log) + logUpTo 1) × Enough (now log) (now lanes) (now challenges) pos (usedUpTo n - usedUpTo 1) ⌝ }
     requires clean { ⌜ Clean (now work) × Clean (now xi) ⌝ }
-    ensures run { λ r. ⌜ ((f : ℕ → Fraction E.Ext) (g : ℕ) → n ≡ suc g → Levels f (now (work .entry)) n 1 →
+    ensures run { λ r. ⌜ ((f : ℕ → Fraction E.Ext) (g : ℕ) → n ≡ suc g → Levels f (now (work .entry)) n 0 →
         AllLayers f (now (xi .entry)) (now (xi .exit)) (now (log .entry)) (now (log .exit)) (source (pos .drawn) (now (challenges .entry))) n g pos r) ⌝ }
     ensures rest { λ r. ⌜ (drop (r .put) (now (log .exit)) ≡ drop (r .put) (now (log .entry))) × (r .put + logUpTo 1 ≡ pos .put + logUpTo n)
         × (r .used + usedUpTo 1 ≡ pos .used + usedUpTo n) × Clean (now (xi .exit)) × Clean (now (work .exit)) ⌝ }

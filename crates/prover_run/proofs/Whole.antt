@@ -60,7 +60,7 @@ firstTold f m ch t = Gkr.observe-layer-claims Extension (Drawing ch) (Tree.child
 
 pub run-of : (ws pt pt' pt'' lg lg₁ lg₂ lg₃ : List ℕ) {ls ls₁ ls₂ : List ℕ} (ch : Source E.Ext) (n : ℕ) (pos p r z : Pos) (q : Ext)
     → Steps lg lg₁ ls ls₁ pos p 4 0 (Observing .observe (dec q) (logOf lg pos)) → Closed ws pt pt' lg₁ lg₂ ls₁ ls₂ ch 2 p r
-    → ((f : ℕ → Frac E.Ext) (g : ℕ) → n ≡ suc g → Levels f ws n 1 → AllLayers f pt' pt'' lg₂ lg₃ ch n g r z)
+    → ((f : ℕ → Frac E.Ext) (g : ℕ) → n ≡ suc g → Levels f ws n 0 → AllLayers f pt' pt'' lg₂ lg₃ ch n g r z)
     → drop (z .put) lg₃ ≡ drop (z .put) lg₂ → r .put ≤ z .put
     → (f : ℕ → Frac E.Ext) (m : ℕ) → n ≡ suc m → Levels f ws n 0 → dec q ≡ Tree.tree ExtRing f (suc m) 0 .q → RunOf f pt'' lg lg₃ ch m pos z
 unfolding Gkr.run
@@ -70,7 +70,7 @@ run-of ws pt pt' pt'' lg lg₁ lg₂ lg₃ ch n pos p r z q s C all e₃ u f m e
     let b : node ws 3 ≡ Tree.tree ExtRing f m 1 = L .holds 1 m 1 (omega arith) (omega arith) (omega arith) in
     let c : claims ws 2 0 ≡ Tree.children ExtRing (Tree.tree ExtRing f m) 0 = (λ i. record { p0 = a i .p; q0 = a i .q; p1 = b i .p; q1 = b i .q }) in
     let t : observedClaims (claims ws 2 0) (logOf lg₁ p) ≡ t₁ = ap₂ observedClaims c (s .log ∙ ap (λ x. Observing .observe x (logOf lg pos)) h) in
-    let A = all f m e (record { holds = λ d k i v w l. L .holds d k i v (omega arith) l }) in
+    let A = all f m e L in
     let on : runs f pt' lg₂ ch m 1 r ≡ Gkr.send Extension (Drawing ch) f m (ch t₁ ∷ []) (Drawing ch .drawn t₁) =
     ap₂ (Gkr.send Extension (Drawing ch) f m) (ap (λ x. x ∷ []) (C .stored .here ∙ ap ch t)) (C .steps .log ∙ ap (Drawing ch .drawn) t) in
     let back : drop (r .put) lg₂ ≡ drop (r .put) lg = C .steps .rest ∙ past lg lg₁ (p .put) (r .put) (omega (arith, C .steps .put)) (s .rest) in

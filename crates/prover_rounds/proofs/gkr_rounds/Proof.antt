@@ -36,7 +36,7 @@ gkr-round-requires c κs =
     let d : 2 * l .size ≤ 2 ^ n = rw (l .inv .3) (double-le (l .round) n t) in
     let u = log-room (l .round) n t in
     let v = used-room (l .round) n t in (
-      l .inv .3,
+      (l .inv .3, m .from),
       (
         (omega (arith, p .0, d), omega (arith, p .0, d, l .inv .0)),
         (

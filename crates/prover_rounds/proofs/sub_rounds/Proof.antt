@@ -2,7 +2,7 @@ use mathlib.Core.Path.{_∙_, ap}
 use lib.Pow.{pow-pos}
 use Rattle.field.specs.Element.{dec}
 use Rattle.step.specs.Values.{minus}
-use Rattle.prover_layer.proofs.Entries.{zero-is}
+use Rattle.field.specs.ElementLaws.{zero-is}
 use Rattle.prover_rounds.proofs.Weighing.{weighed-rounds}
 use native.Mathlib.Omega.{arith}
 use borrow.Author.Needs.{needs}
@@ -20,7 +20,7 @@ weigh-requires c κs = search needs
 weighed-sub-rounds-requires : tie.Need-weighed-sub-rounds-requires
 weighed-sub-rounds-requires c κs =
     let p = c .before .before .before .before .before .before .before .before .before .before .before .before .pre in
-    (p .0, ((p .1 .0 .0, omega (arith, p .1 .0 .1, c .before .before .before .before .before .before .weigh .kept)), (p .1 .1 .0, (c .before .before .before .before .before .before .weigh .ensures .clean, p .1 .1 .1 .1))))
+    (p .0, ((p .1 .0 .0, omega (arith, p .1 .0 .1, c .before .before .before .before .before .before .weigh .kept)), (p .1 .1 .0, (c .before .before .before .before .before .before .weigh .ensures .clean, p .1 .1 .1 .1, p .1 .1 .1 .3))))
 
 minus-requires : tie.Need-minus-requires
 minus-requires c κs = (zero-is .canon, c .before .before .before .before .before .before .before .before .before .before .before .before .before .before .before .before .before .before .before .before .pre .1 .1 .1 .2)
@@ -43,7 +43,7 @@ returns : tie.Need-returns
 returns c =
     let p = c .before .before .before .before .before .before .before .before .before .before .before .before .before .before .before .before .before .before .before .before .before .before .before .before .pre in
     let a = c .before .before .before .before .before .before .before .before .before .before .before .before .before .before .before .before .before .before .before .before .before .before .before .before .args in
-    weighed-rounds _ _ _ _ _ _ _ _ _ (a .eq) (a .pq) (a .round) (a .size) (dec (a .lambda)) _ _ _ (p .0) (p .1 .0 .0) (c .before .before .before .minus .ensures .value ∙ ap (λ z. minus z (dec (a .lambda))) (zero-is .value)) (c .before .before .before .before .before .before .before .before .before .before .before .before .before .before .before .before .before .before .weigh .ensures) (c .before .before .before .before .before .before .before .before .before .before .before .weighed-sub-rounds .ensures) (c .before .before .weigh2 .ensures)
+    weighed-rounds _ _ _ _ _ _ _ _ _ (a .eq) (a .pq) (a .round) (a .size) (dec (a .lambda)) _ _ _ _ (p .0) (p .1 .0 .0) (c .before .before .before .minus .ensures .value ∙ ap (λ z. minus z (dec (a .lambda))) (zero-is .value)) (c .before .before .before .before .before .before .before .before .before .before .before .before .before .before .before .before .before .before .weigh .ensures) (c .before .before .before .before .before .before .before .before .before .before .before .weighed-sub-rounds .ensures) (c .before .before .weigh2 .ensures)
 
 pub sub-rounds-spec : {M : Type 1} → statement M
 sub-rounds-spec =

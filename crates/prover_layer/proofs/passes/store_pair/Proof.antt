@@ -1,17 +1,10 @@
-use Rattle.prover_layer.proofs.Entries.{entry-stored}
+use Rattle.prover_layer.proofs.Passing.{pair-stored}
 use borrow.Author.Needs.{needs}
-use Rattle.prover_layer.proofs.store_entry.Statement.{statement}
-use Rattle.prover_layer.proofs.store_entry.Tie as tie
-use Rattle.prover_layer.proofs.store_entry.Reads as reads
-use Rattle.prover_layer.proofs.store_entry.Lts as lts
-use Rattle.field.proofs.store.Reads as store-reads
+use Rattle.prover_layer.proofs.passes.store_pair.Statement.{statement}
+use Rattle.prover_layer.proofs.passes.store_pair.Tie as tie
+use Rattle.prover_layer.proofs.passes.store_pair.Reads as reads
+use Rattle.prover_layer.proofs.passes.store_pair.Lts as lts
 use Rattle.prover_tree.proofs.store_node.Reads as store-node-reads
-
-add-store : tie.Need-add-store
-add-store c = search needs
-
-store-requires : tie.Need-store-requires
-store-requires c κs = search needs
 
 mul-store-node : tie.Need-mul-store-node
 mul-store-node c = search needs
@@ -38,16 +31,12 @@ same-length : tie.Need-same-length
 same-length c = search needs
 
 returns : tie.Need-returns
-returns c =
-    let a = c .before .before .before .before .before .before .before .before .before .before .before .before .before .args in
-    entry-stored _ _ _ _ (a .eq) (a .pq) (a .y) (a .t) (search needs) (c .before .before .before .before .before .before .before .before .before .before .store .ensures) (c .before .before .before .before .before .before .store-node .ensures) (c .before .before .store-node2 .ensures)
+returns c = pair-stored _ _ _ (c .before .before .before .before .before .before .before .before .before .args .pq) (c .before .before .before .before .before .before .before .before .before .args .i) (c .before .before .before .before .before .before .before .before .before .args .t) (c .before .before .before .before .before .before .store-node .ensures) (c .before .before .store-node2 .ensures)
 
-pub store-entry-spec : {M : Type 1} → statement M
-store-entry-spec =
+pub store-pair-spec : {M : Type 1} → statement M
+store-pair-spec =
     tie.close
     (tie.spec
-    add-store
-    store-requires
     mul-store-node
     add-store-node
     store-node-requires

@@ -1,25 +1,25 @@
+use borrow.Author.Needs.{needs}
 use Prim.Native.Nat.{_≤_, _-_}
 use mathlib.Core.Path.{_≡_}
 use lib.ListN.{length}
 use Rattle.field.specs.Element.{dec}
-use Rattle.prover_layer.specs.Columns.{Folded}
-use Rattle.prover_layer.proofs.Entries.{folds-none, folds-next}
-use borrow.Author.Needs.{needs}
+use Rattle.prover_layer.specs.Passes.{Folded}
+use Rattle.prover_layer.proofs.Passing.{folds-none, folds-next}
 use native.Mathlib.Omega.{arith}
-use Rattle.prover_layer.proofs.fold_mle_evals.Statement.{statement}
-use Rattle.prover_layer.proofs.fold_mle_evals.Tie as tie
-use Rattle.prover_layer.proofs.fold_mle_evals.Reads as reads
-use Rattle.prover_layer.proofs.fold_mle_evals.Lts as lts
-use Rattle.prover_layer.proofs.fold_entry.Reads as fold-entry-reads
+use Rattle.prover_layer.proofs.passes.fold_mle_evals.Statement.{statement}
+use Rattle.prover_layer.proofs.passes.fold_mle_evals.Tie as tie
+use Rattle.prover_layer.proofs.passes.fold_mle_evals.Reads as reads
+use Rattle.prover_layer.proofs.passes.fold_mle_evals.Lts as lts
+use Rattle.prover_layer.proofs.passes.fold_entry.Reads as fold-entry-reads
 
 abbrev Inv-loop : tie.InvT-loop
-Inv-loop work₀ eq pq half rho y₀ work y = (y ≤ half) × (length work ≡ length work₀) × Folded work₀ work eq pq y (dec rho)
+Inv-loop work₀ pq half rho y₀ work y = (y ≤ half) × (length work ≡ length work₀) × Folded work₀ work pq y (dec rho)
 
 abbrev μ-loop : tie.MeasureT-loop
-μ-loop work₀ eq pq half rho y₀ work y = half - y
+μ-loop work₀ pq half rho y₀ work y = half - y
 
 loop-holds : tie.Need-loop-holds Inv-loop μ-loop
-loop-holds c = (search needs, search needs, folds-none _ _ _ _ (search needs))
+loop-holds c = (search needs, search needs, folds-none _ _ _ (search needs))
 
 fold-entry-requires : tie.Need-fold-entry-requires Inv-loop μ-loop
 fold-entry-requires c κs = search needs
@@ -33,7 +33,7 @@ loop-less c = search needs
 loop-again : tie.Need-loop-again Inv-loop μ-loop
 loop-again c =
     let l = c .before .before .before .before .before .loop in
-    (search needs, search needs, folds-next _ (l .work) _ _ _ (l .y) (c .before .before .before .before .before .before .before .args .half) _ (search needs) (search needs) (l .inv .2) (c .before .before .fold-entry .ensures))
+    (search needs, search needs, folds-next _ (l .work) _ _ (l .y) _ (l .inv .2) (c .before .before .fold-entry .ensures))
 
 same-length : tie.Need-same-length Inv-loop μ-loop
 same-length c = search needs
