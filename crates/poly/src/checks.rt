@@ -59,7 +59,10 @@ fn words_found(canonical: bool) -> Outcome
     if canonical {
         return Outcome::Done;
     }
-    Outcome::Refused(Refusal::BadWord)
+    Outcome::Refused(Refusal::BadWord {
+        place: 0,
+        list: Words::Own,
+    })
 }
 
 // After the checks so far: the words of a list.
