@@ -3,10 +3,6 @@
 A case is (code, arguments). The letters of FORMS: w a word or number, e an element (four words, no length before them),
 l a list. README.md has the same as a table.
 """
-import sys
-
-# On the command line of record, differ and slips: drawn cases are made. Off until the replay programs take them.
-DRAWN = "--drawn" in sys.argv
 FORMS = {
     1: ("field", "add", "ee"), 2: ("field", "sub", "ee"), 3: ("field", "neg", "e"), 4: ("field", "double", "e"),
     5: ("field", "mul", "ee"), 6: ("field", "square", "e"), 7: ("field", "halve", "e"), 8: ("field", "mul_base", "ew"),

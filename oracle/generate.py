@@ -1,7 +1,6 @@
 """Makes random and damaged cases from a seed. Sizes stay within LARGEST."""
 
 import ask
-import forms
 import model as m
 from forms import FORMS
 
@@ -113,8 +112,7 @@ class Make:
         if self.r.random() < 0.003:
             rows = [1] * 8 * self.r.choice([m.ROWS + 1, 2 * m.ROWS, self.r.randrange(m.ROWS, 2 * m.ROWS)])
         modes, asserted = self.r.randrange(2), self.r.randrange(2)
-        if forms.DRAWN:
-            modes |= self.r.choice([0, m.DRAWN])
+        modes |= self.r.choice([0, m.DRAWN])
         count = len(rows) // 8
         n = count.bit_length() - 1 if m.power_of_two(count) and count <= m.ROWS else 0
         needed = self.spoil(self.challenges(n), 0.04)
@@ -287,8 +285,6 @@ def random_cases(kind, count, random):
     if kind == "verifier":
         sizes = [max(1, make.size()) for _ in range(max(1, count // 4))]
         honest = [(0, run) for run in make.honest(sizes)]
-        if not forms.DRAWN:
-            return [make.verify(random.choice(honest)[1]) for _ in range(count)]
         honest += [(m.DRAWN, run) for run in make.honest(sizes, m.DRAWN)]
         chosen = [random.choice(honest) for _ in range(count)]
         # One in ten is verified in the mode that it was not proved in.

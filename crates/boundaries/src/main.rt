@@ -19,6 +19,7 @@ fn prove(name: &[u8], rows: &[u32], challenges: &[u32], proof: &mut [u8]) {
         Proving {
             live: false,
             assert_zero: false,
+            drawn: false,
         },
         challenges,
         proof,
@@ -35,7 +36,10 @@ fn verify(name: &[u8], proof: &[u8], rounds: usize, challenges: &[u32]) {
     let verdict = verifier::verify_gkr(
         proof,
         rounds,
-        Verifying { live: false },
+        Verifying {
+            live: false,
+            drawn: false,
+        },
         challenges,
         &mut point,
         &mut log,

@@ -23,6 +23,7 @@ use Rattle.step.specs.declared.Frac.{Frac as FracW}
 use Rattle.step.specs.Values.{IsFrac}
 use Rattle.prover_tree.specs.Nodes.{node}
 use Rattle.prover_rounds.specs.Layers.{Levels}
+use Rattle.refusal.specs.declared.Proving.{Proving}
 use Rattle.refusal.specs.declared.Refusal.the-variants.{NonZeroRootSum, SingleRow}
 use Rattle.refusal.specs.declared.Refusal.{Refusal}
 use Rattle.refusal.specs.Tests.{Tested, passed, refused}
@@ -36,7 +37,7 @@ use Rattle.stored.specs.Layout.{layout}
 use Rattle.stored_writer.specs.Messages.{noRows}
 use Rattle.prover.specs.declared.Answer.{Answer}
 use Rattle.prover.specs.declared.Answer.the-variants.{Done, Refused}
-use Rattle.prover.specs.Proved.{Buffers, Outcome, lent, outcome, laid, encFrac, untouched, after, oneRow, ran, entered, fronts, proved, roomsOf}
+use Rattle.prover.specs.Proved.{Buffers, Outcome, lent, outcome, laid, encFrac, untouched, after, oneRow, modelled, ran, entered, fronts, proved, roomsOf}
 use Rattle.prover.specs.Inner.{runOf, Written, Opens}
 use Rattle.prover.proofs.Writing.{drop-all, whole-proof}
 use Rattle.prover.proofs.Opening.{gate-opens}
@@ -91,26 +92,23 @@ module _ (rows : List ℕ) (ch : Source E.Ext) (pf pt lg ws : List ℕ) (asserte
   abbrev before : Buffers
   before = lent pf pt lg ws
 
-  abbrev told : Bool → Gkr.Answer Extension (Drawing ch)
-  told b = Gkr.fractional-sumcheck Extension (Drawing ch) b m f empty
-
   tested : t ≡ (asserted && not (E.same (Tree.tree ExtRing f (suc m) 0 .p) E.nil))
   tested = te ∙ ap (λ x. asserted && not (E.same x E.nil)) (R .p .value)
 
   pub prove-refused : (ws₁ ws' : List ℕ) → t ≡ true → length ws₁ ≡ length ws → ws' ≡ replicate (length ws₁) 0
-      → outcome (Refused NonZeroRootSum) pf pt lg ws' ≡ laid (after ch n (told asserted)) before
+      → outcome (Refused NonZeroRootSum) pf pt lg ws' ≡ laid (modelled rows asserted ch m) before
   prove-refused ws₁ ws' h l w =
-      let W = whole-work ws ws' n lw (w ∙ ap (λ k. replicate k 0) l) in
+      let W = whole-work ws ws' (suc m) (lw ∙ ap workRoom e) (w ∙ ap (λ k. replicate k 0) l) in
       (λ i. outcome (Refused NonZeroRootSum) pf pt lg (W i))
-      ∙ ap (λ a. laid (after ch n a) before) (sym (sumcheck-refused ch f m asserted (sym tested ∙ h)))
+      ∙ ap (λ a. laid (after ch (suc m) a) before) (sym (sumcheck-refused ch f m asserted (sym tested ∙ h)))
 
-  pub prove-done : (b' : Buffers) → t ≡ false → Written f asserted m ch before b' → _≡_ {A = Outcome} (record { answer = Done n root; buffers = b' }) (laid (after ch n (told asserted)) before)
+  pub prove-done : (b' : Buffers) → t ≡ false → Written f asserted m ch before b' → _≡_ {A = Outcome} (record { answer = Done n root; buffers = b' }) (laid (modelled rows asserted ch m) before)
   unfolding Gkr.run
   prove-done b' h w =
       let S : root ≡ encFrac (runOf f asserted m ch .sum) = (λ i. record { p = enc-of-is (R .p) i; q = enc-of-is (R .q) i }) in
-      let W = whole-work ws (b' .work) n lw (w .work) in
-      (λ i. outcome (Done n (S i)) (w .proof i) (w .point i) (w .log i) (W i))
-      ∙ ap (λ a. laid (after ch n a) before) (sym (sumcheck-done ch f m asserted (sym tested ∙ h)))
+      let W = whole-work ws (b' .work) (suc m) (lw ∙ ap workRoom e) (w .work) in
+      (λ i. outcome (Done (e i) (S i)) (w .proof i) (w .point i) (w .log i) (W i))
+      ∙ ap (λ a. laid (after ch (suc m) a) before) (sym (sumcheck-done ch f m asserted (sym tested ∙ h)))
 
 -- NO ROUNDS
 
@@ -128,17 +126,17 @@ one-words : enc E.one ≡ record { c0 = 1; c1 = 0; c2 = 0; c3 = 0 }
 unfolding E.one E.emb B.nil B.one B.of
 one-words = refl
 
-pub none-done : (rows pf pf' : List ℕ) (asserted : Bool) → rowCount rows ≡ 0 → 23 ≤ length pf → length pf' ≡ length pf → pf' ≡ layout noRows ++ drop 23 pf → (pt lg ws : List ℕ)
-    → outcome (Done 0 (record { p = record { c0 = 0; c1 = 0; c2 = 0; c3 = 0 }; q = record { c0 = 1; c1 = 0; c2 = 0; c3 = 0 } })) pf' pt lg ws ≡ laid (ran rows asserted [] 0) (lent pf pt lg ws)
+pub none-done : (rows pf pf' : List ℕ) (modes : Proving) → rowCount rows ≡ 0 → 23 ≤ length pf → length pf' ≡ length pf → pf' ≡ layout noRows ++ drop 23 pf → (pt lg ws : List ℕ)
+    → outcome (Done 0 (record { p = record { c0 = 0; c1 = 0; c2 = 0; c3 = 0 }; q = record { c0 = 1; c1 = 0; c2 = 0; c3 = 0 } })) pf' pt lg ws ≡ laid (ran rows modes [] 0) (lent pf pt lg ws)
 unfolding pointWords
-none-done rows pf pf' asserted h l k e pt lg ws =
+none-done rows pf pf' modes h l k e pt lg ws =
     let P = whole-proof pf pf' (layout noRows) 23 l k e in
     (λ i. outcome (Done 0 (record { p = sym zero-words i; q = sym one-words i })) (P i) pt lg ws)
     ∙ sym (rw (eq-eqb (rowCount rows) 0 h))
 
-pub one-done : (rows pf : List ℕ) (asserted : Bool) {r : Refusal} → (rowCount rows ≡ 0 → ⊥) → r ≡ oneRow rows asserted → (pt lg ws : List ℕ)
-    → outcome (Refused r) pf pt lg ws ≡ laid (ran rows asserted [] 0) (lent pf pt lg ws)
-one-done rows pf asserted h e pt lg ws = ap (λ r. outcome (Refused r) pf pt lg ws) e ∙ sym (rw (ne-eqb (rowCount rows) 0 h))
+pub one-done : (rows pf : List ℕ) (modes : Proving) {r : Refusal} → (rowCount rows ≡ 0 → ⊥) → r ≡ oneRow rows (modes .«assert_zero») → (pt lg ws : List ℕ)
+    → outcome (Refused r) pf pt lg ws ≡ laid (ran rows modes [] 0) (lent pf pt lg ws)
+one-done rows pf modes h e pt lg ws = ap (λ r. outcome (Refused r) pf pt lg ws) e ∙ sym (rw (ne-eqb (rowCount rows) 0 h))
 
 -- THE WHOLE CALL
 
@@ -155,16 +153,16 @@ module _ (c : Call) (r : Rooms) {g : Gate} {s : Size} (h : g ≡ asGate (rowCoun
   opened : (firstRefusal c r ≡ passed) × (s ≡ record { n = roundsOf (rowCount (c .rows)); rows = 2 ^ roundsOf (rowCount (c .rows)) })
   opened = told-open _ (firstRefusal c r) s (sym k ∙ h)
 
-  pub gate-told : Opens (c .rows) (c .modes .«assert_zero») (c .challenges) r (s .n) (s .rows)
-  gate-told = subst (λ z. Opens (c .rows) (c .modes .«assert_zero») (c .challenges) r (z .n) (z .rows)) (sym (opened .1)) (gate-opens c r (opened .0))
+  pub gate-told : Opens (c .rows) (c .modes) (c .challenges) r (s .n) (s .rows)
+  gate-told = subst (λ z. Opens (c .rows) (c .modes) (c .challenges) r (z .n) (z .rows)) (sym (opened .1)) (gate-opens c r (opened .0))
 
 pub proved-shut : (c : Call) (b : Buffers) {g : Gate} {e : Refusal} → g ≡ asGate (rowCount (c .rows)) (firstRefusal c (roomsOf b)) → g ≡ Shut e → laid (untouched e) b ≡ proved c b
 unfolding proved fronts
 proved-shut c b {e = e} h s = ap (λ t. laid (entered c t) b) (sym (told-shut _ (firstRefusal c (roomsOf b)) e (sym s ∙ h)))
 
 pub proved-open : (c : Call) (b : Buffers) {g : Gate} {s : Size} {o : Outcome} → g ≡ asGate (rowCount (c .rows)) (firstRefusal c (roomsOf b)) → g ≡ Open s
-    → o ≡ laid (ran (c .rows) (c .modes .«assert_zero») (c .challenges) (s .n)) b → o ≡ proved c b
+    → o ≡ laid (ran (c .rows) (c .modes) (c .challenges) (s .n)) b → o ≡ proved c b
 unfolding proved fronts
 proved-open c b h k q =
     let z = opened c (roomsOf b) h k in
-    q ∙ ap (λ s. laid (ran (c .rows) (c .modes .«assert_zero») (c .challenges) (s .n)) b) (z .1) ∙ ap (λ t. laid (entered c t) b) (sym (z .0))
+    q ∙ ap (λ s. laid (ran (c .rows) (c .modes) (c .challenges) (s .n)) b) (z .1) ∙ ap (λ t. laid (entered c t) b) (sym (z .0))

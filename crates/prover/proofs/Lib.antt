@@ -6,3 +6,4 @@ pub mod Parts
 pub mod Opening
 pub mod Theorems
 pub mod Modes
+pub mod Drawn

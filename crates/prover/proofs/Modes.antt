@@ -20,7 +20,7 @@ use Rattle.refusal.specs.declared.Refusal.the-variants.{RaggedRows, TooManyRows
 use Rattle.sizes.specs.Sizes.{rowCount, roundsOf}
 use Rattle.prover_gate.specs.Refusals.{Call, Rooms, degenerate, lowest, tests, firstRefusal}
 use Rattle.prover.specs.declared.Answer.the-variants.{Refused}
-use Rattle.prover.specs.Proved.{entered, fronts}
+use Rattle.prover.specs.Proved.{ran, entered, fronts}
 use Rattle.prover.specs.Companions.{in-mode, LiveMode}
 use Rattle.prover.proofs.Theorems.{Ends, each-end, each-front, unlike, done-refused}
 
@@ -68,8 +68,13 @@ module _ (c : Call) (r : Rooms) where
   unfolding firstOf
   live-next = of-mode true ∙ ap (λ t. next t (checked low)) (sym (of-mode false ∙ next-passed front))
 
+  -- a run does not look at live mode
+  same-run : (n : ℕ) → ran (c .rows) (in-mode true c .modes) (c .challenges) n ≡ ran (c .rows) (in-mode false c .modes) (c .challenges) n
+  same-run zero = refl
+  same-run (suc m) = refl
+
   same : (t : Tested) → entered (in-mode true c) t ≡ entered (in-mode false c) t
-  same passed = refl
+  same passed = same-run (roundsOf count)
   same (refused e) = refl
 
   -- 7 is no other answer
@@ -109,5 +114,5 @@ module _ (c : Call) (r : Rooms) where
             both (λ m. other BadWord i (λ z. omega arith)) (λ u6.
             both (λ m. other BadWord i (λ z. omega arith)) (λ u7.
             both (λ m. absurd (never m)) (λ u8.
-            each-end (λ f. f .answer ≡ Refused (ZeroDenominator i) → ⊥) (c .rows) (c .modes .«assert_zero») (c .challenges) (roundsOf count) (seven i))))))))));
+            each-end (λ f. f .answer ≡ Refused (ZeroDenominator i) → ⊥) (c .rows) (in-mode false c .modes) (c .challenges) (roundsOf count) (seven i))))))))));
       }

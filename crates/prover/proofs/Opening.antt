@@ -10,11 +10,13 @@ use lib.Dec.{ltb}
 use lib.ListN.{length, take}
 use Rattle.field.specs.Cells.{Clean}
 use Rattle.gkr.specs.Sizes as Sizes
+use Rattle.gkr.specs.Tests.{fail}
+use Rattle.refusal.specs.declared.Proving.{Proving}
 use Rattle.refusal.specs.Tests.{passed}
 use Rattle.refusal.specs.TestLaws.{passed-all}
 use Rattle.wire.specs.WordLaws.{canonical-below}
 use Rattle.prover_rounds.specs.Layers.{logUpTo, usedUpTo}
-use Rattle.sizes.specs.Sizes.{rowCount, roundsFrom, roundsOf, logRoom, workRoom}
+use Rattle.sizes.specs.Sizes.{rowCount, roundsFrom, roundsOf, neededWords, logRoom, workRoom}
 use Rattle.sizes.specs.SizeLaws.{few-rounds, some-size}
 use Rattle.sizes.specs.LimitLaws.{rounds-small}
 use Rattle.prover_gate.specs.Refusals.{Call, Rooms, shortRoom, tests, firstRefusal}
@@ -30,7 +32,7 @@ or-right : (a b : Bool) → (a || b) ≡ false → b ≡ false
 or-right true b h = let z : _≡_ {A = ℕ} 0 1 = cc in absurd (omega arith)
 or-right false b h = h
 
-pub gate-opens : (c : Call) (r : Rooms) → firstRefusal c r ≡ passed → let n = roundsOf (rowCount (c .rows)) in Opens (c .rows) (c .modes .«assert_zero») (c .challenges) r n (2 ^ n)
+pub gate-opens : (c : Call) (r : Rooms) → firstRefusal c r ≡ passed → let n = roundsOf (rowCount (c .rows)) in Opens (c .rows) (c .modes) (c .challenges) r n (2 ^ n)
 unfolding firstRefusal shortRoom
 gate-opens c r h =
     let n = roundsOf (rowCount (c .rows)) in
@@ -79,9 +81,9 @@ work-enough {n = zero} l s e = absurd (omega arith)
 work-enough {n = suc m} l s e = omega (arith, s, e)
 
 -- over the needed parts of challenges, point and workspace
-module _ (rows : List ℕ) (asserted : Bool) (ch : List ℕ) (r : Rooms) where
-  pub run-room : (n size need w : ℕ) {c p x l k : ℕ} → Opens rows asserted ch r n size → (n ≡ 0 → ⊥) → need ≡ 4 * Sizes.challenges n → w ≡ workRoom n
-      → c ≡ need → p ≡ r .proof → x ≡ 4 * n → l ≡ r .log → k ≡ w → Room asserted n size c p x l k
+module _ (rows : List ℕ) (modes : Proving) (ch : List ℕ) (r : Rooms) where
+  pub run-room : (n size need w : ℕ) {c p x l k : ℕ} → Opens rows modes ch r n size → (n ≡ 0 → ⊥) → need ≡ neededWords (modes .drawn) n → w ≡ workRoom n
+      → c ≡ need → p ≡ r .proof → x ≡ 4 * n → l ≡ r .log → k ≡ w → Room (modes .«assert_zero») (modes .drawn) n size c p x l k
   run-room zero size need w O z d we ec ep ex el ew = absurd (z refl)
   run-room (suc m) size need w O z d we ec ep ex el ew = record {
     some = omega arith;
@@ -90,11 +92,11 @@ module _ (rows : List ℕ) (asserted : Bool) (ch : List ℕ) (r : Rooms) where
     proof = let h = O .proof in omega arith;
     point = ex;
     log = let h = O .log in omega (arith, log-sum (suc m));
-    used = omega (arith, used-needed m);
+    used = λ h. omega (arith, used-needed m, d ∙ fail _ _ _ h);
     work = ew ∙ we;
   }
 
-  pub rows-room : {n size : ℕ} → Opens rows asserted ch r n size → (n ≡ 0 → ⊥) → 8 * size ≤ length rows
+  pub rows-room : {n size : ℕ} → Opens rows modes ch r n size → (n ≡ 0 → ⊥) → 8 * size ≤ length rows
   unfolding roundsFrom
   rows-room O z =
       let w = O .words in
@@ -102,8 +104,8 @@ module _ (rows : List ℕ) (asserted : Bool) (ch : List ℕ) (r : Rooms) where
       omega (arith, w, q)
 
   -- the needed parts are there
-  pub parts-room : {n size need w : ℕ} → Opens rows asserted ch r n size → need ≡ 4 * Sizes.challenges n → w ≡ workRoom n → (need ≤ length ch) × (4 * n ≤ r .point) × (w ≤ r .work)
+  pub parts-room : {n size need w : ℕ} → Opens rows modes ch r n size → need ≡ neededWords (modes .drawn) n → w ≡ workRoom n → (need ≤ length ch) × (4 * n ≤ r .point) × (w ≤ r .work)
   parts-room O d we = (subst (λ k. k ≤ length ch) (sym d) (O .challenges), O .point, subst (λ k. k ≤ r .work) (sym we) (O .work))
 
-  pub supplied-part : {n size need : ℕ} → Opens rows asserted ch r n size → need ≡ 4 * Sizes.challenges n → Clean (take need ch)
+  pub supplied-part : {n size need : ℕ} → Opens rows modes ch r n size → need ≡ neededWords (modes .drawn) n → Clean (take need ch)
   supplied-part O d = subst (λ k. Clean (take k ch)) (sym d) (O .supplied)

@@ -1,7 +1,6 @@
 -- A run over the needed parts of point and workspace is the run over the whole buffers.
 -- Assumes nothing.
 use mathlib.Core.Path.{_≡_, refl, sym, _∙_, ap}
-use mathlib.Core.Bool.{Bool}
 use mathlib.Core.List.{List, [], _++_, append-nil}
 use Prim.Native.Nat.{ℕ, suc, _*_, _-_, _≤_}
 use native.Mathlib.Omega.{arith}
@@ -12,17 +11,17 @@ use Rattle.field.specs.Extension.{Extension}
 use Rattle.field.specs.Element.{pointWords}
 use Rattle.field.specs.PointLaws.{point-length}
 use Rattle.gkr.specs.Transcripts.{empty, Source}
-use Rattle.gkr.specs.Sizes.{challenges}
 use Rattle.gkr.specs.Count as Count
 use Rattle.gkr.specs.Gkr as Gkr
 use Rattle.gkr.specs.Gkr.{done, non-zero-root-sum}
-use Rattle.transcript.specs.Source.{supplied}
+use Rattle.transcript.specs.Source.{source}
 use Rattle.transcript.specs.Log.{Drawing}
 use Rattle.prover_tree.specs.Nodes.{node}
-use Rattle.sizes.specs.Sizes.{workRoom}
+use Rattle.sizes.specs.Sizes.{neededWords, workRoom}
+use Rattle.refusal.specs.declared.Proving.{Proving}
 use Rattle.prover.specs.declared.Answer.{Answer}
 use Rattle.refusal.specs.Fronts.{over}
-use Rattle.prover.specs.Proved.{Buffers, Outcome, lent, outcome, laid, after, ran}
+use Rattle.prover.specs.Proved.{Buffers, Outcome, lent, outcome, laid, after, modelled, ran}
 use Rattle.prover.proofs.Writing.{drop-all}
 use Rattle.prover.proofs.Answering.{zeros-length}
 
@@ -54,23 +53,24 @@ module _ (ch : Source E.Ext) (n k w : ℕ) (pf pt lg ws : List ℕ) (ke : k ≡ 
       let o = laid (after ch n non-zero-root-sum) whole in
       λ i. outcome (o .answer) (o .buffers .proof) (take-append-drop k pt i) (o .buffers .log) (wipes i)
 
-pub run-parts : (rows ch pf pt lg ws : List ℕ) (asserted : Bool) (n need k w : ℕ) (r : Answer) (pf' xi' lg' ws' : List ℕ)
-    → (n ≡ 0 → ⊥) → need ≡ 4 * challenges n → k ≡ 4 * n → w ≡ workRoom n → k ≤ length pt → w ≤ length ws
-    → ((m : ℕ) → n ≡ suc m → outcome r pf' xi' lg' ws'
-    ≡ laid (after (supplied (take need ch)) n (Gkr.fractional-sumcheck Extension (Drawing (supplied (take need ch))) asserted m (node rows) empty)) (lent pf (take k pt) lg (take w ws)))
-    → outcome r pf' (xi' ++ drop k pt) lg' (ws' ++ drop w ws) ≡ laid (ran rows asserted ch n) (lent pf pt lg ws)
-run-parts rows ch pf pt lg ws asserted n need k w r pf' xi' lg' ws' nz de ke we kl wl h =
+pub run-parts : (rows ch pf pt lg ws : List ℕ) (modes : Proving) (n need k w : ℕ) (r : Answer) (pf' xi' lg' ws' : List ℕ)
+    → (n ≡ 0 → ⊥) → need ≡ neededWords (modes .drawn) n → k ≡ 4 * n → w ≡ workRoom n → k ≤ length pt → w ≤ length ws
+    → ((m : ℕ) → n ≡ suc m → outcome r pf' xi' lg' ws' ≡ laid (modelled rows (modes .«assert_zero») (source (modes .drawn) (take need ch)) m) (lent pf (take k pt) lg (take w ws)))
+    → outcome r pf' (xi' ++ drop k pt) lg' (ws' ++ drop w ws) ≡ laid (ran rows modes ch n) (lent pf pt lg ws)
+run-parts rows ch pf pt lg ws modes n need k w r pf' xi' lg' ws' nz de ke we kl wl h =
     let m = n - 1 in
     let e : n ≡ suc m = omega arith in
-    let c = supplied (take need ch) in
+    let asserted = modes .«assert_zero» in
+    let c = source (modes .drawn) (take need ch) in
     let a = Gkr.fractional-sumcheck Extension (Drawing c) asserted m (node rows) empty in
     let b : Buffers = lent pf pt lg ws in
-    ap (glue c n k w pf pt lg ws ke we kl wl) (h m e)
-    ∙ glued c n k w pf pt lg ws ke we kl wl a (λ P q. Count.done-point Extension (Drawing c) asserted m (node rows) empty P q ∙ sym e)
-    ∙ (λ i. laid (after (supplied (take (de i) ch)) (e i) (Gkr.fractional-sumcheck Extension (Drawing (supplied (take (de i) ch))) asserted m (node rows) empty)) b)
-    ∙ ap (λ j. laid (after (supplied (take (4 * challenges j) ch)) (suc m) (Gkr.fractional-sumcheck Extension (Drawing (supplied (take (4 * challenges j) ch))) asserted m (node rows) empty)) b) e
-    ∙ ap (λ j. laid (ran rows asserted ch j) b) (sym e)
+    let kn : k ≡ 4 * suc m = ke ∙ ap (λ j. 4 * j) e in
+    let wn : w ≡ workRoom (suc m) = we ∙ ap workRoom e in
+    ap (glue c (suc m) k w pf pt lg ws kn wn kl wl) (h m e)
+    ∙ glued c (suc m) k w pf pt lg ws kn wn kl wl a (Count.done-point Extension (Drawing c) asserted m (node rows) empty)
+    ∙ ap (λ j. laid (modelled rows asserted (source (modes .drawn) (take j ch)) m) b) (de ∙ ap (neededWords (modes .drawn)) e)
+    ∙ ap (λ j. laid (ran rows modes ch j) b) (sym e)
 
 -- no rounds take no challenges
-pub no-parts : (rows ch : List ℕ) (asserted : Bool) (b : Buffers) {n : ℕ} {o : Outcome} → o ≡ laid (ran rows asserted [] 0) b → n ≡ 0 → o ≡ laid (ran rows asserted ch n) b
-no-parts rows ch asserted b h e = h ∙ ap (λ n. laid (ran rows asserted ch n) b) (sym e)
+pub no-parts : (rows ch : List ℕ) (modes : Proving) (b : Buffers) {n : ℕ} {o : Outcome} → o ≡ laid (ran rows modes [] 0) b → n ≡ 0 → o ≡ laid (ran rows modes ch n) b
+no-parts rows ch modes b h e = h ∙ ap (λ n. laid (ran rows modes ch n) b) (sym e)

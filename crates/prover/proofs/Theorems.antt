@@ -1,9 +1,9 @@
 -- What follows from the definition of a call: no second outcome fits, what buffers held before does not matter, and the workspace is wiped.
 -- Assumes nothing.
 use mathlib.Core.Path.{_≡_, refl, sym, _∙_, ap}
-use mathlib.Core.Bool.{Bool, not, _&&_}
+use mathlib.Core.Bool.{not, _&&_}
 use mathlib.Core.List.{List, []}
-use Prim.Native.Nat.{ℕ, zero, suc, _*_}
+use Prim.Native.Nat.{ℕ, zero, suc}
 use native.Mathlib.Omega.{arith}
 use lib.Dec.{eqb}
 use lib.ListN.{replicate, take}
@@ -11,17 +11,17 @@ use Rattle.field.specs.Ext as E
 use Rattle.field.specs.Extension.{Extension}
 use Rattle.gkr.specs.Tests.{either}
 use Rattle.gkr.specs.Transcripts.{empty, Source}
-use Rattle.gkr.specs.Sizes.{challenges}
 use Rattle.gkr.specs.Gkr as Gkr
 use Rattle.gkr.specs.Gkr.{done, non-zero-root-sum}
-use Rattle.transcript.specs.Source.{supplied}
+use Rattle.transcript.specs.Source.{supplied, source}
 use Rattle.transcript.specs.Log.{Drawing, Observing}
 use Rattle.step.specs.declared.Frac.{Frac}
 use Rattle.prover_tree.specs.Nodes.{node}
 use Rattle.refusal.specs.TestWays.{Ways, both, each-way}
+use Rattle.refusal.specs.declared.Proving.{Proving}
 use Rattle.refusal.specs.declared.Refusal.{Refusal}
 use Rattle.refusal.specs.declared.Refusal.the-variants.{RaggedRows, TooManyRows, NotPowerOfTwo, ShortChallenges, ShortRoom, BadWord, ZeroDenominator, NonZeroRootSum, SingleRow}
-use Rattle.sizes.specs.Sizes.{rowCount, roundsOf, workRoom}
+use Rattle.sizes.specs.Sizes.{rowCount, roundsOf, neededWords, workRoom}
 use Rattle.prover_gate.specs.Refusals.{Call, Rooms, tests, firstRefusal}
 use Rattle.prover.specs.declared.Answer.{Answer}
 use Rattle.prover.specs.declared.Answer.the-variants.{Done, Refused}
@@ -51,11 +51,13 @@ pub record Ends (Q : Outcome → Type 0) (n : ℕ) : Type 0 where
   pub eight : Q (outcome (Refused NonZeroRootSum) [] [] [] (replicate (workRoom n) 0))
   pub nine : Q (untouched SingleRow)
 
-pub each-end : (Q : Outcome → Type 0) (rows : List ℕ) (asserted : Bool) (ch : List ℕ) (n : ℕ) → Ends Q n → Q (ran rows asserted ch n)
-each-end Q rows asserted ch zero w =
+pub each-end : (Q : Outcome → Type 0) (rows : List ℕ) (modes : Proving) (ch : List ℕ) (n : ℕ) → Ends Q n → Q (ran rows modes ch n)
+each-end Q rows modes ch zero w =
     either Q (eqb (rowCount rows) 0) _ _ (λ e. w .finishes (supplied []) (Gkr.no-rows Extension Observing empty))
-    (λ e. either (λ r. Q (untouched r)) (asserted && not (E.same (node rows 0 .p) E.nil)) NonZeroRootSum SingleRow (λ h. w .eight) (λ h. w .nine))
-each-end Q rows asserted ch (suc m) w = let needed = supplied (take (4 * challenges (suc m)) ch) in model needed (Gkr.fractional-sumcheck Extension (Drawing needed) asserted m (node rows) empty)
+    (λ e. either (λ r. Q (untouched r)) (modes .«assert_zero» && not (E.same (node rows 0 .p) E.nil)) NonZeroRootSum SingleRow (λ h. w .eight) (λ h. w .nine))
+each-end Q rows modes ch (suc m) w =
+    let needed = source (modes .drawn) (take (neededWords (modes .drawn) (suc m)) ch) in
+    model needed (Gkr.fractional-sumcheck Extension (Drawing needed) (modes .«assert_zero») m (node rows) empty)
   where
     model : (ch : Source E.Ext) (a : Gkr.Answer Extension (Drawing ch)) → Q (after ch (suc m) a)
     model ch (done P) = w .finishes ch P
@@ -112,4 +114,4 @@ wiping c r =
     both (λ m. quiet n BadWord (λ z. omega arith)) (λ u6.
     both (λ m. quiet n BadWord (λ z. omega arith)) (λ u7.
     both (λ m. quiet n (ZeroDenominator _) (λ z. omega arith)) (λ u8.
-    each-end (Left n) (c .rows) (c .modes .«assert_zero») (c .challenges) n (ends-left n))))))))))
+    each-end (Left n) (c .rows) (c .modes) (c .challenges) n (ends-left n))))))))))

@@ -6,17 +6,12 @@ ghost use Prim.Native.Nat.{ℕ, suc, _*_, _≤_};
 ghost use lib.ListN.{length};
 ghost use Rattle.field.specs.Ext as E;
 ghost use Rattle.field.specs.ExtRing.{ExtRing};
-ghost use Rattle.field.specs.Extension.{Extension};
 ghost use Rattle.field.specs.Element.{dec};
 ghost use Rattle.field.specs.Cells.{Clean};
 ghost use Rattle.gkr.specs.Run.{Frac as Fraction};
-ghost use Rattle.gkr.specs.Transcripts.{empty};
 ghost use Rattle.gkr.specs.Tree as Tree;
-ghost use Rattle.gkr.specs.Gkr as Gkr;
 ghost use Rattle.transcript.specs.Source.{source};
-ghost use Rattle.transcript.specs.Log.{Drawing};
 ghost use Rattle.step.specs.Values.{CanonFrac, IsFrac};
-ghost use Rattle.prover_tree.specs.Nodes.{node};
 ghost use Rattle.prover_rounds.specs.Layers.{Levels};
 ghost use Rattle.sizes.specs.Sizes.{rowCount};
 ghost use Rattle.prover_gate.specs.Refusals.{call, rooms};
@@ -98,7 +93,18 @@ fn prove(
         prover_tree::clear(work);
         return Answer::Refused(Refusal::NonZeroRootSum);
     }
-    write_run(n, size, root, asserted, drawn, challenges, proof, xi, log, work);
+    write_run(
+        n,
+        size,
+        root,
+        asserted,
+        drawn,
+        challenges,
+        proof,
+        xi,
+        log,
+        work,
+    );
     Answer::Done {
         rounds: n,
         sum: root,
@@ -197,16 +203,7 @@ pub fn fractional_sumcheck(
     );
     match gate {
         Gate::Shut(r) => Answer::Refused(r),
-        Gate::Open(size) => admitted(
-            rows,
-            size,
-            modes,
-            challenges,
-            proof,
-            point,
-            log,
-            work,
-        ),
+        Gate::Open(size) => admitted(rows, size, modes, challenges, proof, point, log, work),
     }
 }
 

@@ -3,7 +3,7 @@
 use mathlib.Core.Path.{_≡_, refl, sym, _∙_, ap}
 use mathlib.Core.Bool.{Bool, true, false, not, _&&_}
 use mathlib.Core.List.{List}
-use Prim.Native.Nat.{ℕ, suc, _+_, _*_, _-_, _%_, _^_, _<_, _≤_}
+use Prim.Native.Nat.{ℕ, suc, _+_, _-_, _%_, _^_, _<_, _≤_}
 use native.Mathlib.Numerals.{add-one}
 use native.Mathlib.Omega.{arith}
 use borrow.Author.Tests.{lt-ltb, le-ltb, eq-eqb, ne-eqb}
@@ -11,7 +11,6 @@ use lib.Dec.{eqb, ltb}
 use lib.ListN.{length, take}
 use Rattle.field.specs.Ext as E
 use Rattle.gkr.specs.Run.{Frac}
-use Rattle.gkr.specs.Sizes.{challenges}
 use Rattle.refusal.specs.Limits.{maxRounds, maxRows}
 use Rattle.refusal.specs.TestLaws.{NoneMet, all-passed}
 use Rattle.refusal.specs.TestWays.{MetAt, met-at}
@@ -25,7 +24,7 @@ use Rattle.prover_tree.proofs.Memory.{frac-path}
 use Rattle.prover_gate.specs.declared.Gate.{Gate}
 use Rattle.prover_gate.specs.declared.Gate.the-variants.{Open, Shut}
 use Rattle.sizes.specs.declared.Size.{Size}
-use Rattle.sizes.specs.Sizes.{rowCount, roundsOf, isSize}
+use Rattle.sizes.specs.Sizes.{rowCount, roundsOf, isSize, neededWords}
 use Rattle.sizes.specs.SizeLaws.{few-rounds, size-unique}
 use Rattle.prover_gate.specs.Refusals.{Call, Rooms, shortRoom, degenerate, lowest, tests, firstRefusal, asGate}
 
@@ -90,18 +89,18 @@ module _ (c : Call) (r : Rooms) where
       pub refuse-3 : s ≡ false → Tells (Shut NotPowerOfTwo)
       refuse-3 h = shut 2 NotPowerOfTwo (p1, (p2, (ap not (sym se ∙ h), refl)))
 
-      module _ (h3 : s ≡ true) {z : Size} (ze : (z .n ≡ roundsOf count) × (z .rows ≡ 2 ^ z .n) × (z .n ≤ maxRounds)) {need : ℕ} (de : need ≡ 4 * challenges (z .n)) where
+      module _ (h3 : s ≡ true) {z : Size} (ze : (z .n ≡ roundsOf count) × (z .rows ≡ 2 ^ z .n) × (z .n ≤ maxRounds)) {need : ℕ} (de : need ≡ neededWords (c .modes .drawn) (z .n)) where
         p3 : not (isSize count) ≡ false
         p3 = ap not (sym se ∙ h3)
 
-        d : need ≡ 4 * challenges (roundsOf count)
-        d = de ∙ ap (λ k. 4 * challenges k) (ze .0)
+        d : need ≡ neededWords (c .modes .drawn) (roundsOf count)
+        d = de ∙ ap (neededWords (c .modes .drawn)) (ze .0)
 
         pub refuse-4 : length (c .challenges) < need → Tells (Shut ShortChallenges)
         refuse-4 h = shut 3 ShortChallenges (p1, (p2, (p3, (ap (ltb (length (c .challenges))) (sym d) ∙ lt-ltb _ _ h, refl))))
 
         module _ (h4 : need ≤ length (c .challenges)) {t : Bool} (te : t ≡ shortRoom (c .modes .«assert_zero») (z .n) r) where
-          p4 : ltb (length (c .challenges)) (4 * challenges (roundsOf count)) ≡ false
+          p4 : ltb (length (c .challenges)) (neededWords (c .modes .drawn) (roundsOf count)) ≡ false
           p4 = ap (ltb (length (c .challenges))) (sym d) ∙ le-ltb _ _ h4
 
           room : shortRoom (c .modes .«assert_zero») (roundsOf count) r ≡ t
@@ -115,7 +114,7 @@ module _ (c : Call) (r : Rooms) where
             refuse-6 h = shut 5 BadWord (p1, (p2, (p3, (p4, (room ∙ h5, (ap not (sym ue ∙ h), refl))))))
 
             module _ (h6 : u ≡ true) {v : Bool} (ve : v ≡ allCanonical (take need (c .challenges))) where
-              words : not (allCanonical (take (4 * challenges (roundsOf count)) (c .challenges))) ≡ not v
+              words : not (allCanonical (take (neededWords (c .modes .drawn) (roundsOf count)) (c .challenges))) ≡ not v
               words = ap (λ k. not (allCanonical (take k (c .challenges)))) (sym d) ∙ ap not (sym ve)
 
               pub refuse-6' : v ≡ false → Tells (Shut BadWord)

@@ -23,13 +23,15 @@ struct Rooms {
     at: usize,
 }
 
+// The word of modes has 1 where live, and 4 where challenges are drawn.
 fn next_modes(text: &[u8], at: usize) -> Modes {
-    let live = next_number(text, at);
-    let asserted = next_number(text, live.at);
+    let word = next_number(text, at);
+    let asserted = next_number(text, word.at);
     Modes {
         modes: Proving {
-            live: live.value != 0,
+            live: word.value % 2 == 1,
             assert_zero: asserted.value != 0,
+            drawn: word.value / 4 % 2 == 1,
         },
         at: asserted.at,
     }

@@ -27,6 +27,14 @@ fn next_rooms(text: &[u8], at: usize) -> Rooms {
     }
 }
 
+// The word of modes has 1 where live, and 4 where challenges are drawn.
+fn modes_of(word: u64) -> Verifying {
+    Verifying {
+        live: word % 2 == 1,
+        drawn: word / 4 % 2 == 1,
+    }
+}
+
 fn call(
     proof: &[u8],
     rounds: usize,
@@ -63,11 +71,8 @@ fn answer(text: &[u8], at: usize) -> usize {
     let mut challenges = [0u32; 320];
     let code = next_number(text, at);
     let rounds = next_number(text, code.at);
-    let live = next_number(text, rounds.at);
-    let modes = Verifying {
-        live: live.value != 0,
-    };
-    let p = next_bytes(text, live.at, &mut proof);
+    let word = next_number(text, rounds.at);
+    let p = next_bytes(text, word.at, &mut proof);
     let c = next_words(text, p.at, &mut challenges);
     let rooms = next_rooms(text, c.at);
     let m = p.count;
@@ -75,7 +80,7 @@ fn answer(text: &[u8], at: usize) -> usize {
     call_filled(
         &proof[..m],
         rounds.value as usize,
-        modes,
+        modes_of(word.value),
         &challenges[..n],
         rooms,
     );
@@ -93,7 +98,7 @@ fn replay(text: &[u8]) {
 }
 
 fn main() {
-    let mut text = [0u8; 524288];
+    let mut text = [0u8; 1048576];
     let n = io::read_full(0, &mut text);
     replay(&text[..n]);
 }

@@ -4,7 +4,7 @@ use mathlib.Core.Path.{_≡_, refl, sym, _∙_, ap}
 use mathlib.Core.Bool.{Bool}
 use mathlib.Core.List.{List}
 use mathlib.Core.Logic.{_⊎_, inl, inr}
-use Prim.Native.Nat.{ℕ, zero, suc, _*_, _^_}
+use Prim.Native.Nat.{ℕ, zero, suc, _^_}
 use native.Mathlib.Omega.{arith}
 use lib.Dec.{eqb}
 use lib.ListN.{take}
@@ -12,7 +12,6 @@ use Rattle.field.specs.Ext as E
 use Rattle.field.specs.ExtRing.{ExtRing}
 use Rattle.field.specs.Extension.{Extension}
 use Rattle.gkr.specs.Run.{Frac}
-use Rattle.gkr.specs.Sizes.{challenges}
 use Rattle.gkr.specs.Tests.{either}
 use Rattle.gkr.specs.Transcripts.{empty, Source}
 use Rattle.gkr.specs.Tree as Tree
@@ -20,12 +19,13 @@ use Rattle.gkr.specs.Gkr as Gkr
 use Rattle.gkr.specs.Gkr.{done, non-zero-root-sum}
 use Rattle.gkr.specs.Count as Count
 use Rattle.transcript.specs.Log.{Drawing}
-use Rattle.transcript.specs.Source.{supplied}
+use Rattle.transcript.specs.Source.{source}
 use Rattle.step.specs.declared.Frac.{Frac as FracW}
 use Rattle.refusal.specs.Tests.{Tested, passed, refused}
+use Rattle.refusal.specs.declared.Proving.{Proving}
 use Rattle.refusal.specs.declared.Refusal.the-variants.{NonZeroRootSum}
 use Rattle.prover_tree.specs.Nodes.{node}
-use Rattle.sizes.specs.Sizes.{rowCount, roundsFrom, roundsOf}
+use Rattle.sizes.specs.Sizes.{rowCount, roundsFrom, roundsOf, neededWords}
 use Rattle.prover_gate.specs.Refusals.{Call, Rooms, firstRefusal}
 use Rattle.prover.specs.declared.Answer.the-variants.{Done}
 use Rattle.prover.specs.Proved.{Outcome, encFrac, oneRow, after, ran, entered, fronts}
@@ -59,14 +59,15 @@ module _ (rows : List ℕ) where
       inr (size ∙ ap (λ j. 2 ^ j) k, sym e ∙ ap encFrac (h P refl) ∙ ap (λ j. encFrac (Tree.tree ExtRing (node rows) j 0)) k)
   after-tells ch m size non-zero-root-sum h n s d = absurd (done-refused n s NonZeroRootSum (sym d))
 
-  ran-tells : (asserted : Bool) (ch : List ℕ) (n : ℕ) → (n ≡ 0) ⊎ (rowCount rows ≡ 2 ^ n) → Tells rows (ran rows asserted ch n)
-  ran-tells asserted ch zero size =
+  ran-tells : (modes : Proving) (ch : List ℕ) (n : ℕ) → (n ≡ 0) ⊎ (rowCount rows ≡ 2 ^ n) → Tells rows (ran rows modes ch n)
+  ran-tells modes ch zero size =
       either (Tells rows) (eqb (rowCount rows) 0) _ _
       (λ z n s d. let e : encFrac none ≡ s = cc in inl (sym e))
-      (λ z n s d. absurd (done-refused n s (oneRow rows asserted) (sym d)))
-  ran-tells asserted ch (suc m) (inl z) = absurd (omega arith)
-  ran-tells asserted ch (suc m) (inr size) =
-      let needed = supplied (take (4 * challenges (suc m)) ch) in
+      (λ z n s d. absurd (done-refused n s (oneRow rows (modes .«assert_zero»)) (sym d)))
+  ran-tells modes ch (suc m) (inl z) = absurd (omega arith)
+  ran-tells modes ch (suc m) (inr size) =
+      let needed = source (modes .drawn) (take (neededWords (modes .drawn) (suc m)) ch) in
+      let asserted = modes .«assert_zero» in
       after-tells needed m size (Gkr.fractional-sumcheck Extension (Drawing needed) asserted m (node rows) empty) (run-sum needed asserted m)
 
 -- no rounds, or a power of two

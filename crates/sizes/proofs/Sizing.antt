@@ -9,8 +9,9 @@ use native.Mathlib.Omega.{arith}
 use borrow.Author.Tests.{le-leb, lt-leb, eq-eqb, ne-eqb}
 use lib.Dec.{eqb}
 use Rattle.gkr.specs.Sizes.{challenges, proof-bytes}
+use Rattle.gkr.specs.Tests.{pass, fail}
 use Rattle.refusal.specs.Limits.{maxRounds}
-use Rattle.sizes.specs.Sizes.{roundsFrom, roundsOf, isSize, logRoom, workRoom}
+use Rattle.sizes.specs.Sizes.{roundsFrom, roundsOf, isSize, neededWords, logRoom, workRoom}
 
 -- THE LEAST NUMBER OF ROUNDS
 
@@ -57,6 +58,12 @@ size-some count n rows h e p = rw (ne-eqb count 0 h) (ap (eqb count) (p ∙ ap (
 
 pub challenges-none : (n : ℕ) → n ≡ 0 → 0 ≡ 4 * challenges n
 challenges-none n h = ap (λ k. 4 * challenges k) (sym h)
+
+pub needed-none : (drawn : Bool) (n : ℕ) → drawn ≡ true → 0 ≡ neededWords drawn n
+needed-none drawn n h = sym (pass _ _ _ h)
+
+pub needed-all : (drawn : Bool) (n : ℕ) {k : ℕ} → drawn ≡ false → k ≡ 4 * challenges n → k ≡ neededWords drawn n
+needed-all drawn n h e = e ∙ sym (fail _ _ _ h)
 
 pub proof-none : (n : ℕ) → n ≡ 0 → 23 ≡ proof-bytes n
 proof-none n h = ap proof-bytes (sym h)

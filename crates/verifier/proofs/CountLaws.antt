@@ -1,7 +1,7 @@
 -- The two counts, and what the run asks once they are right.
 -- Assumes nothing.
 use mathlib.Core.Path.{_≡_, refl, sym, _∙_, ap, ap₂, subst}
-use mathlib.Core.Bool.{true, false}
+use mathlib.Core.Bool.{Bool, true, false}
 use mathlib.Core.List.{List, [], _∷_, _++_, map}
 use Prim.Native.Nat.{ℕ, suc, _+_, _*_, _-_, _≤_}
 use native.Mathlib.Omega.{arith}
@@ -22,7 +22,7 @@ use Rattle.transcript.specs.declared.Pos.{Pos}
 use Rattle.transcript.specs.Log.{Drawing, logOf}
 use Rattle.refusal.specs.declared.Refusal.{Refusal}
 use Rattle.refusal.specs.declared.Refusal.the-variants.{IncorrectLayerCount, IncorrectSumcheckPolyCount}
-use Rattle.sizes.specs.Sizes.{logRoom}
+use Rattle.sizes.specs.Sizes.{neededWords, logRoom}
 use Rattle.wire.specs.Bytes.{elem}
 use Rattle.wire.specs.Words.{allCanonical, extWords}
 use Rattle.wire.specs.WordLaws.{canonical-left, canonical-right, canonical-elem}
@@ -132,23 +132,24 @@ module _ (bs lg : List ℕ) (ch : Source E.Ext) (n : ℕ) (o : Outline) (some : 
       root-counted pt' lg' r h = subst (λ v. Ends lg lg' pt' ch pos n v r) (ap rooted log-empty ∙ sym root-is) h
 
 -- ---- what the run asks
-module _ (bs pt lg ch : List ℕ) (n : ℕ) (o : Outline) (r : Ready bs pt lg ch n o) where
+module _ (bs pt lg ch : List ℕ) (drawn : Bool) (n : ℕ) (o : Outline) (r : Ready bs pt lg ch drawn n o) where
   abbrev k : ℕ
   k = n - 1
 
   k-is : n ≡ suc k
   k-is = omega (arith, r .some)
 
-  pub ready-space : (pos : Pos) → Starts pos → RootSpace lg ch pos k
+  pub ready-space : (pos : Pos) → pos .drawn ≡ drawn → Starts pos → RootSpace lg ch pos k
   unfolding run-cost
-  ready-space pos st =
+  ready-space pos p st =
       let w = words k in
       let d = draws k in
       let e : logRoom true n ≡ logRoom true (suc k) = ap (logRoom true) k-is in
       let f : challenges n ≡ challenges (suc k) = ap challenges k-is in
+      let g : pos .drawn ≡ false → 4 * challenges n ≤ length ch = λ h. subst (λ b. neededWords b n ≤ length ch) (sym p ∙ h) (r .chals) in
       record {
         put = omega (arith, w, e, r .log-room, st .put);
-        enough = record { room = λ _. omega (arith, d, f, r .chals, st .used); clean = λ _. r .clean; counted = omega (arith, st .put, st .used); holds = st .holds _ };
+        enough = record { room = λ h. omega (arith, d, f, g h, st .used); clean = λ _. r .clean; counted = omega (arith, st .put, st .used); holds = st .holds _ };
       }
 
   q0-part : allCanonical (extWords (elem (drop 5 bs))) ≡ true

@@ -1,7 +1,7 @@
 -- The end: what the run left is the definition's outcome, and no second one fits.
 -- Assumes nothing.
 use mathlib.Core.Path.{_≡_, refl, sym, _∙_, ap, ap₂, subst}
-use mathlib.Core.Bool.{Bool, false}
+use mathlib.Core.Bool.{Bool}
 use mathlib.Core.List.{List, _++_}
 use Prim.Native.Nat.{ℕ, _*_, _≤_}
 use native.Mathlib.Omega.{arith}
@@ -13,7 +13,6 @@ use Rattle.field.specs.ElementLaws.{enc-dec}
 use Rattle.field.specs.Cells.{Clean, cells}
 use Rattle.field.specs.PointLaws.{point-is}
 use Rattle.gkr.specs.Gkr.{accepted}
-use Rattle.gkr.specs.Sizes.{challenges}
 use Rattle.gkr.specs.Transcripts.{Source}
 use Rattle.transcript.specs.declared.Pos.{Pos}
 use Rattle.transcript.specs.Source.{source}
@@ -22,6 +21,7 @@ use Rattle.refusal.specs.Limits.{maxRounds}
 use Rattle.refusal.specs.declared.Refusal.{Refusal}
 use Rattle.refusal.specs.Tests.{refused, firstOf}
 use Rattle.refusal.specs.Fronts.{over}
+use Rattle.sizes.specs.Sizes.{neededWords}
 use Rattle.wire.specs.Words.{allCanonical}
 use Rattle.wire.specs.WordLaws.{canonical-below}
 use Rattle.stored.specs.declared.Outline.{Outline}
@@ -66,9 +66,9 @@ module _ (p lg lg' : List ℕ) (ch : Source E.Ext) (pos : Pos) (v : Model ch) (l
 pub opened-of : (a : Asked) (points logs : ℕ) (g : Gate) (o : Outline) → g ≡ Open o → Gated a points logs g → Opened a points logs o
 opened-of a points logs g o q h = subst (Gated a points logs) q h
 
-pub ready-of : (a : Asked) (pt lg : List ℕ) (k points : ℕ) (o : Outline) → Opened a points (length lg) o → k ≡ 4 * challenges (a .rounds) → 4 * maxRounds ≤ length pt → Clean pt
-    → Ready (a .proof) pt lg (take k (a .challenges)) (a .rounds) o
-ready-of a pt lg k points o h ke r c =
+pub ready-of : (a : Asked) (pt lg : List ℕ) (k points : ℕ) (o : Outline) (drawn : Bool) → drawn ≡ a .modes .drawn → Opened a points (length lg) o → k ≡ neededWords (a .modes .drawn) (a .rounds)
+    → 4 * maxRounds ≤ length pt → Clean pt → Ready (a .proof) pt lg (take k (a .challenges)) drawn (a .rounds) o
+ready-of a pt lg k points o drawn q h ke r c =
     let g = passes h in
     let l : length (take k (a .challenges)) ≡ k = length-take-le k (a .challenges) (omega (arith, g .chals, ke)) in
     record {
@@ -77,7 +77,7 @@ ready-of a pt lg k points o h ke r c =
       canon = g .canon;
       room = omega (arith, g .few);
       log-room = g .log-room;
-      chals = omega (arith, l, ke);
+      chals = subst (λ d. neededWords d (a .rounds) ≤ length (take k (a .challenges))) (sym q) (omega (arith, l, ke));
       points = c;
       clean = record { below = canonical-below (take k (a .challenges)) (ap (λ m. allCanonical (take m (a .challenges))) ke ∙ g .clean) };
     }
@@ -98,7 +98,7 @@ module _ (a : Asked) (b : Lent) where
   abbrev over-source : (drawn : Bool) (k : ℕ) → Outcome
   over-source drawn k = let ch = source drawn (take k (a .challenges)) in laid (ended ch (verdict (a .proof) (a .rounds) ch)) b
 
-  pub run-is : (k : ℕ) (o : Outline) (x : Outcome) (drawn : Bool) → drawn ≡ false → Opened a (length (b .point)) (length (b .log)) o → k ≡ 4 * challenges (a .rounds)
+  pub run-is : (k : ℕ) (o : Outline) (x : Outcome) (drawn : Bool) → drawn ≡ a .modes .drawn → Opened a (length (b .point)) (length (b .log)) o → k ≡ neededWords (a .modes .drawn) (a .rounds)
       → x ≡ over-source drawn k → x ≡ verified a b
   unfolding verified
   run-is k o x drawn q g e h = h ∙ ap₂ over-source q e ∙ ap (λ t. laid (fronts a t) b) (sym (g .passes))

@@ -10,13 +10,12 @@ use lib.Dec.{eqb, ltb}
 use lib.ListN.{length, getD, take, drop}
 use Rattle.field.specs.declared.Ext.{Ext}
 use Rattle.gkr.specs.Run.{Proof}
-use Rattle.gkr.specs.Sizes.{challenges}
 use Rattle.refusal.specs.Limits.{maxRounds}
 use Rattle.refusal.specs.declared.Refusal.{Refusal}
 use Rattle.refusal.specs.declared.Refusal.the-variants.{ShortChallenges, ShortRoom, BadWord, ZeroRounds, TooManyRounds, BadVersion, BadLength}
 use Rattle.refusal.specs.Tests.{Test, Tested, passed, refused, test, firstOf}
 use Rattle.refusal.specs.TestLaws.{all-passed, passed-all}
-use Rattle.sizes.specs.Sizes.{logRoom}
+use Rattle.sizes.specs.Sizes.{neededWords, logRoom}
 use Rattle.wire.specs.Words.{allCanonical}
 use Rattle.stored.specs.declared.Outline.{Outline}
 use Rattle.stored.specs.declared.Shape.{Shape}
@@ -70,19 +69,19 @@ module _ (a : Asked) (points logs : ℕ) where
     unfolding firstOf
     way-11 h = rw (ne-eqb n 0 h1, lt-ltb maxRounds n h)
 
-    module _ (h2 : n ≤ maxRounds) (k : ℕ) (ke : k ≡ 4 * challenges n) where
+    module _ (h2 : n ≤ maxRounds) (k : ℕ) (ke : k ≡ neededWords (a .modes .drawn) n) where
       few-rounds : way ≡ firstOf (drop 2 (tests a points logs))
       unfolding firstOf
       few-rounds = rw (ne-eqb n 0 h1, le-ltb maxRounds n h2)
 
       pub way-4 : length (a .challenges) < k → way ≡ refused ShortChallenges
       unfolding firstOf
-      way-4 h = few-rounds ∙ rw (lt-ltb (length (a .challenges)) (4 * challenges n) (subst (λ m. length (a .challenges) < m) ke h))
+      way-4 h = few-rounds ∙ rw (lt-ltb (length (a .challenges)) (neededWords (a .modes .drawn) n) (subst (λ m. length (a .challenges) < m) ke h))
 
       module _ (h3 : k ≤ length (a .challenges)) where
         enough : way ≡ firstOf (drop 3 (tests a points logs))
         unfolding firstOf
-        enough = few-rounds ∙ rw (le-ltb (length (a .challenges)) (4 * challenges n) (subst (λ m. m ≤ length (a .challenges)) ke h3))
+        enough = few-rounds ∙ rw (le-ltb (length (a .challenges)) (neededWords (a .modes .drawn) n) (subst (λ m. m ≤ length (a .challenges)) ke h3))
 
         pub way-5 : points < 4 * n → way ≡ refused ShortRoom
         unfolding firstOf
@@ -125,7 +124,7 @@ neither false y h = (refl, h)
 pub record Passes (a : Asked) (points logs : ℕ) : Type 0 where
   pub some : 1 ≤ a .rounds
   pub few : a .rounds ≤ maxRounds
-  pub chals : 4 * challenges (a .rounds) ≤ length (a .challenges)
+  pub chals : neededWords (a .modes .drawn) (a .rounds) ≤ length (a .challenges)
   pub room : 4 * a .rounds ≤ points
   pub log-room : logRoom true (a .rounds) ≤ logs
   pub canon : allCanonical (proofWords (proofOf (a .proof))) ≡ true
@@ -138,7 +137,7 @@ passes {a} {points} {logs} g =
     record {
       some = omega (arith, eqb-false (a .rounds) 0 (m .0));
       few = ltb-false maxRounds (a .rounds) (m .1 .0);
-      chals = ltb-false (length (a .challenges)) (4 * challenges (a .rounds)) (m .1 .1 .0);
+      chals = ltb-false (length (a .challenges)) (neededWords (a .modes .drawn) (a .rounds)) (m .1 .1 .0);
       room = ltb-false points (4 * a .rounds) (r .0);
       log-room = ltb-false logs (logRoom true (a .rounds)) (r .1);
       canon = not-false _ (m .1 .1 .1 .1 .1 .1 .0);
@@ -153,7 +152,7 @@ opens-all a points logs r h root =
       (
         le-ltb maxRounds (a .rounds) (h .few),
         (
-          le-ltb (length (a .challenges)) (4 * challenges (a .rounds)) (h .chals),
+          le-ltb (length (a .challenges)) (neededWords (a .modes .drawn) (a .rounds)) (h .chals),
           (
             ap₂ _||_ (le-ltb points (4 * a .rounds) (h .room)) (le-ltb logs (logRoom true (a .rounds)) (h .log-room)),
             (

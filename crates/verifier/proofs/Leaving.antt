@@ -7,13 +7,12 @@ use lib.ListN.{length}
 use Rattle.field.specs.Ext as E
 use Rattle.gkr.specs.Transcripts.{Source}
 use Rattle.gkr.specs.Gkr.{accepted, zero-rounds, layer-count, poly-count, zero-check, root-check, subround-count, layer-check}
-use Rattle.transcript.specs.Source.{supplied}
 use Rattle.refusal.specs.declared.Refusal.{Refusal}
 use Rattle.refusal.specs.Numbers.{reportOf}
 use Rattle.refusal.specs.Tests.{Tested, passed, refused, firstOf}
 use Rattle.verifier_round.specs.declared.Verdict.the-variants.{Refused}
 use Rattle.verifier_round.specs.Verdicts.{Model}
-use Rattle.verifier.specs.Verified.{Asked, Lent, needed, tests, ended, fronts, laid, verified}
+use Rattle.verifier.specs.Verified.{Asked, Lent, sourceOf, tests, ended, fronts, laid, verified}
 use Rattle.verifier.specs.Gates.{verdict}
 use Rattle.verifier.specs.Companions.{Isolation, Untouched}
 
@@ -62,11 +61,11 @@ module _ (b : Lent) (e : Refusal) where
 
   point-left : (a : Asked) (w : Tested) → fronts a w .answer ≡ Refused e → laid (fronts a w) b .buffers .point ≡ b .point
   point-left a (refused r) h = refl
-  point-left a passed h = run-point (supplied (needed a)) (verdict (a .proof) (a .rounds) (supplied (needed a))) h
+  point-left a passed h = run-point (sourceOf a) (verdict (a .proof) (a .rounds) (sourceOf a)) h
 
   both-left : (a : Asked) (w : Tested) → fronts a w .answer ≡ Refused e → Other → laid (fronts a w) b .buffers ≡ b
   both-left a (refused r) h l = refl
-  both-left a passed h l = run-both (supplied (needed a)) (verdict (a .proof) (a .rounds) (supplied (needed a))) h l
+  both-left a passed h l = run-both (sourceOf a) (verdict (a .proof) (a .rounds) (sourceOf a)) h l
 
 pub untouched : (a : Asked) (b : Lent) → Untouched a b
 unfolding verified

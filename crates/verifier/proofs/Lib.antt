@@ -4,4 +4,6 @@ pub mod RootLaws
 pub mod CountLaws
 pub mod EndLaws
 pub mod Leaving
+pub mod Answers
 pub mod Modes
+pub mod Unread

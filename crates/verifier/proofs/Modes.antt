@@ -9,12 +9,8 @@ use lib.Dec.{eqb}
 use lib.ListN.{length}
 use Rattle.field.specs.Ext as E
 use Rattle.field.specs.ExtRing.{same-of}
-use Rattle.gkr.specs.Transcripts.{Source}
-use Rattle.gkr.specs.Gkr.{accepted, zero-rounds, layer-count, poly-count, zero-check, root-check, subround-count, layer-check}
-use Rattle.transcript.specs.Source.{supplied}
 use Rattle.refusal.specs.declared.Refusal.{Refusal}
 use Rattle.refusal.specs.declared.Refusal.the-variants.{ZeroRoot}
-use Rattle.refusal.specs.Numbers.{reportOf}
 use Rattle.refusal.specs.Tests.{Tested, passed, refused, firstOf}
 use Rattle.refusal.specs.TestLaws.{passed-all}
 use Rattle.refusal.specs.TestWays.{next, each-way}
@@ -22,29 +18,12 @@ use Rattle.stored.specs.Parse.{layerCount, entryCount}
 use Rattle.stored.specs.ParseLaws.{fits-reads}
 use Rattle.stored.specs.Elements.{overZero}
 use Rattle.stored.specs.ElementLaws.{root-there, root-nil}
-use Rattle.verifier_round.specs.declared.Verdict.{Verdict}
 use Rattle.verifier_round.specs.declared.Verdict.the-variants.{Refused}
-use Rattle.verifier_round.specs.Report.{verdictReport}
-use Rattle.verifier_round.specs.Verdicts.{Model}
-use Rattle.verifier.specs.Verified.{Asked, Lent, needed, counted, tests, ended, fronts, laid, verified}
+use Rattle.verifier.specs.Verified.{Asked, Lent, sourceOf, counted, tests, fronts, laid, verified}
 use Rattle.verifier.specs.Gates.{verdict}
 use Rattle.verifier.specs.Companions.{in-mode, ZeroRooted, LiveVerifying}
+use Rattle.verifier.proofs.Answers.{unlike, not-by-run}
 use Rattle.verifier.proofs.RootLaws.{then-root}
-
--- 27 IS NO OTHER ANSWER
-
-unlike : (k : ℕ) (a : Verdict) → verdictReport a .number ≡ k → (k ≡ 27 → ⊥) → ¬ (a ≡ Refused ZeroRoot)
-unlike k a e h q = h (sym e ∙ ap (λ x. verdictReport x .number) q)
-
-not-by-run : (ch : Source E.Ext) (v : Model ch) → ¬ (ended ch v .answer ≡ Refused ZeroRoot)
-not-by-run ch (accepted x z t) = unlike 0 _ refl (λ e. omega arith)
-not-by-run ch zero-rounds = unlike 10 _ refl (λ e. omega arith)
-not-by-run ch (layer-count expected actual) = unlike 14 _ refl (λ e. omega arith)
-not-by-run ch (poly-count expected actual) = unlike 15 _ refl (λ e. omega arith)
-not-by-run ch (zero-check actual t) = unlike 16 _ refl (λ e. omega arith)
-not-by-run ch (root-check expected actual t) = unlike 17 _ refl (λ e. omega arith)
-not-by-run ch (subround-count round expected actual t) = unlike 18 _ refl (λ e. omega arith)
-not-by-run ch (layer-check round expected actual t) = unlike 19 _ refl (λ e. omega arith)
 
 passed-not : (e : Refusal) → refused e ≡ passed → ⊥
 passed-not e h = let z : _≡_ {A = ℕ} 0 1 = cc in omega arith
@@ -65,25 +44,24 @@ module _ (a : Asked) (b : Lent) where
 
   not-in-sandbox : Fine front
   not-in-sandbox =
-      let n : (k : ℕ) (e : Refusal) → reportOf e .number ≡ k → (k ≡ 27 → ⊥) → Fine (refused e) = λ k e q h. unlike k (Refused e) q h in
       each-way Fine (tests (in-mode false a) points logs) (
-        λ m. n 10 _ refl (λ e. omega arith),
+        λ m. unlike _ ZeroRoot refl,
         λ u1. (
-          λ m. n 11 _ refl (λ e. omega arith),
+          λ m. unlike _ ZeroRoot refl,
           λ u2. (
-            λ m. n 4 _ refl (λ e. omega arith),
+            λ m. unlike _ ZeroRoot refl,
             λ u3. (
-              λ m. n 5 _ refl (λ e. omega arith),
+              λ m. unlike _ ZeroRoot refl,
               λ u4. (
-                λ m. n 12 _ refl (λ e. omega arith),
+                λ m. unlike _ ZeroRoot refl,
                 λ u5. (
-                  λ m. n 13 _ refl (λ e. omega arith),
+                  λ m. unlike _ ZeroRoot refl,
                   λ u6. (
-                    λ m. n 6 _ refl (λ e. omega arith),
+                    λ m. unlike _ ZeroRoot refl,
                     λ u7. (
-                      λ m. n 6 _ refl (λ e. omega arith),
+                      λ m. unlike _ ZeroRoot refl,
                       λ u8.
-                          (λ m. absurd (false≢true m), λ u9. not-by-run (supplied (needed a)) (verdict (a .proof) (a .rounds) (supplied (needed a)))),
+                          (λ m. absurd (false≢true m), λ u9. not-by-run (sourceOf a) (verdict (a .proof) (a .rounds) (sourceOf a)) ZeroRoot refl),
                     ),
                   ),
                 ),

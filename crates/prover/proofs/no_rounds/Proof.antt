@@ -15,13 +15,13 @@ same-length : tie.Need-same-length
 same-length c = search needs
 
 returns : tie.Need-returns
-returns c = none-done (c .before .before .before .before .before .before .before .args .rows .now) (c .before .before .before .before .before .before .before .args .proof .now) (c .before .before .put-no-rows .last .0) (c .before .before .before .before .before .before .before .args .asserted) (c .before .before .before .before .if1 .taken) (c .before .before .before .before .before .before .before .pre .1) (omega (arith, c .before .before .put-no-rows .kept)) (c .before .before .put-no-rows .ensures .1)
+returns c = none-done (c .before .before .before .before .before .before .before .args .rows .now) (c .before .before .before .before .before .before .before .args .proof .now) (c .before .before .put-no-rows .last .0) (c .before .before .before .before .before .before .before .args .modes) (c .before .before .before .before .if1 .taken) (c .before .before .before .before .before .before .before .pre .1) (omega (arith, c .before .before .put-no-rows .kept)) (c .before .before .put-no-rows .ensures .1)
 
 one-row-requires : tie.Need-one-row-requires
 one-row-requires c κs = search needs
 
 returns-2 : tie.Need-returns-2
-returns-2 c = one-done (c .before .before .before .before .args .rows .now) (c .before .before .before .before .args .proof .now) (c .before .before .before .before .args .asserted) (c .before .if1 .left) (c .one-row .ensures)
+returns-2 c = one-done (c .before .before .before .before .args .rows .now) (c .before .before .before .before .args .proof .now) (c .before .before .before .before .args .modes) (c .before .if1 .left) (c .one-row .ensures)
 
 pub no-rounds-spec : {M : Type 1} → statement M
 no-rounds-spec =

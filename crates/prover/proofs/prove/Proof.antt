@@ -17,8 +17,9 @@ use Rattle.prover_tree.proofs.clear.Reads as clear-reads
 
 sum-rows-requires : tie.Need-sum-rows-requires
 sum-rows-requires c κs =
-    let p = c .before .before .before .before .before .before .before .pre .0 in
-    ((omega (arith, p .0 .pow, pow-pos (c .before .before .before .before .before .before .before .args .n)), p .1, omega (arith, work-enough (p .0 .some) (p .0 .pow) (p .0 .work))), c .before .before .before .before .before .before .before .pre .1 .0)
+    let p = c .before .before .before .before .before .before .before .pre in
+    let r = p .0 in
+    ((omega (arith, r .pow, pow-pos (c .before .before .before .before .before .before .before .args .n)), p .1 .0, omega (arith, work-enough (r .some) (r .pow) (r .work))), p .1 .1)
 
 contradicts-requires : tie.Need-contradicts-requires
 contradicts-requires c κs = search needs
@@ -31,7 +32,7 @@ same-length c = search needs
 
 returns : tie.Need-returns
 returns c =
-    let p = c .before .before .before .before .before .before .before .before .before .before .before .before .before .before .before .before .pre .0 .0 in
+    let p = c .before .before .before .before .before .before .before .before .before .before .before .before .before .before .before .before .pre .0 in
     let s = c .before .before .before .before .before .before .before .before .sum-rows .ensures in
     λ m e. prove-refused (c .before .before .before .before .before .before .before .before .before .before .before .before .before .before .before .before .args .rows .now) _ _ _ _ (c .before .before .before .before .before .before .before .before .before .before .before .before .before .before .before .before .args .work .now) _ m _ _ e (p .work) (s .sum m (p .pow ∙ ap (λ k. 2 ^ k) e)) (c .before .before .before .before .before .contradicts .ensures) (c .before .before .before .before .before .before .before .before .sum-rows .last .1 .1 .0) _ (c .before .before .before .before .if1 .taken) (omega (arith, c .before .before .before .before .before .before .before .before .sum-rows .kept)) (c .before .before .clear .ensures)
 
@@ -40,8 +41,8 @@ write-run-requires c κs =
     let p = c .before .before .before .before .before .before .before .before .before .before .before .before .before .before .before .before .pre in
     let s = c .before .before .before .before .before .before .before .before .sum-rows .ensures in
     let k = c .before .before .before .before .before .before .before .before .sum-rows .kept in
-    let r = p .0 .0 in
-    (record { some = r .some; few = r .few; pow = r .pow; proof = r .proof; point = r .point; log = r .log; used = r .used; work = omega (arith, r .work, k) }, (s .clean, p .1 .1, record { p = s .known .p .canon; q = s .known .q .canon }))
+    let r = p .0 in
+    (record { some = r .some; few = r .few; pow = r .pow; proof = r .proof; point = r .point; log = r .log; used = r .used; work = omega (arith, r .work, k) }, (s .clean, p .1 .2, record { p = s .known .p .canon; q = s .known .q .canon }))
 
 same-length-2 : tie.Need-same-length-2
 same-length-2 c = search needs
@@ -57,7 +58,7 @@ same-length-5 c = search needs
 
 returns-2 : tie.Need-returns-2
 returns-2 c =
-    let p = c .before .before .before .before .before .before .before .before .before .before .before .before .before .before .before .before .before .before .before .before .before .before .before .before .before .pre .0 .0 in
+    let p = c .before .before .before .before .before .before .before .before .before .before .before .before .before .before .before .before .before .before .before .before .before .before .before .before .before .pre .0 in
     let s = c .before .before .before .before .before .before .before .before .before .before .before .before .before .before .before .before .before .sum-rows .ensures in
     λ m e.
     let z = p .pow ∙ ap (λ k. 2 ^ k) e in

@@ -1,4 +1,4 @@
-use mathlib.Core.Path.{_∙_}
+use mathlib.Core.Path.{sym, _∙_}
 use Rattle.prover.proofs.Opening.{log-sum, work-enough}
 use Rattle.prover.proofs.Writing.{quarter, written, run-alike}
 use native.Mathlib.Omega.{arith}
@@ -27,7 +27,7 @@ run-rounds-requires c κs =
     let k = c .before .before .before .before .before .begin .kept in
     let o = c .before .before .before .before .before .before .before .start .ensures in (
       (p .some, p .pow, omega (arith, work-enough (p .some) (p .pow) (p .work))),
-      ((omega (arith, p .point), omega (arith, p .log, s .put, o .0, k), record { room = λ _. omega (arith, p .used, s .used, o .1); clean = λ _. q .1; counted = omega (arith, s .used, o .1); holds = s .holds (o .3 _) }), (q .0, q .2 .q)),
+      ((omega (arith, p .point), omega (arith, p .log, s .put, o .0, k), record { room = λ h. omega (arith, p .used (sym (s .drawn ∙ o .2) ∙ h), s .used, o .1); clean = λ _. q .1; counted = omega (arith, s .used, o .1); holds = s .holds (o .3 _) }), (q .0, q .2 .q)),
     )
 
 put-proof-requires : tie.Need-put-proof-requires

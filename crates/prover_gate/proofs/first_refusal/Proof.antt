@@ -25,13 +25,13 @@ returns-3 c =
     let s = c .before in let z = s .before in
     refuse-3 _ _ (z .before .before .if1 .left) (z .before .if2 .left) (s .fills .ensures) (not-true _ (c .if3 .taken))
 
-challenge-words-requires : tie.Need-challenge-words-requires
-challenge-words-requires c κs = search needs
+needed-words-requires : tie.Need-needed-words-requires
+needed-words-requires c κs = search needs
 
 returns-4 : tie.Need-returns-4
 returns-4 c =
     let k = c .before in let s = k .before .before in let z = s .before in
-    refuse-4 _ _ (z .before .before .if1 .left) (z .before .if2 .left) (s .fills .ensures) (not-false _ (k .before .if3 .left)) (z .least-size .ensures) (k .challenge-words .ensures) (c .if4 .taken)
+    refuse-4 _ _ (z .before .before .if1 .left) (z .before .if2 .left) (s .fills .ensures) (not-false _ (k .before .if3 .left)) (z .least-size .ensures) (k .needed-words .ensures) (c .if4 .taken)
 
 short-room-requires : tie.Need-short-room-requires
 short-room-requires c κs = search needs
@@ -39,7 +39,7 @@ short-room-requires c κs = search needs
 returns-5 : tie.Need-returns-5
 returns-5 c =
     let t = c .before in let k = t .before .before in let s = k .before .before in let z = s .before in
-    refuse-5 _ _ (z .before .before .if1 .left) (z .before .if2 .left) (s .fills .ensures) (not-false _ (k .before .if3 .left)) (z .least-size .ensures) (k .challenge-words .ensures) (t .before .if4 .left) (t .short-room .ensures) (c .if5 .taken)
+    refuse-5 _ _ (z .before .before .if1 .left) (z .before .if2 .left) (s .fills .ensures) (not-false _ (k .before .if3 .left)) (z .least-size .ensures) (k .needed-words .ensures) (t .before .if4 .left) (t .short-room .ensures) (c .if5 .taken)
 
 canonical-words-requires : tie.Need-canonical-words-requires
 canonical-words-requires c κs = search needs
@@ -47,12 +47,12 @@ canonical-words-requires c κs = search needs
 returns-6 : tie.Need-returns-6
 returns-6 c =
     let u = c .before in let t = u .before .before in let k = t .before .before in let s = k .before .before in let z = s .before in
-    refuse-6 _ _ (z .before .before .if1 .left) (z .before .if2 .left) (s .fills .ensures) (not-false _ (k .before .if3 .left)) (z .least-size .ensures) (k .challenge-words .ensures) (t .before .if4 .left) (t .short-room .ensures) (u .before .if5 .left) (u .canonical-words .ensures) (not-true _ (c .if6 .taken))
+    refuse-6 _ _ (z .before .before .if1 .left) (z .before .if2 .left) (s .fills .ensures) (not-false _ (k .before .if3 .left)) (z .least-size .ensures) (k .needed-words .ensures) (t .before .if4 .left) (t .short-room .ensures) (u .before .if5 .left) (u .canonical-words .ensures) (not-true _ (c .if6 .taken))
 
 slice-aggregate-canonical-words : tie.Need-slice-aggregate-canonical-words
 slice-aggregate-canonical-words c =
     let t = c .before .before .before .before in let k = t .before .before in
-    sym (length-take-le (k .challenge-words .result) (k .before .before .before .before .before .before .before .before .args .challenges .now) (t .before .if4 .left))
+    sym (length-take-le (k .needed-words .result) (k .before .before .before .before .before .before .before .before .args .challenges .now) (t .before .if4 .left))
 
 canonical-words-requires-2 : tie.Need-canonical-words-requires-2
 canonical-words-requires-2 c κs = search needs
@@ -60,12 +60,12 @@ canonical-words-requires-2 c κs = search needs
 returns-7 : tie.Need-returns-7
 returns-7 c =
     let w = c .before in let u = w .before .before .before in let t = u .before .before in let k = t .before .before in let s = k .before .before in let z = s .before in
-    refuse-6' _ _ (z .before .before .if1 .left) (z .before .if2 .left) (s .fills .ensures) (not-false _ (k .before .if3 .left)) (z .least-size .ensures) (k .challenge-words .ensures) (t .before .if4 .left) (t .short-room .ensures) (u .before .if5 .left) (u .canonical-words .ensures) (not-false _ (w .before .before .if6 .left)) (w .canonical-words2 .ensures) (not-true _ (c .if7 .taken))
+    refuse-6' _ _ (z .before .before .if1 .left) (z .before .if2 .left) (s .fills .ensures) (not-false _ (k .before .if3 .left)) (z .least-size .ensures) (k .needed-words .ensures) (t .before .if4 .left) (t .short-room .ensures) (u .before .if5 .left) (u .canonical-words .ensures) (not-false _ (w .before .before .if6 .left)) (w .canonical-words2 .ensures) (not-true _ (c .if7 .taken))
 
 returns-8 : tie.Need-returns-8
 returns-8 c =
     let w = c .before .before .before in let u = w .before .before .before in let t = u .before .before in let k = t .before .before in let s = k .before .before in let z = s .before in
-    sandbox-passes _ _ (z .before .before .if1 .left) (z .before .if2 .left) (s .fills .ensures) (not-false _ (k .before .if3 .left)) (z .least-size .ensures) (k .challenge-words .ensures) (t .before .if4 .left) (t .short-room .ensures) (u .before .if5 .left) (u .canonical-words .ensures) (not-false _ (w .before .before .if6 .left)) (w .canonical-words2 .ensures) (not-false _ (c .before .before .if7 .left)) (not-true _ (c .if8 .taken))
+    sandbox-passes _ _ (z .before .before .if1 .left) (z .before .if2 .left) (s .fills .ensures) (not-false _ (k .before .if3 .left)) (z .least-size .ensures) (k .needed-words .ensures) (t .before .if4 .left) (t .short-room .ensures) (u .before .if5 .left) (u .canonical-words .ensures) (not-false _ (w .before .before .if6 .left)) (w .canonical-words2 .ensures) (not-false _ (c .before .before .if7 .left)) (not-true _ (c .if8 .taken))
 
 lowest-row-requires : tie.Need-lowest-row-requires
 lowest-row-requires c κs =
@@ -75,12 +75,12 @@ lowest-row-requires c κs =
 returns-9 : tie.Need-returns-9
 returns-9 c =
     let l = c .before in let v = l .before in let w = v .before .before .before in let u = w .before .before .before in let t = u .before .before in let k = t .before .before in let s = k .before .before in let z = s .before in
-    refuse-7 _ _ (z .before .before .if1 .left) (z .before .if2 .left) (s .fills .ensures) (not-false _ (k .before .if3 .left)) (z .least-size .ensures) (k .challenge-words .ensures) (t .before .if4 .left) (t .short-room .ensures) (u .before .if5 .left) (u .canonical-words .ensures) (not-false _ (w .before .before .if6 .left)) (w .canonical-words2 .ensures) (not-false _ (v .before .before .if7 .left)) (not-false _ (v .if8 .left)) (l .lowest-row .ensures) (c .if9 .taken)
+    refuse-7 _ _ (z .before .before .if1 .left) (z .before .if2 .left) (s .fills .ensures) (not-false _ (k .before .if3 .left)) (z .least-size .ensures) (k .needed-words .ensures) (t .before .if4 .left) (t .short-room .ensures) (u .before .if5 .left) (u .canonical-words .ensures) (not-false _ (w .before .before .if6 .left)) (w .canonical-words2 .ensures) (not-false _ (v .before .before .if7 .left)) (not-false _ (v .if8 .left)) (l .lowest-row .ensures) (c .if9 .taken)
 
 returns-10 : tie.Need-returns-10
 returns-10 c =
     let l = c .before in let v = l .before in let w = v .before .before .before in let u = w .before .before .before in let t = u .before .before in let k = t .before .before in let s = k .before .before in let z = s .before in
-    live-passes _ _ (z .before .before .if1 .left) (z .before .if2 .left) (s .fills .ensures) (not-false _ (k .before .if3 .left)) (z .least-size .ensures) (k .challenge-words .ensures) (t .before .if4 .left) (t .short-room .ensures) (u .before .if5 .left) (u .canonical-words .ensures) (not-false _ (w .before .before .if6 .left)) (w .canonical-words2 .ensures) (not-false _ (v .before .before .if7 .left)) (not-false _ (v .if8 .left)) (l .lowest-row .ensures) (c .if9 .left)
+    live-passes _ _ (z .before .before .if1 .left) (z .before .if2 .left) (s .fills .ensures) (not-false _ (k .before .if3 .left)) (z .least-size .ensures) (k .needed-words .ensures) (t .before .if4 .left) (t .short-room .ensures) (u .before .if5 .left) (u .canonical-words .ensures) (not-false _ (w .before .before .if6 .left)) (w .canonical-words2 .ensures) (not-false _ (v .before .before .if7 .left)) (not-false _ (v .if8 .left)) (l .lowest-row .ensures) (c .if9 .left)
 
 pub first-refusal-spec : {M : Type 1} → statement M
 first-refusal-spec =
@@ -91,7 +91,7 @@ first-refusal-spec =
     least-size-requires
     fills-requires
     returns-3
-    challenge-words-requires
+    needed-words-requires
     returns-4
     short-room-requires
     returns-5

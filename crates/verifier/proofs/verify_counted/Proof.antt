@@ -20,7 +20,7 @@ returns-2 c = polys-stop (c .before .before .before .before .before .before .arg
 verify-all-requires : tie.Need-verify-all-requires
 verify-all-requires c κs =
     let p = c .before .before .before .before .before .before .before .before .pre .0 in
-    ((p .some, ready-there (c .before .before .before .before .before .before .before .before .args .proof .now) (c .before .before .before .before .before .before .before .before .args .xi .now) (c .before .before .before .before .before .before .before .before .args .log .now) (c .before .before .before .before .before .before .before .before .args .challenges .now) (c .before .before .before .before .before .before .before .before .args .rounds) (c .before .before .before .before .before .before .before .before .args .outline) (c .before .before .before .before .before .before .before .before .pre .0) (c .before .before .before .if1 .left) (c .before .before .if2 .left), ready-read (c .before .before .before .before .before .before .before .before .args .proof .now) (c .before .before .before .before .before .before .before .before .args .xi .now) (c .before .before .before .before .before .before .before .before .args .log .now) (c .before .before .before .before .before .before .before .before .args .challenges .now) (c .before .before .before .before .before .before .before .before .args .rounds) (c .before .before .before .before .before .before .before .before .args .outline) (c .before .before .before .before .before .before .before .before .pre .0) (c .before .before .before .if1 .left) (c .before .before .if2 .left)), ((p .room, ready-space (c .before .before .before .before .before .before .before .before .args .proof .now) (c .before .before .before .before .before .before .before .before .args .xi .now) (c .before .before .before .before .before .before .before .before .args .log .now) (c .before .before .before .before .before .before .before .before .args .challenges .now) (c .before .before .before .before .before .before .before .before .args .rounds) (c .before .before .before .before .before .before .before .before .args .outline) (c .before .before .before .before .before .before .before .before .pre .0) (c .before .before .before .before .before .before .before .before .args .pos) (c .before .before .before .before .before .before .before .before .pre .1)), (p .points, (ready-q0 (c .before .before .before .before .before .before .before .before .args .proof .now) (c .before .before .before .before .before .before .before .before .args .xi .now) (c .before .before .before .before .before .before .before .before .args .log .now) (c .before .before .before .before .before .before .before .before .args .challenges .now) (c .before .before .before .before .before .before .before .before .args .rounds) (c .before .before .before .before .before .before .before .before .args .outline) (c .before .before .before .before .before .before .before .before .pre .0), ready-claims (c .before .before .before .before .before .before .before .before .args .proof .now) (c .before .before .before .before .before .before .before .before .args .xi .now) (c .before .before .before .before .before .before .before .before .args .log .now) (c .before .before .before .before .before .before .before .before .args .challenges .now) (c .before .before .before .before .before .before .before .before .args .rounds) (c .before .before .before .before .before .before .before .before .args .outline) (c .before .before .before .before .before .before .before .before .pre .0) (c .before .before .before .if1 .left) (c .before .before .if2 .left)))))
+    ((p .some, ready-there (c .before .before .before .before .before .before .before .before .args .proof .now) (c .before .before .before .before .before .before .before .before .args .xi .now) (c .before .before .before .before .before .before .before .before .args .log .now) (c .before .before .before .before .before .before .before .before .args .challenges .now) (c .before .before .before .before .before .before .before .before .args .pos .drawn) (c .before .before .before .before .before .before .before .before .args .rounds) (c .before .before .before .before .before .before .before .before .args .outline) (c .before .before .before .before .before .before .before .before .pre .0) (c .before .before .before .if1 .left) (c .before .before .if2 .left), ready-read (c .before .before .before .before .before .before .before .before .args .proof .now) (c .before .before .before .before .before .before .before .before .args .xi .now) (c .before .before .before .before .before .before .before .before .args .log .now) (c .before .before .before .before .before .before .before .before .args .challenges .now) (c .before .before .before .before .before .before .before .before .args .pos .drawn) (c .before .before .before .before .before .before .before .before .args .rounds) (c .before .before .before .before .before .before .before .before .args .outline) (c .before .before .before .before .before .before .before .before .pre .0) (c .before .before .before .if1 .left) (c .before .before .if2 .left)), ((p .room, ready-space (c .before .before .before .before .before .before .before .before .args .proof .now) (c .before .before .before .before .before .before .before .before .args .xi .now) (c .before .before .before .before .before .before .before .before .args .log .now) (c .before .before .before .before .before .before .before .before .args .challenges .now) (c .before .before .before .before .before .before .before .before .args .pos .drawn) (c .before .before .before .before .before .before .before .before .args .rounds) (c .before .before .before .before .before .before .before .before .args .outline) (c .before .before .before .before .before .before .before .before .pre .0) (c .before .before .before .before .before .before .before .before .args .pos) refl (c .before .before .before .before .before .before .before .before .pre .1)), (p .points, (ready-q0 (c .before .before .before .before .before .before .before .before .args .proof .now) (c .before .before .before .before .before .before .before .before .args .xi .now) (c .before .before .before .before .before .before .before .before .args .log .now) (c .before .before .before .before .before .before .before .before .args .challenges .now) (c .before .before .before .before .before .before .before .before .args .pos .drawn) (c .before .before .before .before .before .before .before .before .args .rounds) (c .before .before .before .before .before .before .before .before .args .outline) (c .before .before .before .before .before .before .before .before .pre .0), ready-claims (c .before .before .before .before .before .before .before .before .args .proof .now) (c .before .before .before .before .before .before .before .before .args .xi .now) (c .before .before .before .before .before .before .before .before .args .log .now) (c .before .before .before .before .before .before .before .before .args .challenges .now) (c .before .before .before .before .before .before .before .before .args .pos .drawn) (c .before .before .before .before .before .before .before .before .args .rounds) (c .before .before .before .before .before .before .before .before .args .outline) (c .before .before .before .before .before .before .before .before .pre .0) (c .before .before .before .if1 .left) (c .before .before .if2 .left)))))
 
 same-length : tie.Need-same-length
 same-length c = search needs
