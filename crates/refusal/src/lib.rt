@@ -2,7 +2,7 @@
 ghost use mathlib.Core.Path.{_≡_};
 ghost use Prim.Native.Nat.{_^_};
 ghost use Rattle.refusal.specs.Limits.{maxRounds, maxRows};
-ghost use Rattle.refusal.specs.Numbers.{plain, elements, reportOf};
+ghost use Rattle.refusal.specs.Numbers.{plain, elements, listNumber, reportOf};
 ghost use Rattle.refusal.specs.Powers.{powerOfTwo};
 use field::Ext;
 
