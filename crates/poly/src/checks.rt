@@ -12,6 +12,7 @@ use field::Ext;
 use refusal::MAX_ROUNDS;
 use refusal::MAX_ROWS;
 use refusal::Refusal;
+use refusal::Words;
 
 // What is asked of the sizes; a question that a helper does not ask is answered by 0 or true.
 pub struct Sizes {

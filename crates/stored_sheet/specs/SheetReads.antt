@@ -8,6 +8,7 @@ use lib.ListN.{length, getD, drop}
 use Rattle.refusal.specs.Limits.{maxRows}
 use Rattle.refusal.specs.Powers.{powerOfTwo}
 use Rattle.refusal.specs.declared.Refusal.the-variants.{RaggedRows, TooManyRows, NotPowerOfTwo, ShortRoom, BadWord, BadVersion, BadLength}
+use Rattle.refusal.specs.declared.Words.the-variants.{Rows}
 use Rattle.refusal.specs.Tests.{Test, Tested, passed, refused, test, firstOf}
 use Rattle.stored_sheet.specs.declared.SheetAnswer.{SheetAnswer}
 use Rattle.stored_sheet.specs.declared.SheetAnswer.the-variants.{Done, Refused}
