@@ -3,6 +3,7 @@ use field::Base;
 use field::Ext;
 use step::Frac;
 
+pub mod places; // which word a place names
 pub mod refusals; // the words of each refusal
 
 // A text, to standard output.

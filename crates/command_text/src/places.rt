@@ -1,0 +1,105 @@
+// Which word a place names: of the rows, of a list of elements, of a proof's elements in stored order.
+ghost use mathlib.Core.Path.{_≡_};
+ghost use Rattle.command_text.specs.Places.{rowWord, elementWord, entryFrom, sumWord, proofWord};
+
+// A word of a row's p, side 0, or q, side 1.
+pub struct RowWord {
+    pub row: usize,
+    pub side: usize,
+    pub word: usize,
+}
+
+pub struct ElementWord {
+    pub element: usize,
+    pub word: usize,
+}
+
+// A sub-round of a polynomial entry.
+pub struct EntryRound {
+    pub entry: usize,
+    pub subround: usize,
+}
+
+// A word of q0; of a layer's p0, q0, p1 or q1; of s(1), s(2) or s(3) of a sub-round of an entry.
+pub enum ProofWord {
+    Root {
+        word: usize,
+    },
+    Claim {
+        layer: usize,
+        which: usize,
+        word: usize,
+    },
+    Sum {
+        at: EntryRound,
+        which: usize,
+        word: usize,
+    },
+}
+
+pub fn row_word(place: usize) -> RowWord
+    ensures { λ r. ⌜ r ≡ rowWord place ⌝ }
+{
+    RowWord {
+        row: place / 8,
+        side: place % 8 / 4,
+        word: place % 4,
+    }
+}
+
+pub fn element_word(place: usize) -> ElementWord
+    ensures { λ r. ⌜ r ≡ elementWord place ⌝ }
+{
+    ElementWord {
+        element: place / 4,
+        word: place % 4,
+    }
+}
+
+// Where a sub-round stands, counted over all entries of so many each.
+fn entry_of(counts: &[usize], subround: usize) -> EntryRound
+    ensures { λ r. ⌜ r ≡ entryFrom 0 (now (counts .entry)) subround ⌝ }
+{
+    let mut left = subround;
+    let mut e = 0;
+    while e < counts.len() {
+        if left < counts[e] {
+            break;
+        }
+        left -= counts[e];
+        e += 1;
+    }
+    EntryRound {
+        entry: e,
+        subround: left,
+    }
+}
+
+// A word past q0 and the claims, by its place among those of the sub-rounds.
+fn sum_word(counts: &[usize], place: usize) -> ProofWord
+    ensures { λ r. ⌜ r ≡ sumWord (now (counts .entry)) place ⌝ }
+{
+    ProofWord::Sum {
+        at: entry_of(counts, place / 12),
+        which: place % 12 / 4,
+        word: place % 4,
+    }
+}
+
+// The word at a place of a proof of so many layers, with so many sub-rounds in each entry.
+pub fn proof_word(layers: usize, counts: &[usize], place: usize) -> ProofWord
+    ensures { λ r. ⌜ r ≡ proofWord layers (now (counts .entry)) place ⌝ }
+{
+    if place < 4 {
+        return ProofWord::Root { word: place };
+    }
+    let claim = place - 4;
+    if claim / 16 < layers {
+        return ProofWord::Claim {
+            layer: claim / 16,
+            which: claim % 16 / 4,
+            word: claim % 4,
+        };
+    }
+    sum_word(counts, claim - 16 * layers)
+}
