@@ -6,7 +6,7 @@ use Prim.Native.Nat.{ℕ, suc, _*_, _-_, _/_, _%_}
 use lib.Dec.{ltb}
 use Rattle.command_text.specs.declared.places.RowWord.{RowWord}
 use Rattle.command_text.specs.declared.places.ElementWord.{ElementWord}
-use Rattle.command_text.specs.declared.places.EntryRound.{EntryRound}
+use Rattle.command_text.specs.declared.places.SubroundAt.{SubroundAt}
 use Rattle.command_text.specs.declared.places.ProofWord.{ProofWord}
 use Rattle.command_text.specs.declared.places.ProofWord.the-variants.{Root, Claim, Sum}
 
@@ -16,13 +16,14 @@ rowWord place = record { row = place / 8; side = place % 8 / 4; word = place % 4
 abbrev pub elementWord : ℕ → ElementWord
 elementWord place = record { element = place / 4; word = place % 4 }
 
--- the entry that a sub-round stands in, entries counted from e, by how many sub-rounds each has
-unfoldable pub entryFrom : (e : ℕ) (counts : List ℕ) (subround : ℕ) → EntryRound
-entryFrom e [] s = record { entry = e; subround = s }
-entryFrom e (c ∷ cs) s = cond (ltb s c) (record { entry = e; subround = s }) (entryFrom (suc e) cs (s - c))
+-- the layer that a sub-round stands in, by how many the layers from r on have
+unfoldable pub layerFrom : (r : ℕ) (counts : List ℕ) (subround : ℕ) → SubroundAt
+layerFrom r [] s = record { layer = r; subround = s }
+layerFrom r (c ∷ cs) s = cond (ltb s c) (record { layer = r; subround = s }) (layerFrom (suc r) cs (s - c))
 
+-- layer 0 has no sub-rounds
 abbrev pub sumWord : (counts : List ℕ) (place : ℕ) → ProofWord
-sumWord counts place = Sum (entryFrom 0 counts (place / 12)) (place % 12 / 4) (place % 4)
+sumWord counts place = Sum (layerFrom 1 counts (place / 12)) (place % 12 / 4) (place % 4)
 
 abbrev pub proofWord : (layers : ℕ) (counts : List ℕ) (place : ℕ) → ProofWord
 proofWord layers counts place =

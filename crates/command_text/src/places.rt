@@ -1,6 +1,6 @@
 // Which word a place names: of the rows, of a list of elements, of a proof's elements in stored order.
 ghost use mathlib.Core.Path.{_≡_};
-ghost use Rattle.command_text.specs.Places.{rowWord, elementWord, entryFrom, sumWord, proofWord};
+ghost use Rattle.command_text.specs.Places.{rowWord, elementWord, layerFrom, sumWord, proofWord};
 
 // A word of a row's p, side 0, or q, side 1.
 pub struct RowWord {
@@ -14,13 +14,13 @@ pub struct ElementWord {
     pub word: usize,
 }
 
-// A sub-round of a polynomial entry.
-pub struct EntryRound {
-    pub entry: usize,
+// A sub-round of a layer.
+pub struct SubroundAt {
+    pub layer: usize,
     pub subround: usize,
 }
 
-// A word of q0; of a layer's p0, q0, p1 or q1; of s(1), s(2) or s(3) of a sub-round of an entry.
+// A word of q0; of a layer's p0, q0, p1 or q1; of s(1), s(2) or s(3) of a layer's sub-round.
 pub enum ProofWord {
     Root {
         word: usize,
@@ -31,7 +31,7 @@ pub enum ProofWord {
         word: usize,
     },
     Sum {
-        at: EntryRound,
+        at: SubroundAt,
         which: usize,
         word: usize,
     },
@@ -56,21 +56,24 @@ pub fn element_word(place: usize) -> ElementWord
     }
 }
 
-// Where a sub-round stands, counted over all entries of so many each.
-fn entry_of(counts: &[usize], subround: usize) -> EntryRound
-    ensures { λ r. ⌜ r ≡ entryFrom 0 (now (counts .entry)) subround ⌝ }
+// Where a sub-round stands, counted over all entries of so many each: entry e is of layer e + 1.
+fn subround_at(counts: &[usize], subround: usize) -> SubroundAt
+    ensures { λ r. ⌜ r ≡ layerFrom 1 (now (counts .entry)) subround ⌝ }
 {
     let mut left = subround;
     let mut e = 0;
     while e < counts.len() {
         if left < counts[e] {
-            break;
+            return SubroundAt {
+                layer: e + 1,
+                subround: left,
+            };
         }
         left -= counts[e];
         e += 1;
     }
-    EntryRound {
-        entry: e,
+    SubroundAt {
+        layer: e + 1,
         subround: left,
     }
 }
@@ -80,7 +83,7 @@ fn sum_word(counts: &[usize], place: usize) -> ProofWord
     ensures { λ r. ⌜ r ≡ sumWord (now (counts .entry)) place ⌝ }
 {
     ProofWord::Sum {
-        at: entry_of(counts, place / 12),
+        at: subround_at(counts, place / 12),
         which: place % 12 / 4,
         word: place % 4,
     }
