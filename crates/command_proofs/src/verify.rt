@@ -1,10 +1,10 @@
 // `verify PROOF ROUNDS`: the verdict, the two claims and the point are printed, and whether the claims are a sheet's.
 use crate::compare::compare_sheet;
 use crate::notes::print_notes;
+use crate::refused::print_refused;
 use command_files::After;
 use command_files::inputs;
 use command_text::print;
-use command_text::refusals::print_refusal;
 use refusal::Verifying;
 use step::Frac;
 use verifier_round::Verdict;
@@ -25,7 +25,7 @@ fn verify_with(
             print_notes(stored::is_over_zero(proof), counted);
             compare_sheet(sheet, &point, rounds, Frac { p: numer, q: denom });
         }
-        Verdict::Refused(refusal) => print_refusal(refusal),
+        Verdict::Refused(refusal) => print_refused(proof, refusal),
     }
 }
 
