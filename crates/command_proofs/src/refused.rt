@@ -9,11 +9,12 @@ use stored::Shape;
 fn read_counts(proof: &[u8], from: usize, counts: &mut [usize]) {
     let mut at = from;
     for k in 0..counts.len() {
-        if at < proof.len() {
-            let subrounds = wire::wide(proof[at]) as usize;
-            counts[k] = subrounds;
-            at += 1 + 48 * subrounds;
+        if proof.len() <= at {
+            return;
         }
+        let subrounds = wire::wide(proof[at]) as usize;
+        counts[k] = subrounds;
+        at += 1 + 48 * subrounds;
     }
 }
 
