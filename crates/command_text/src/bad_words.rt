@@ -102,11 +102,7 @@ pub fn print_proof_word(at: ProofWord) {
             print(b"q0");
             last(word);
         }
-        ProofWord::Claim {
-            layer,
-            which,
-            word,
-        } => {
+        ProofWord::Claim { layer, which, word } => {
             claim(layer, which);
             last(word);
         }

@@ -37,6 +37,7 @@ pub enum ProofWord {
     },
 }
 
+// The word of the rows.
 pub fn row_word(place: usize) -> RowWord
     ensures { λ r. ⌜ r ≡ rowWord place ⌝ }
 {
@@ -47,6 +48,7 @@ pub fn row_word(place: usize) -> RowWord
     }
 }
 
+// The word of a list of elements.
 pub fn element_word(place: usize) -> ElementWord
     ensures { λ r. ⌜ r ≡ elementWord place ⌝ }
 {

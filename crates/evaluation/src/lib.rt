@@ -5,8 +5,8 @@ ghost use Rattle.evaluation.specs.Evaluated.{evaluated};
 ghost use Rattle.evaluation.specs.Report.{evaluationReport};
 use field::Ext;
 use refusal::Refusal;
-use refusal::Words;
 use refusal::Report;
+use refusal::Words;
 use step::Frac;
 
 pub mod halves; // both values, by halves of the rows

@@ -13,8 +13,8 @@ ghost use Rattle.stored_sheet.specs.Sheet.{sheet};
 ghost use Rattle.stored_sheet.specs.SheetReads.{readAnswer, writeAnswer, sheetRead, sheetWritten, ended};
 use field::Ext;
 use refusal::Refusal;
-use refusal::Words;
 use refusal::Report;
+use refusal::Words;
 
 // What reading or writing a sheet ends with.
 pub enum SheetAnswer {
