@@ -45,7 +45,7 @@ enum accudrina_result {
     ACCUDRINA_NOT_POWER_OF_TWO = 3,                  /* the rows are neither none nor a power of two */
     ACCUDRINA_SHORT_CHALLENGES = 4,                  /* fewer words than accudrina_challenge_words says; not where they are drawn */
     ACCUDRINA_SHORT_ROOM = 5,                        /* an output or the workspace is too short */
-    ACCUDRINA_BAD_WORD = 6,                          /* a word is not below the prime */
+    ACCUDRINA_BAD_WORD = 6,                          /* plain: the place of the first word that is not below the prime, from 0, and its list */
     ACCUDRINA_ZERO_DENOMINATOR = 7,                  /* plain: live mode, the lowest row with q = 0, from 0 */
     ACCUDRINA_NON_ZERO_ROOT_SUM = 8,                 /* a zero sum is asserted, and the sum's p is not 0 */
     ACCUDRINA_SINGLE_ROW = 9,                        /* one row, not refused as 8 */
@@ -61,6 +61,15 @@ enum accudrina_result {
     ACCUDRINA_LAYER_CONSISTENCY_CHECK_FAILED = 19,   /* plain: round; elements: expected, actual */
     ACCUDRINA_ZERO_ROOT = 27,                        /* live verifier: q0 is 0 */
     ACCUDRINA_UNKNOWN_MODE = 28                      /* plain: the bits of the modes that the call does not take */
+};
+
+/* The lists of 6, whose places are counted in words: the rows, the proof's elements (q0, then p0, q0, p1, q1 of each layer, then
+ * s(1), s(2), s(3) of each sub-round; no version, length or count), the challenges, the point that is evaluated at. */
+enum accudrina_list {
+    ACCUDRINA_IN_ROWS = 1,
+    ACCUDRINA_IN_PROOF = 2,
+    ACCUDRINA_IN_CHALLENGES = 3,
+    ACCUDRINA_IN_POINT = 4
 };
 
 /* How long the buffers must be, for 0 to 10 rounds; for more rounds the answer is 0, and the calls refuse them. */

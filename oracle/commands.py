@@ -12,7 +12,6 @@ WORDS = {
     3: "NotPowerOfTwo: the number of rows is neither 0 nor a power of two (rows 0/1 can be added, they leave the sum as it is)",
     4: "ShortChallenges: there are fewer challenges than the rounds need",
     5: "ShortRoom: a buffer is too short for what it has to hold",
-    6: "BadWord: a word is not below the prime 2013265921",
     7: "ZeroDenominator: row %s has a denominator of zero (rows are counted from 0; live mode)",
     8: "NonZeroRootSum: the numerator of the sum is not zero, and zero was asserted",
     9: "SingleRow: a sheet of one row has no round to prove",
@@ -38,7 +37,27 @@ class Refused(Exception):
     """The line that is printed."""
 
 
-def refusal(o):
+def element_names(layers, counts):
+    """The elements of a proof in stored order, with so many sub-rounds in each entry."""
+    claims = ["layer %d, %s" % (r, name) for r in range(layers) for name in ("p0", "q0", "p1", "q1")]
+    return ["q0"] + claims + ["layer %d, sub-round %d, s(%d)" % (r, j, k) for r, c in enumerate(counts, 1) for j in range(c) for k in (1, 2, 3)]
+
+
+def bad_word(place, number, shape=None):
+    """The words of 6 for the place of a bad word in its list; of a proof by its elements' names, where layers and sub-rounds are known."""
+    word = "word %d, counted from 0" % (place % 4)
+    name = {m.ROW_WORDS: "row %d, counted from 0, word %d of its %s" % (place // 8, place % 4, "pq"[place // 4 % 2]),
+            m.PROOF_WORDS: "word %d of the proof's elements, counted from 0" % place,
+            m.CHALLENGE_WORDS: "challenge %d, %s" % (place // 4, word),
+            m.POINT_WORDS: "coordinate %d, %s" % (place // 4, word)}[number]
+    if shape and number == m.PROOF_WORDS:
+        name = "%s, %s" % (element_names(*shape)[place // 4], word)
+    return "refused 6 BadWord: %s, is not below 2013265921" % name
+
+
+def refusal(o, shape=None):
+    if o.no == 6:
+        return bad_word(*o.plain, shape) if o.plain else "refused 6 BadWord: a word is not below the prime 2013265921"
     return "refused %d %s" % (o.no, WORDS[o.no] % (*o.plain, *map(short, o.elements)))
 
 
@@ -149,7 +168,8 @@ def verify(files, proof, rounds, modes, challenges, sheet):
         raise Refused("refused: %s has more than %d bytes, and a proof of 10 rounds has 2832" % (proof, PROOF))
     o = m.outcome(50, [rounds, modes, files[proof], challenges_of(files, modes, challenges), 40, 960, 0])
     if o.no:
-        raise Refused(refusal(o))
+        read = m.read_proof(files[proof])
+        raise Refused(refusal(o, None if isinstance(read, int) else (len(read[1]), [len(entry) for entry in read[2]])))
     point = " ".join(long(e) for e in m.elements(o.fronts[0]))
     lines = ["verdict 0", "numer " + long(o.elements[0]), "denom " + long(o.elements[1]), "point " + point]
     lines += notes(m.read_proof(files[proof])[0], modes, challenges)

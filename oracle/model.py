@@ -11,6 +11,7 @@ P = 2013265921
 ROWS, ROUNDS = 1024, 10
 SAMPLED = 1 << 31
 LIVE, DRAWN = 1, 4
+ROW_WORDS, PROOF_WORDS, CHALLENGE_WORDS, POINT_WORDS = 1, 2, 3, 4
 LABEL = b"frac-gkr/1"
 HALF, SIXTH = 1006632961, 1677721601
 ZERO, ONE = (0, 0, 0, 0), (1, 0, 0, 0)
@@ -358,6 +359,11 @@ def bad(*lists):
     return any(w >= P for l in lists for w in l)
 
 
+def bad_word(*lists):
+    """6 with the place of the first bad word, counted from 0, and the number of its list; the lists in the order given."""
+    return next((Outcome(6, [i, number]) for number, words in lists for i, w in enumerate(words) if bad([w])), None)
+
+
 def first(*tests):
     """The number of the first test that holds."""
     return next((no for no, test in tests if test()), None)
@@ -378,10 +384,12 @@ def prove_refusal(modes, asserted, rows, challenges, proof, point, log, work):
     fractions = elements(rows)
     no = first(*row_tests(rows),
                (4, lambda: len(challenges) < needed(modes, n)),
-               (5, lambda: proof < proof_bytes(n) or point < 4 * n or log < log_words(n, asserted) or work < work_words(n)),
-               (6, lambda: bad(rows, challenges[:needed(modes, n)])))
+               (5, lambda: proof < proof_bytes(n) or point < 4 * n or log < log_words(n, asserted) or work < work_words(n)))
     if no:
         return Outcome(no)
+    six = bad_word((ROW_WORDS, rows), (CHALLENGE_WORDS, challenges[:needed(modes, n)]))
+    if six:
+        return six
     over_zero = [i for i in range(count) if fractions[2 * i + 1] == ZERO]
     if modes & LIVE and over_zero:
         return Outcome(7, [over_zero[0]])
@@ -400,8 +408,9 @@ def verify_refusal(n, modes, proof, challenges, point, log):
         return Outcome(read)
     q0, layers, polys = read
     words = [w for es in [[q0], *layers, *(s for entry in polys for s in entry)] for e in es for w in e]
-    if bad(words, challenges[:needed(modes, n)]):
-        return Outcome(6)
+    six = bad_word((PROOF_WORDS, words), (CHALLENGE_WORDS, challenges[:needed(modes, n)]))
+    if six:
+        return six
     counted = len(layers) == n and len(polys) == n - 1
     return Outcome(27) if modes & LIVE and counted and q0 == ZERO else None
 
@@ -412,12 +421,13 @@ def read_sheet(data, room):
     words = [int.from_bytes(data[i:i + 4], "big") for i in range(3, len(data), 4)]
     no = first((12, lambda: data[:1] != b"\1"), (13, lambda: len(data) < 3 or len(data) != 3 + 32 * count),
                (2, lambda: count > ROWS), (3, lambda: count and not power_of_two(count)),
-               (5, lambda: room < 8 * count), (6, lambda: bad(words)))
-    return Outcome(no) if no else Outcome(0, [count], [], [words])
+               (5, lambda: room < 8 * count))
+    return Outcome(no) if no else bad_word((ROW_WORDS, words)) or Outcome(0, [count], [], [words])
 
 
 def evaluate_refusal(rows, point):
-    return first(*row_tests(rows), (13, lambda: len(point) != 4 * rounds(len(rows) // 8)), (6, lambda: bad(rows, point)))
+    no = first(*row_tests(rows), (13, lambda: len(point) != 4 * rounds(len(rows) // 8)))
+    return Outcome(no) if no else bad_word((ROW_WORDS, rows), (POINT_WORDS, point))
 
 
 def split(*lists):
@@ -465,7 +475,9 @@ def refusal(code, a):
         return verify_refusal(*a[:6])
     if code == 60:
         return read_sheet(*a[:2])
-    no = evaluate_refusal(*a) if code == 70 else helper_refusal(code, a)
+    if code == 70:
+        return evaluate_refusal(*a)
+    no = helper_refusal(code, a)
     return Outcome(no) if no else None
 
 

@@ -2,6 +2,20 @@
 use crate::{ffi::Answer, Element};
 use std::fmt;
 
+/// The list that a word which is not below the prime stands in.
+#[derive(Clone, Copy, Debug, PartialEq, Eq)]
+pub enum Words {
+    /// The rows, eight words each.
+    Rows,
+    /// The proof's elements in stored order: no version, length or count is counted.
+    Proof,
+    Challenges,
+    /// The point of an evaluation.
+    Point,
+    /// A list that this crate does not know: the archive is newer.
+    Unknown { number: u32 },
+}
+
 /// Why a call was refused. `number` has the number that C gets.
 #[derive(Clone, Copy, Debug, PartialEq, Eq)]
 pub enum Refusal {
@@ -15,8 +29,8 @@ pub enum Refusal {
     ShortChallenges,
     /// 5: an output or the workspace is too short.
     ShortRoom,
-    /// 6: a word is not below the prime.
-    BadWord,
+    /// 6: the place of the first word that is not below the prime, counted in words from 0, and its list.
+    BadWord { place: u32, list: Words },
     /// 7: live mode, the lowest row with q zero.
     ZeroDenominator { row: u32 },
     /// 8: a zero sum was asserted and the sum's p is not zero.
@@ -55,6 +69,16 @@ fn element(words: &[u32]) -> Element {
     Element([words[0], words[1], words[2], words[3]])
 }
 
+fn list(number: u32) -> Words {
+    match number {
+        1 => Words::Rows,
+        2 => Words::Proof,
+        3 => Words::Challenges,
+        4 => Words::Point,
+        _ => Words::Unknown { number },
+    }
+}
+
 impl Refusal {
     /// The refusal that sixteen words tell; word 0 is not 0.
     pub(crate) fn told(answer: &Answer) -> Self {
@@ -66,7 +90,7 @@ impl Refusal {
             3 => Self::NotPowerOfTwo,
             4 => Self::ShortChallenges,
             5 => Self::ShortRoom,
-            6 => Self::BadWord,
+            6 => Self::BadWord { place: a, list: list(b) },
             7 => Self::ZeroDenominator { row: a },
             8 => Self::NonZeroRootSum,
             9 => Self::SingleRow,
@@ -94,7 +118,7 @@ impl Refusal {
             Self::NotPowerOfTwo => 3,
             Self::ShortChallenges => 4,
             Self::ShortRoom => 5,
-            Self::BadWord => 6,
+            Self::BadWord { .. } => 6,
             Self::ZeroDenominator { .. } => 7,
             Self::NonZeroRootSum => 8,
             Self::SingleRow => 9,

@@ -1,7 +1,7 @@
 //! The values of a sheet at a point: against the plain sum over all rows, against the claims of accepted proofs, and refused.
 mod plain;
 
-use accudrina::{evaluate, evaluate_words, prove, row_words, verify, words_of, Claims, Element, Fraction, Mode, Refusal, Sum, PRIME};
+use accudrina::{evaluate, evaluate_words, prove, row_words, verify, words_of, Claims, Element, Fraction, Mode, Refusal, Sum, Words, PRIME};
 use plain::{field::value, make::Source};
 
 /// Both columns, summed up plainly.
@@ -62,7 +62,8 @@ fn refused_in_their_order() {
     for words in [0, 1, 3, 5, 8] {
         assert_eq!(evaluate_words(&bad(16), &bad(words)), Err(Refusal::BadLength));
     }
-    assert_eq!(evaluate_words(&bad(16), &[1; 4]), Err(Refusal::BadWord));
-    assert_eq!(evaluate_words(&[1; 16], &bad(4)), Err(Refusal::BadWord));
+    let first = |list| Err(Refusal::BadWord { place: 0, list });
+    assert_eq!(evaluate_words(&bad(16), &bad(4)), first(Words::Rows));
+    assert_eq!(evaluate_words(&[1; 16], &bad(4)), first(Words::Point));
     assert!(evaluate_words(&[PRIME - 1; 16], &[PRIME - 1; 4]).is_ok());
 }

@@ -1,7 +1,7 @@
 //! The prover's and the sheet reader's numbers, each at its boundary, and what every buffer holds after each.
 mod plain;
 
-use accudrina::{prove, read_sheet, read_sheet_into, rooms, row_words, words_of, Element, Fraction, Mode, Refusal, Sum, PRIME};
+use accudrina::{prove, read_sheet, read_sheet_into, rooms, row_words, words_of, Element, Fraction, Mode, Refusal, Sum, Words, PRIME};
 use plain::{
     lent::{marked, Lent, WORD},
     make::Source,
@@ -80,6 +80,10 @@ fn n5_rooms() {
     }
 }
 
+fn bad_word(place: usize, list: Words) -> Refusal {
+    BadWord { place: place as u32, list }
+}
+
 #[test]
 fn n6_words() {
     for n in [1, 2, 5] {
@@ -87,17 +91,19 @@ fn n6_words() {
         for at in 0..rows.len() {
             let mut bad = rows.clone();
             bad[at] = PRIME;
-            assert_eq!(zero(&bad, &lent, &challenges), BadWord);
+            assert_eq!(zero(&bad, &lent, &challenges), bad_word(at, Words::Rows));
+            bad[rows.len() - 1] = PRIME;
+            assert_eq!(zero(&bad, &lent, &vec![PRIME; challenges.len()]), bad_word(at, Words::Rows));
         }
         for at in 0..challenges.len() {
             let mut bad = challenges.clone();
             bad[at] = if at % 2 == 0 { PRIME } else { u32::MAX };
-            assert_eq!(zero(&rows, &lent, &bad), BadWord);
+            assert_eq!(zero(&rows, &lent, &bad), bad_word(at, Words::Challenges));
         }
         let unneeded = [challenges.clone(), vec![u32::MAX; 5]].concat();
         assert!(lent.clone().prove_words(&rows, Mode::Live, Sum::AssertZero, &unneeded).is_ok());
     }
-    assert_eq!(zero(&[PRIME, 0, 0, 0, 1, 0, 0, 0], &Lent::exact(0, true), &[]), BadWord);
+    assert_eq!(zero(&[PRIME, 0, 0, 0, 1, 0, 0, 0], &Lent::exact(0, true), &[]), bad_word(0, Words::Rows));
     let most = [PRIME - 1; 16];
     assert!(Lent::exact(1, false).prove_words(&most, Mode::Live, Sum::Observe, &[PRIME - 1; 4]).is_ok());
 }
@@ -202,11 +208,11 @@ fn sheets_that_are_refused() {
     assert_eq!(unread(&sheet(2048, &[PRIME; 8 * 2048]), 0), TooManyRows);
     assert_eq!(unread(&sheet(3, &[PRIME; 24]), 0), NotPowerOfTwo);
     assert_eq!(unread(&two, 15), ShortRoom);
-    assert_eq!(unread(&two, 16), BadWord);
+    assert_eq!(unread(&two, 16), bad_word(0, Words::Rows));
     for at in 0..16 {
         let mut words = [0; 16];
         words[at] = PRIME;
-        assert_eq!(unread(&sheet(2, &words), 16), BadWord);
-        assert_eq!(read_sheet(&sheet(2, &words)), Err(BadWord));
+        assert_eq!(unread(&sheet(2, &words), 16), bad_word(at, Words::Rows));
+        assert_eq!(read_sheet(&sheet(2, &words)), Err(bad_word(at, Words::Rows)));
     }
 }

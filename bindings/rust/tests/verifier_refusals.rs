@@ -1,7 +1,7 @@
 //! The verifier's numbers, each at its boundary, and what point and log hold after each.
 mod plain;
 
-use accudrina::{rooms, verify_into, words_of, Claims, Element, Mode, Refusal, Sum, PRIME};
+use accudrina::{rooms, verify_into, words_of, Claims, Element, Mode, Refusal, Sum, Words, PRIME};
 use plain::{
     field::{add, mul},
     lent::{marked, Lent, WORD},
@@ -97,17 +97,24 @@ fn n6_words() {
     let bytes = proof.bytes();
     let in_layers = (0..12).map(|k| 22 + 16 * k);
     let in_polys = [24 + 192, 25 + 192 + 48, 25 + 192 + 96];
-    for at in [5].into_iter().chain(in_layers).chain(in_polys) {
+    // Of the entries: the first sub-round's s(1), then the second entry's, whose count stands before it.
+    let elements = (0..13).chain([13, 16, 19]);
+    for (at, element) in [5].into_iter().chain(in_layers).chain(in_polys).zip(elements) {
         for word in 0..4 {
             let mut bad = bytes.clone();
             bad[at + 4 * word..at + 4 * word + 4].copy_from_slice(&PRIME.to_be_bytes());
-            assert_eq!(answer(&bad, 3, &challenges), Err(BadWord), "byte {at}");
+            let place = 4 * element + word as u32;
+            assert_eq!(answer(&bad, 3, &challenges), Err(BadWord { place, list: Words::Proof }), "byte {at}");
         }
     }
     for at in 0..challenges.len() {
         let mut bad = challenges.clone();
         bad[at].0[3] = PRIME;
-        assert_eq!(answer(&bytes, 3, &bad), Err(BadWord));
+        let place = 4 * at as u32 + 3;
+        assert_eq!(answer(&bytes, 3, &bad), Err(BadWord { place, list: Words::Challenges }));
+        bad[challenges.len() - 1].0 = [u32::MAX; 4];
+        let place = place.min(4 * challenges.len() as u32 - 4);
+        assert_eq!(answer(&bytes, 3, &bad), Err(BadWord { place, list: Words::Challenges }));
     }
     let unneeded = [&challenges[..], &[Element([u32::MAX; 4])]].concat();
     assert!(answer(&bytes, 3, &unneeded).is_ok());

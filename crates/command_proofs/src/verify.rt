@@ -3,9 +3,9 @@ use crate::challenges::are_counted;
 use crate::challenges::lend_challenges;
 use crate::compare::compare_sheet;
 use crate::notes::print_notes;
+use crate::refused::print_refused;
 use command_files::After;
 use command_text::print;
-use command_text::refusals::print_refusal;
 use refusal::Verifying;
 use step::Frac;
 use verifier_round::Verdict;
@@ -26,7 +26,7 @@ fn verify_with(
             print_notes(stored::is_over_zero(proof), counted);
             compare_sheet(sheet, &point, rounds, Frac { p: numer, q: denom });
         }
-        Verdict::Refused(refusal) => print_refusal(refusal),
+        Verdict::Refused(refusal) => print_refused(proof, refusal),
     }
 }
 

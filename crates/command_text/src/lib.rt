@@ -3,6 +3,8 @@ use field::Base;
 use field::Ext;
 use step::Frac;
 
+mod bad_words; // where a bad word stands, in words
+pub mod places; // which word a place names
 pub mod refusals; // the words of each refusal
 
 // A text, to standard output.

@@ -1,4 +1,7 @@
 // The words of each refusal: `refused`, its number, its name, and what it means, on a line.
+use crate::bad_words::print_bad_word;
+use crate::bad_words::print_proof_word;
+use crate::places;
 use crate::print;
 use crate::print_count;
 use crate::print_element;
@@ -25,10 +28,6 @@ fn short_challenges() {
 
 fn short_room() {
     print(b"ShortRoom: a buffer is too short for what it has to hold");
-}
-
-fn bad_word() {
-    print(b"BadWord: a word is not below the prime 2013265921");
 }
 
 fn zero_denominator(row: usize) {
@@ -125,7 +124,7 @@ fn print_words(r: Report) {
         3 => not_power_of_two(),
         4 => short_challenges(),
         5 => short_room(),
-        6 => bad_word(),
+        6 => print_bad_word(r.first, r.second),
         7 => zero_denominator(r.first),
         8 => non_zero_root_sum(),
         9 => single_row(),
@@ -150,6 +149,13 @@ pub fn print_refusal(refusal: Refusal) {
     io::print_decimal(1, report.number as u64);
     print(b" ");
     print_words(report);
+    print(b"\n");
+}
+
+// The line of a bad word of a proof of so many layers, with so many sub-rounds in each entry: by its element's name.
+pub fn print_named(place: usize, layers: usize, counts: &[usize]) {
+    print(b"refused 6 ");
+    print_proof_word(places::proof_word(layers, counts, place));
     print(b"\n");
 }
 

@@ -20,8 +20,8 @@ use Rattle.gkr.specs.Tree as Tree
 use Rattle.refusal.specs.Fronts.{over}
 use Rattle.refusal.specs.Limits as Limits
 use Rattle.refusal.specs.Limits.{maxRows}
-use Rattle.wire.specs.Words.{allCanonical}
-use Rattle.wire.specs.WordLaws.{canonical-append, elem-canonical}
+use Rattle.wire.specs.Words.{firstBad, allCanonical}
+use Rattle.wire.specs.WordLaws.{canonical-append, canonical-none, elem-canonical}
 use Rattle.step.specs.Values.{IsFrac}
 use Rattle.prover_tree.specs.Nodes.{node}
 use Rattle.sizes.specs.Sizes.{rowCount, roundsOf, isSize}
@@ -60,6 +60,10 @@ point-canonical (x ∷ xs) = canonical-append (words x) (pointWords xs) ∙ both
 
 -- A SHEET THAT IS TAKEN
 
+-- a search for a bad word ends at the end
+none-bad : (ws : List ℕ) → allCanonical ws ≡ true → length ws ≤ firstBad ws
+none-bad ws h = omega (arith, canonical-none ws h)
+
 module _ (rows : List ℕ) (n : ℕ) (some : 1 ≤ n) (few : n ≤ Limits.maxRounds) (len : length rows ≡ 8 * 2 ^ n) (valid : allCanonical rows ≡ true) (zs : List E.Ext) (coordinates : length zs ≡ n) where
   abbrev ws : List ℕ
   ws = pointWords zs
@@ -77,7 +81,7 @@ module _ (rows : List ℕ) (n : ℕ) (some : 1 ≤ n) (few : n ≤ Limits.maxRou
       let m : rowCount rows ≤ maxRows = subst (λ k. k ≤ maxRows) (sym e) (rows-taken n few) in
       let v = Tree.value ExtRing (node rows) (cells ws 0 n) in
       let is : IsFrac (Prover.encFrac v) v = record { p = is-enc (v .p); q = is-enc (v .q) } in
-      sym (done-some rows ws (whole rows n len) m refl (ap isSize e ∙ size-taken n few) (sym (ap roundsOf e ∙ rounds-taken n few)) long refl valid refl (point-canonical zs) z is)
+      sym (done-some rows ws (whole rows n len) m refl (ap isSize e ∙ size-taken n few) (sym (ap roundsOf e ∙ rounds-taken n few)) long refl (none-bad rows valid) refl (none-bad ws (point-canonical zs)) z is)
       ∙ ap (told n) value
 
   pub at-point : (buffer : List ℕ) → at-front rows n (over ws buffer) ≡ told n (Tree.value ExtRing (node rows) zs)

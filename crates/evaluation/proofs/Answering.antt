@@ -14,8 +14,10 @@ use Rattle.field.specs.Cells.{cells}
 use Rattle.gkr.specs.Tree as Tree
 use Rattle.refusal.specs.Limits.{maxRows}
 use Rattle.refusal.specs.declared.Refusal.the-variants.{RaggedRows, TooManyRows, NotPowerOfTwo, BadLength, BadWord}
+use Rattle.refusal.specs.declared.Words.the-variants.{Rows, Point}
 use Rattle.refusal.specs.Tests.{firstOf}
-use Rattle.wire.specs.Words.{allCanonical}
+use Rattle.wire.specs.Words.{allCanonical, firstBad}
+use Rattle.wire.specs.WordLaws.{none-canonical, some-bad}
 use Rattle.step.specs.declared.Frac.{Frac as FracW}
 use Rattle.step.specs.Values.{IsFrac}
 use Rattle.prover_tree.specs.Nodes.{node}
@@ -52,24 +54,32 @@ module _ (rows point : List ℕ) where
         unfolding evaluated firstOf
         refuse-13 h = rw (eq-eqb _ _ h1, le-ltb _ _ h2, sym se ∙ h3, sym ne, ne-eqb _ _ h)
 
-        module _ (h4 : length point ≡ 4 * n) {u : Bool} (ue : u ≡ allCanonical rows) where
-          pub refuse-6 : u ≡ false → Refused BadWord ≡ evaluated rows point
+        module _ (h4 : length point ≡ 4 * n) {u : ℕ} (ue : u ≡ firstBad rows) where
+          pub refuse-6 : u < length rows → Refused (BadWord u Rows) ≡ evaluated rows point
           unfolding evaluated firstOf
-          refuse-6 h = rw (eq-eqb _ _ h1, le-ltb _ _ h2, sym se ∙ h3, sym ne, eq-eqb _ _ h4, sym ue ∙ h)
+          refuse-6 h =
+              ap (λ x. Refused (BadWord x Rows)) ue ∙ rw (eq-eqb _ _ h1, le-ltb _ _ h2, sym se ∙ h3, sym ne, eq-eqb _ _ h4, some-bad rows (omega (arith, ue)))
 
-          module _ (h5 : u ≡ true) {v : Bool} (ve : v ≡ allCanonical point) where
-            pub refuse-6' : v ≡ false → Refused BadWord ≡ evaluated rows point
+          module _ (h5 : length rows ≤ u) {v : ℕ} (ve : v ≡ firstBad point) where
+            abbrev good : allCanonical rows ≡ true
+            good = none-canonical rows (omega (arith, ue))
+
+            pub refuse-6' : v < length point → Refused (BadWord v Point) ≡ evaluated rows point
             unfolding evaluated firstOf
-            refuse-6' h = rw (eq-eqb _ _ h1, le-ltb _ _ h2, sym se ∙ h3, sym ne, eq-eqb _ _ h4, sym ue ∙ h5, sym ve ∙ h)
+            refuse-6' h =
+                ap (λ x. Refused (BadWord x Point)) ve ∙ rw (eq-eqb _ _ h1, le-ltb _ _ h2, sym se ∙ h3, sym ne, eq-eqb _ _ h4, good, some-bad point (omega (arith, ve)))
 
-            module _ (h6 : v ≡ true) where
+            module _ (h6 : length point ≤ v) where
+              abbrev right : allCanonical point ≡ true
+              right = none-canonical point (omega (arith, ve))
+
               pub done-none : count ≡ 0 → told 0 (record { p = E.nil; q = E.one }) ≡ evaluated rows point
               unfolding evaluated firstOf
-              done-none h = rw (eq-eqb _ _ h1, le-ltb _ _ h2, sym se ∙ h3, sym ne, eq-eqb _ _ h4, sym ue ∙ h5, sym ve ∙ h6, eq-eqb _ _ h)
+              done-none h = rw (eq-eqb _ _ h1, le-ltb _ _ h2, sym se ∙ h3, sym ne, eq-eqb _ _ h4, good, right, eq-eqb _ _ h)
 
               pub done-some : (count ≡ 0 → ⊥) → {r : FracW} → IsFrac r (Tree.value ExtRing (node rows) (cells point 0 n)) → Done n (r .p) (r .q) ≡ evaluated rows point
               unfolding evaluated firstOf
-              done-some h is = (λ i. Done n (enc-of-is (is .p) i) (enc-of-is (is .q) i)) ∙ rw (eq-eqb _ _ h1, le-ltb _ _ h2, sym se ∙ h3, sym ne, eq-eqb _ _ h4, sym ue ∙ h5, sym ve ∙ h6, ne-eqb _ _ h, sym ne)
+              done-some h is = (λ i. Done n (enc-of-is (is .p) i) (enc-of-is (is .q) i)) ∙ rw (eq-eqb _ _ h1, le-ltb _ _ h2, sym se ∙ h3, sym ne, eq-eqb _ _ h4, good, right, ne-eqb _ _ h, sym ne)
 
 -- the words of 0 and 1 are those of the sum of no rows
 pub no-rows : Done 0 (record { c0 = 0; c1 = 0; c2 = 0; c3 = 0 }) (record { c0 = 1; c1 = 0; c2 = 0; c3 = 0 }) ≡ told 0 (record { p = E.nil; q = E.one })

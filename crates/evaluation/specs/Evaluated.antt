@@ -14,8 +14,9 @@ use Rattle.gkr.specs.Sizes.{point-words}
 use Rattle.gkr.specs.Tree as Tree
 use Rattle.refusal.specs.Limits.{maxRows}
 use Rattle.refusal.specs.declared.Refusal.the-variants.{RaggedRows, TooManyRows, NotPowerOfTwo, BadLength, BadWord}
+use Rattle.refusal.specs.declared.Words.the-variants.{Rows, Point}
 use Rattle.refusal.specs.Tests.{Test, Tested, passed, refused, test, firstOf}
-use Rattle.wire.specs.Words.{allCanonical}
+use Rattle.wire.specs.Words.{allCanonical, firstBad}
 use Rattle.prover_tree.specs.Nodes.{node}
 use Rattle.sizes.specs.Sizes.{rowCount, roundsOf, isSize}
 use Rattle.evaluation.specs.declared.Evaluation.{Evaluation}
@@ -32,8 +33,8 @@ tests rows point =
     ∷ test (ltb maxRows (rowCount rows)) TooManyRows
     ∷ test (not (isSize (rowCount rows))) NotPowerOfTwo
     ∷ test (not (eqb (length point) (point-words (roundsOf (rowCount rows))))) BadLength
-    ∷ test (not (allCanonical rows)) BadWord
-    ∷ test (not (allCanonical point)) BadWord ∷ []
+    ∷ test (not (allCanonical rows)) (BadWord (firstBad rows) Rows)
+    ∷ test (not (allCanonical point)) (BadWord (firstBad point) Point) ∷ []
 
 -- no rows have the values of the empty sum, 0 and 1
 abbrev pub valued : (rows point : List ℕ) → Tested → Evaluation

@@ -6,6 +6,7 @@ ghost use Rattle.evaluation.specs.Report.{evaluationReport};
 use field::Ext;
 use refusal::Refusal;
 use refusal::Report;
+use refusal::Words;
 use step::Frac;
 
 pub mod halves; // both values, by halves of the rows
@@ -51,11 +52,19 @@ pub fn evaluate(rows: &[u32], point: &[u32]) -> Evaluation
     if point.len() != 4 * n {
         return Evaluation::Refused(Refusal::BadLength);
     }
-    if !wire::canonical_words(rows) {
-        return Evaluation::Refused(Refusal::BadWord);
+    let place = wire::first_bad_word(rows);
+    if place < rows.len() {
+        return Evaluation::Refused(Refusal::BadWord {
+            place,
+            list: Words::Rows,
+        });
     }
-    if !wire::canonical_words(point) {
-        return Evaluation::Refused(Refusal::BadWord);
+    let place = wire::first_bad_word(point);
+    if place < point.len() {
+        return Evaluation::Refused(Refusal::BadWord {
+            place,
+            list: Words::Point,
+        });
     }
     if count == 0 {
         return Evaluation::Done {

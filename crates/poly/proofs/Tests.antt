@@ -5,10 +5,9 @@ use mathlib.Core.Bool.{Bool, true, false, _&&_}
 use Prim.Native.Nat.{ℕ}
 use borrow.Author.Tests.{eq-eqb, ne-eqb}
 use lib.Dec.{eqb}
-use Rattle.refusal.specs.declared.Refusal.the-variants.{BadWord}
 use Rattle.poly.specs.declared.Outcome.{Outcome}
 use Rattle.poly.specs.declared.Outcome.the-variants.{Done, Refused}
-use Rattle.poly.specs.Checks.{andWords}
+use Rattle.poly.specs.Checks.{badWord, andWords}
 
 -- the first fails
 pub no-first : (a b : ℕ) (w : Bool) → (a ≡ b → ⊥) → false ≡ (eqb a b && w)
@@ -21,7 +20,7 @@ yes-first a b w h e = rw (eq-eqb a b h) e
 pub found-good : (w : Bool) → w ≡ true → Done ≡ andWords Done w
 found-good w h = rw h
 
-pub found-bad : (w : Bool) → w ≡ false → Refused BadWord ≡ andWords Done w
+pub found-bad : (w : Bool) → w ≡ false → Refused badWord ≡ andWords Done w
 found-bad w h = rw h
 
 -- five lists, one after the other

@@ -8,11 +8,11 @@ use borrow.Author.Tests.{leb-true, le-leb, lt-leb}
 use lib.Dec.{leb}
 use Rattle.refusal.specs.Limits.{maxRounds, maxRows}
 use Rattle.refusal.specs.declared.Refusal.{Refusal}
-use Rattle.refusal.specs.declared.Refusal.the-variants.{TooManyRows, NotPowerOfTwo, ShortRoom, BadWord, TooManyRounds, BadLength}
+use Rattle.refusal.specs.declared.Refusal.the-variants.{TooManyRows, NotPowerOfTwo, ShortRoom, TooManyRounds, BadLength}
 use Rattle.poly.specs.declared.Outcome.{Outcome}
 use Rattle.poly.specs.declared.Outcome.the-variants.{Done, Refused}
 use Rattle.poly.specs.declared.checks.Sizes.{Sizes}
-use Rattle.poly.specs.Checks.{unless, refusal, andWords}
+use Rattle.poly.specs.Checks.{badWord, unless, refusal, andWords}
 
 -- ---- no test failed
 pub record Passed (s : Sizes) (w : Bool) : Type 0 where
@@ -40,7 +40,7 @@ passed s w h =
     let d = unless-done (leb (s .entries) maxRows) TooManyRows _ (c .1) in
     let e = unless-done (s .power) NotPowerOfTwo _ (d .1) in
     let f = unless-done (s .room) ShortRoom _ (e .1) in
-    let g = unless-done w BadWord _ (f .1) in
+    let g = unless-done w badWord _ (f .1) in
     record {
       lists = a .0;
       variables = leb-true (s .variables) maxRounds (b .0);
@@ -56,7 +56,7 @@ and-unless : (b : Bool) (why : Refusal) (rest : Outcome) (w : Bool) → andWords
 and-unless true why rest w = refl
 and-unless false why rest w = refl
 
-and-both : (v w : Bool) → andWords (unless v BadWord Done) w ≡ unless (v && w) BadWord Done
+and-both : (v w : Bool) → andWords (unless v badWord Done) w ≡ unless (v && w) badWord Done
 and-both true w = refl
 and-both false w = refl
 
@@ -86,7 +86,7 @@ within lists variables entries power {t} {u} {v} {w} h k words =
     ap (unless lists BadLength)
     (unless-same (leb variables maxRounds) TooManyRounds
     (λ b. let l : variables ≤ maxRounds = leb-true variables maxRounds b in
-    λ i. unless (h l i) BadLength (unless (leb entries maxRows) TooManyRows (unless power NotPowerOfTwo (unless (k l i) ShortRoom (unless words BadWord Done))))))
+    λ i. unless (h l i) BadLength (unless (leb entries maxRows) TooManyRows (unless power NotPowerOfTwo (unless (k l i) ShortRoom (unless words badWord Done))))))
 
 -- ---- the ways through the tests
 module _ (s : Sizes) where

@@ -9,8 +9,13 @@ use Rattle.refusal.specs.Limits.{maxRounds, maxRows}
 use Rattle.refusal.specs.declared.Refusal.{Refusal}
 use Rattle.refusal.specs.declared.Refusal.the-variants.{TooManyRows, NotPowerOfTwo, ShortRoom, BadWord, TooManyRounds, BadLength}
 use Rattle.poly.specs.declared.Outcome.{Outcome}
+use Rattle.refusal.specs.declared.Words.the-variants.{Own}
 use Rattle.poly.specs.declared.Outcome.the-variants.{Done, Refused}
 use Rattle.poly.specs.declared.checks.Sizes.{Sizes}
+
+-- a word of a helper's own lists: neither its place nor its list is told
+abbrev pub badWord : Refusal
+badWord = BadWord 0 Own
 
 abbrev pub unless : Bool → Refusal → Outcome → Outcome
 unless true why rest = rest
@@ -24,11 +29,11 @@ refusal s words =
     (unless (s .table) BadLength
     (unless (leb (s .entries) maxRows) TooManyRows (unless (s .power) NotPowerOfTwo
     (unless (s .room) ShortRoom
-    (unless words BadWord Done))))))
+    (unless words badWord Done))))))
 
 -- what is left to be said once more words are looked at
 abbrev pub andWords : Outcome → Bool → Outcome
-andWords Done words = unless words BadWord Done
+andWords Done words = unless words badWord Done
 andWords (Refused why) words = Refused why
 
 -- no element of a list is split

@@ -12,6 +12,7 @@ use field::Ext;
 use refusal::MAX_ROUNDS;
 use refusal::MAX_ROWS;
 use refusal::Refusal;
+use refusal::Words;
 
 // What is asked of the sizes; a question that a helper does not ask is answered by 0 or true.
 pub struct Sizes {
@@ -59,7 +60,10 @@ fn words_found(canonical: bool) -> Outcome
     if canonical {
         return Outcome::Done;
     }
-    Outcome::Refused(Refusal::BadWord)
+    Outcome::Refused(Refusal::BadWord {
+        place: 0,
+        list: Words::Own,
+    })
 }
 
 // After the checks so far: the words of a list.

@@ -10,12 +10,13 @@ use lib.Dec.{ltb}
 use lib.ListN.{length, take, drop}
 use Rattle.gkr.specs.Tests.{pass}
 use Rattle.transcript.specs.Source.{source}
-use Rattle.wire.specs.Words.{allCanonical}
+use Rattle.wire.specs.Words.{allCanonical, firstBad}
 use Rattle.refusal.specs.Tests.{Tested, passed, refused, test, firstOf}
 use Rattle.refusal.specs.TestWays.{both}
 use Rattle.refusal.specs.Numbers.{reportOf}
 use Rattle.refusal.specs.declared.Refusal.{Refusal}
 use Rattle.refusal.specs.declared.Refusal.the-variants.{RaggedRows, TooManyRows, NotPowerOfTwo, ShortChallenges, ShortRoom, BadWord, ZeroDenominator, NonZeroRootSum, SingleRow}
+use Rattle.refusal.specs.declared.Words.the-variants.{Challenges}
 use Rattle.sizes.specs.Sizes.{rowCount, roundsOf, neededWords}
 use Rattle.prover_gate.specs.Refusals.{Call, Rooms, call, tests, firstRefusal}
 use Rattle.prover.specs.declared.Answer.the-variants.{Refused}
@@ -38,7 +39,7 @@ module _ (c : Call) (r : Rooms) where
   abbrev seen : (short : Bool) (needed : List ℕ) → Tested
   seen short needed =
       let ts = tests c r in
-      firstOf (take 3 ts ++ (test short ShortChallenges ∷ (take 2 (drop 4 ts) ++ (test (not (allCanonical needed)) BadWord ∷ drop 7 ts))))
+      firstOf (take 3 ts ++ (test short ShortChallenges ∷ (take 2 (drop 4 ts) ++ (test (not (allCanonical needed)) (BadWord (firstBad needed) Challenges) ∷ drop 7 ts))))
 
   tested : (lent : List ℕ) → firstRefusal (lending lent) r ≡ seen (ltb (length lent) (need rounds)) (take (need rounds) lent)
   unfolding firstRefusal
@@ -86,8 +87,8 @@ module _ (c : Call) (r : Rooms) where
             both (λ m. other NotPowerOfTwo (λ z. omega arith)) (λ u3.
             both (λ m. absurd (true≢false (sym m ∙ plenty h (c .challenges)))) (λ u4.
             both (λ m. other ShortRoom (λ z. omega arith)) (λ u5.
-            both (λ m. other BadWord (λ z. omega arith)) (λ u6.
-            both (λ m. other BadWord (λ z. omega arith)) (λ u7.
+            both (λ m. other (BadWord _ _) (λ z. omega arith)) (λ u6.
+            both (λ m. other (BadWord _ _) (λ z. omega arith)) (λ u7.
             both (λ m. other (ZeroDenominator _) (λ z. omega arith)) (λ u8.
             each-end (λ f. f .answer ≡ Refused ShortChallenges → ⊥) (c .rows) (c .modes) (c .challenges) rounds four)))))))));
       }

@@ -111,8 +111,8 @@ module _ (c : Call) (r : Rooms) where
             both (λ m. other NotPowerOfTwo i (λ z. omega arith)) (λ u3.
             both (λ m. other ShortChallenges i (λ z. omega arith)) (λ u4.
             both (λ m. other ShortRoom i (λ z. omega arith)) (λ u5.
-            both (λ m. other BadWord i (λ z. omega arith)) (λ u6.
-            both (λ m. other BadWord i (λ z. omega arith)) (λ u7.
+            both (λ m. other (BadWord _ _) i (λ z. omega arith)) (λ u6.
+            both (λ m. other (BadWord _ _) i (λ z. omega arith)) (λ u7.
             both (λ m. absurd (never m)) (λ u8.
             each-end (λ f. f .answer ≡ Refused (ZeroDenominator i) → ⊥) (c .rows) (in-mode false c .modes) (c .challenges) (roundsOf count) (seven i))))))))));
       }

@@ -111,7 +111,7 @@ wiping c r =
     both (λ m. quiet n NotPowerOfTwo (λ z. omega arith)) (λ u3.
     both (λ m. quiet n ShortChallenges (λ z. omega arith)) (λ u4.
     both (λ m. quiet n ShortRoom (λ z. omega arith)) (λ u5.
-    both (λ m. quiet n BadWord (λ z. omega arith)) (λ u6.
-    both (λ m. quiet n BadWord (λ z. omega arith)) (λ u7.
+    both (λ m. quiet n (BadWord _ _) (λ z. omega arith)) (λ u6.
+    both (λ m. quiet n (BadWord _ _) (λ z. omega arith)) (λ u7.
     both (λ m. quiet n (ZeroDenominator _) (λ z. omega arith)) (λ u8.
     each-end (Left n) (c .rows) (c .modes) (c .challenges) n (ends-left n))))))))))

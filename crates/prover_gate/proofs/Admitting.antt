@@ -9,6 +9,7 @@ use native.Mathlib.Omega.{arith}
 use borrow.Author.Tests.{lt-ltb, le-ltb, eq-eqb, ne-eqb}
 use lib.Dec.{eqb, ltb}
 use lib.ListN.{length, take}
+use lib.Seq.{length-take-le}
 use Rattle.field.specs.Ext as E
 use Rattle.gkr.specs.Run.{Frac}
 use Rattle.refusal.specs.Limits.{maxRounds, maxRows}
@@ -16,7 +17,9 @@ use Rattle.refusal.specs.TestLaws.{NoneMet, all-passed}
 use Rattle.refusal.specs.TestWays.{MetAt, met-at}
 use Rattle.refusal.specs.declared.Refusal.{Refusal}
 use Rattle.refusal.specs.declared.Refusal.the-variants.{RaggedRows, TooManyRows, NotPowerOfTwo, ShortChallenges, ShortRoom, BadWord, ZeroDenominator}
-use Rattle.wire.specs.Words.{allCanonical}
+use Rattle.refusal.specs.declared.Words.the-variants.{Rows, Challenges}
+use Rattle.wire.specs.Words.{allCanonical, firstBad}
+use Rattle.wire.specs.WordLaws.{none-canonical, some-bad}
 use Rattle.step.specs.declared.Frac.{Frac as FracW}
 use Rattle.step.specs.Values.{IsFrac, decFrac}
 use Rattle.prover_tree.specs.Nodes.{node}
@@ -49,6 +52,10 @@ rows-here rows count i l h s = let e : count - i ≡ suc (count - (i + 1)) = ome
 pub rows-end : (rows : List ℕ) (count i : ℕ) → i ≡ count → lowest rows count 0 ≡ lowest rows (count - i) i → count ≡ lowest rows count 0
 unfolding lowest
 rows-end rows count i h s = let e : count - i ≡ 0 = omega arith in sym (s ∙ rw e h)
+
+-- a search of words that ended at the end
+pub none-found : (ws : List ℕ) {b : ℕ} → b ≡ firstBad ws → length ws ≤ b → allCanonical ws ≡ true
+none-found ws e h = none-canonical ws (omega (arith, e))
 
 -- THE ORDER
 
@@ -109,20 +116,29 @@ module _ (c : Call) (r : Rooms) where
           pub refuse-5 : t ≡ true → Tells (Shut ShortRoom)
           refuse-5 h = shut 4 ShortRoom (p1, (p2, (p3, (p4, (room ∙ h, refl)))))
 
-          module _ (h5 : t ≡ false) {u : Bool} (ue : u ≡ allCanonical (c .rows)) where
-            pub refuse-6 : u ≡ false → Tells (Shut BadWord)
-            refuse-6 h = shut 5 BadWord (p1, (p2, (p3, (p4, (room ∙ h5, (ap not (sym ue ∙ h), refl))))))
+          module _ (h5 : t ≡ false) {u : ℕ} (ue : u ≡ firstBad (c .rows)) where
+            pub refuse-6 : u < length (c .rows) → Tells (Shut (BadWord u Rows))
+            refuse-6 h = shut 5 (BadWord u Rows) (p1, (p2, (p3, (p4, (room ∙ h5, (ap not (some-bad (c .rows) (omega (arith, ue))), ap (λ b. BadWord b Rows) (sym ue)))))))
 
-            module _ (h6 : u ≡ true) {v : Bool} (ve : v ≡ allCanonical (take need (c .challenges))) where
-              words : not (allCanonical (take (neededWords (c .modes .drawn) (roundsOf count)) (c .challenges))) ≡ not v
-              words = ap (λ k. not (allCanonical (take k (c .challenges)))) (sym d) ∙ ap not (sym ve)
+            module _ (h6 : length (c .rows) ≤ u) {v : ℕ} (ve : v ≡ firstBad (take need (c .challenges))) where
+              p6 : not (allCanonical (c .rows)) ≡ false
+              p6 = ap not (none-found (c .rows) ue h6)
 
-              pub refuse-6' : v ≡ false → Tells (Shut BadWord)
-              refuse-6' h = shut 6 BadWord (p1, (p2, (p3, (p4, (room ∙ h5, (ap not (sym ue ∙ h6), (words ∙ ap not h, refl)))))))
+              words : not (allCanonical (take (neededWords (c .modes .drawn) (roundsOf count)) (c .challenges))) ≡ not (allCanonical (take need (c .challenges)))
+              words = ap (λ k. not (allCanonical (take k (c .challenges)))) (sym d)
 
-              module _ (h7 : v ≡ true) where
+              pub refuse-6' : v < need → Tells (Shut (BadWord v Challenges))
+              refuse-6' h =
+                  let bad = some-bad (take need (c .challenges)) (omega (arith, ve, length-take-le need (c .challenges) h4)) in
+                  let place = ap (λ k. firstBad (take k (c .challenges))) (sym d) ∙ sym ve in
+                  shut 6 (BadWord v Challenges) (p1, (p2, (p3, (p4, (room ∙ h5, (p6, (words ∙ ap not bad, ap (λ b. BadWord b Challenges) place)))))))
+
+              module _ (h7 : need ≤ v) where
+                p7 : not (allCanonical (take (neededWords (c .modes .drawn) (roundsOf count)) (c .challenges))) ≡ false
+                p7 = words ∙ ap not (none-found (take need (c .challenges)) ve (omega (arith, length-take-le need (c .challenges) h4)))
+
                 passes : (c .modes .live && ltb low count) ≡ false → Tells (Open z)
-                passes h = opened (p1, (p2, (p3, (p4, (room ∙ h5, (ap not (sym ue ∙ h6), (words ∙ ap not h7, (h, tt)))))))) ze
+                passes h = opened (p1, (p2, (p3, (p4, (room ∙ h5, (p6, (p7, (h, tt)))))))) ze
 
                 pub sandbox-passes : c .modes .live ≡ false → Tells (Open z)
                 sandbox-passes h = passes (ap (λ b. b && ltb low count) h)
@@ -132,7 +148,7 @@ module _ (c : Call) (r : Rooms) where
                   row-test = ap (λ b. b && ltb low count) h8 ∙ ap (λ k. ltb k count) (sym e)
 
                   pub refuse-7 : row < count → Tells (Shut (ZeroDenominator row))
-                  refuse-7 h = shut 7 (ZeroDenominator row) (p1, (p2, (p3, (p4, (room ∙ h5, (ap not (sym ue ∙ h6), (words ∙ ap not h7, (row-test ∙ lt-ltb _ _ h, ap ZeroDenominator (sym e)))))))))
+                  refuse-7 h = shut 7 (ZeroDenominator row) (p1, (p2, (p3, (p4, (room ∙ h5, (p6, (p7, (row-test ∙ lt-ltb _ _ h, ap ZeroDenominator (sym e)))))))))
 
                   pub live-passes : count ≤ row → Tells (Open z)
                   live-passes h = passes (row-test ∙ le-ltb _ _ h)

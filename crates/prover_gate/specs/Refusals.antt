@@ -11,9 +11,10 @@ use Rattle.gkr.specs.Sizes.{proof-bytes, point-words}
 use Rattle.refusal.specs.Limits.{maxRows}
 use Rattle.refusal.specs.declared.Proving.{Proving}
 use Rattle.refusal.specs.declared.Refusal.the-variants.{RaggedRows, TooManyRows, NotPowerOfTwo, ShortChallenges, ShortRoom, BadWord, ZeroDenominator}
+use Rattle.refusal.specs.declared.Words.the-variants.{Rows, Challenges}
 use Rattle.refusal.specs.Tests.{Test, Tested, passed, refused, test, firstOf}
 use Rattle.sizes.specs.Sizes.{rowCount, roundsOf, isSize, neededWords, logRoom, workRoom}
-use Rattle.wire.specs.Words.{allCanonical}
+use Rattle.wire.specs.Words.{allCanonical, firstBad}
 use Rattle.prover_tree.specs.Nodes.{node}
 use Rattle.prover_gate.specs.declared.Gate.{Gate}
 use Rattle.prover_gate.specs.declared.Gate.the-variants.{Open, Shut}
@@ -58,8 +59,8 @@ tests c r =
     ∷ test (not (isSize count)) NotPowerOfTwo
     ∷ test (ltb (length (c .challenges)) need) ShortChallenges
     ∷ test (shortRoom (c .modes .«assert_zero») n r) ShortRoom
-    ∷ test (not (allCanonical (c .rows))) BadWord
-    ∷ test (not (allCanonical (take need (c .challenges)))) BadWord
+    ∷ test (not (allCanonical (c .rows))) (BadWord (firstBad (c .rows)) Rows)
+    ∷ test (not (allCanonical (take need (c .challenges)))) (BadWord (firstBad (take need (c .challenges))) Challenges)
     ∷ test (c .modes .live && ltb low count) (ZeroDenominator low) ∷ []
 
 unfoldable pub firstRefusal : Call → Rooms → Tested

@@ -9,6 +9,7 @@ ghost use Rattle.step.specs.Values.{decFrac};
 ghost use Rattle.prover_gate.specs.Refusals.{shortRoom, degenerate, lowest, call, rooms, firstRefusal, asGate};
 use refusal::Proving;
 use refusal::Refusal;
+use refusal::Words;
 use sizes::Size;
 use step::Frac;
 
@@ -94,11 +95,19 @@ pub fn first_refusal(
     if short_room(size, modes.assert_zero, proof, point, log, work) {
         return Gate::Shut(Refusal::ShortRoom);
     }
-    if !wire::canonical_words(rows) {
-        return Gate::Shut(Refusal::BadWord);
+    let place = wire::first_bad_word(rows);
+    if place < rows.len() {
+        return Gate::Shut(Refusal::BadWord {
+            place,
+            list: Words::Rows,
+        });
     }
-    if !wire::canonical_words(&challenges[..need]) {
-        return Gate::Shut(Refusal::BadWord);
+    let place = wire::first_bad_word(&challenges[..need]);
+    if place < need {
+        return Gate::Shut(Refusal::BadWord {
+            place,
+            list: Words::Challenges,
+        });
     }
     if !modes.live {
         return Gate::Open(size);

@@ -3,6 +3,8 @@
 use Prim.Native.Nat.{ℕ}
 use Rattle.field.specs.declared.Ext.{Ext}
 use Rattle.refusal.specs.declared.Report.{Report}
+use Rattle.refusal.specs.declared.Words.{Words}
+use Rattle.refusal.specs.declared.Words.the-variants.{Rows, Proof, Challenges, Point, Own}
 use Rattle.refusal.specs.declared.Refusal.{Refusal}
 use Rattle.refusal.specs.declared.Refusal.the-variants.{RaggedRows, TooManyRows, NotPowerOfTwo, ShortChallenges, ShortRoom, BadWord, ZeroDenominator, NonZeroRootSum, SingleRow, ZeroRounds, TooManyRounds, BadVersion, BadLength, IncorrectLayerCount, IncorrectSumcheckPolyCount, ZeroCheckFailed, RootConsistencyCheckFailed, IncorrectSubroundCount, LayerConsistencyCheckFailed, ZeroRoot}
 
@@ -17,13 +19,21 @@ plain number first second third = record { number = number; first = first; secon
 abbrev pub elements : ℕ → ℕ → Ext → Ext → Report
 elements number first left right = record { number = number; first = first; second = 0; third = 0; left = left; right = right }
 
+-- the lists whose words are looked at; a helper's own have no number
+abbrev pub listNumber : Words → ℕ
+listNumber Rows = 1
+listNumber Proof = 2
+listNumber Challenges = 3
+listNumber Point = 4
+listNumber Own = 0
+
 abbrev pub reportOf : Refusal → Report
 reportOf RaggedRows = plain 1 0 0 0
 reportOf TooManyRows = plain 2 0 0 0
 reportOf NotPowerOfTwo = plain 3 0 0 0
 reportOf ShortChallenges = plain 4 0 0 0
 reportOf ShortRoom = plain 5 0 0 0
-reportOf BadWord = plain 6 0 0 0
+reportOf (BadWord place list) = plain 6 place (listNumber list) 0
 reportOf (ZeroDenominator row) = plain 7 row 0 0
 reportOf NonZeroRootSum = plain 8 0 0 0
 reportOf SingleRow = plain 9 0 0 0

@@ -2,7 +2,7 @@
 ghost use mathlib.Core.Path.{_≡_};
 ghost use Prim.Native.Nat.{_^_};
 ghost use Rattle.refusal.specs.Limits.{maxRounds, maxRows};
-ghost use Rattle.refusal.specs.Numbers.{plain, elements, reportOf};
+ghost use Rattle.refusal.specs.Numbers.{plain, elements, listNumber, reportOf};
 ghost use Rattle.refusal.specs.Powers.{powerOfTwo};
 use field::Ext;
 
@@ -38,13 +38,25 @@ pub struct Verifying {
     pub drawn: bool,
 }
 
+// The list that a word stands in which is not canonical: the rows, the proof's elements, the challenges, the point of an evaluation, or a list of a helper's own.
+pub enum Words {
+    Rows,
+    Proof,
+    Challenges,
+    Point,
+    Own,
+}
+
 pub enum Refusal {
     RaggedRows,
     TooManyRows,
     NotPowerOfTwo,
     ShortChallenges,
     ShortRoom,
-    BadWord,
+    BadWord {
+        place: usize,
+        list: Words,
+    },
     ZeroDenominator {
         row: usize,
     },
@@ -125,6 +137,19 @@ pub fn done(first: usize, left: Ext, right: Ext) -> Report
     element_report(0, first, left, right)
 }
 
+// The number of a list of words; a helper's own lists have none.
+fn list_number(list: Words) -> usize
+    ensures { λ r. ⌜ r ≡ listNumber list ⌝ }
+{
+    match list {
+        Words::Rows => 1,
+        Words::Proof => 2,
+        Words::Challenges => 3,
+        Words::Point => 4,
+        Words::Own => 0,
+    }
+}
+
 // A refusal as document 01's table has it: its number, and its fields, zero where there are none.
 pub fn number_and_fields(refusal: Refusal) -> Report
     ensures { λ r. ⌜ r ≡ reportOf refusal ⌝ }
@@ -135,7 +160,7 @@ pub fn number_and_fields(refusal: Refusal) -> Report
         Refusal::NotPowerOfTwo => plain_report(3, 0, 0, 0),
         Refusal::ShortChallenges => plain_report(4, 0, 0, 0),
         Refusal::ShortRoom => plain_report(5, 0, 0, 0),
-        Refusal::BadWord => plain_report(6, 0, 0, 0),
+        Refusal::BadWord { place, list } => plain_report(6, place, list_number(list), 0),
         Refusal::ZeroDenominator { row } => plain_report(7, row, 0, 0),
         Refusal::NonZeroRootSum => plain_report(8, 0, 0, 0),
         Refusal::SingleRow => plain_report(9, 0, 0, 0),

@@ -98,7 +98,7 @@ fn replay(text: &[u8]) {
 }
 
 fn main() {
-    let mut text = [0u8; 540672];
+    let mut text = [0u8; 573440];
     let n = io::read_full(0, &mut text);
     replay(&text[..n]);
 }

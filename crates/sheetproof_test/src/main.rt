@@ -3,6 +3,7 @@
 ghost use Rattle.io.specs.Counts.{Counts};
 use field::Ext;
 use refusal::Refusal;
+use refusal::Words;
 use sheet_text::list::beyond;
 use sheet_text::list::find;
 
@@ -71,7 +72,6 @@ fn print_plain() {
     command_text::refusals::print_refusal(Refusal::NotPowerOfTwo);
     command_text::refusals::print_refusal(Refusal::ShortChallenges);
     command_text::refusals::print_refusal(Refusal::ShortRoom);
-    command_text::refusals::print_refusal(Refusal::BadWord);
     command_text::refusals::print_refusal(Refusal::ZeroDenominator { row: 1023 });
     command_text::refusals::print_refusal(Refusal::NonZeroRootSum);
     command_text::refusals::print_refusal(Refusal::SingleRow);
@@ -79,6 +79,33 @@ fn print_plain() {
     command_text::refusals::print_refusal(Refusal::TooManyRounds);
     command_text::refusals::print_refusal(Refusal::BadVersion);
     command_text::refusals::print_refusal(Refusal::BadLength);
+}
+
+fn print_bad(place: usize, list: Words) {
+    command_text::refusals::print_refusal(Refusal::BadWord { place, list });
+}
+
+fn print_bad_words() {
+    print_bad(0, Words::Rows);
+    print_bad(30, Words::Rows);
+    print_bad(47, Words::Proof);
+    print_bad(14, Words::Challenges);
+    print_bad(7, Words::Point);
+    print_bad(0, Words::Own);
+}
+
+// Layers and sub-rounds as in a proof of three rounds, and with counts that are none.
+fn print_named_words() {
+    let honest = [1usize, 2usize];
+    command_text::refusals::print_named(3, 3, &honest);
+    command_text::refusals::print_named(4, 3, &honest);
+    command_text::refusals::print_named(51, 3, &honest);
+    command_text::refusals::print_named(52, 3, &honest);
+    command_text::refusals::print_named(64, 3, &honest);
+    command_text::refusals::print_named(87, 3, &honest);
+    let odd = [0usize, 2usize, 1usize];
+    command_text::refusals::print_named(4, 0, &odd);
+    command_text::refusals::print_named(39, 0, &odd);
 }
 
 fn print_counts() {
@@ -120,6 +147,8 @@ fn main() {
     run_lines(&text[..n]);
     io::write_all(1, b"the words of each refusal\n");
     print_plain();
+    print_bad_words();
+    print_named_words();
     print_counts();
     print_elements();
     command_text::refusals::print_refusal(Refusal::ZeroRoot);

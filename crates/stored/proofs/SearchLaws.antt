@@ -1,19 +1,17 @@
 -- The search for a bad word through the polynomial entries, and through the whole proof.
 -- Assumes nothing.
 use mathlib.Core.Path.{_≡_, refl, sym, _∙_, ap, ap₂, subst}
-use mathlib.Core.Bool.{Bool, true, false}
+use mathlib.Core.Bool.{true}
 use mathlib.Core.List.{List, [], _∷_, _++_, append-assoc}
 use Prim.Native.Nat.{ℕ, zero, suc, _+_, _*_, _-_, _/_, _<_, _≤_}
 use native.Mathlib.Omega.{arith}
-use borrow.Author.Tests.{eqb-true, eqb-false}
-use lib.Dec.{eqb}
 use lib.ListN.{length, getD, drop}
 use lib.Seq.{drop-drop}
 use Rattle.field.specs.declared.Ext.{Ext}
 use Rattle.wire.specs.Bytes.{wordsFrom, elem}
-use Rattle.wire.specs.Words.{firstBad, allCanonical, extWords}
+use Rattle.wire.specs.Words.{firstBad, extWords}
 use Rattle.wire.specs.ByteLaws.{elem-words, words-add, words-length}
-use Rattle.wire.specs.WordLaws.{bad-le, bad-here, bad-past, none-canonical, some-bad}
+use Rattle.wire.specs.WordLaws.{bad-le, bad-here, bad-past}
 use Rattle.stored.specs.declared.Outline.{Outline}
 use Rattle.stored.specs.Layout.{claimsWords, polysWords, proofWords}
 use Rattle.stored.specs.Parse.{claimsFrom, entriesFrom, entriesFit, layerCount, entryCount, polysAt, proofOf}
@@ -161,14 +159,6 @@ module _ (bs : List ℕ) (o : Outline) (s : Shaped bs o) where
           let l = words-length (16 * o .layers) (drop 22 bs) in
           omega (arith, past-root h, bad-past C R (omega (arith, l, q)), l, r)
 
--- none is bad
-count-by : (W : List ℕ) (b : ℕ) (t : Bool) → b ≡ firstBad W → eqb b (length W) ≡ t → t ≡ allCanonical W
-count-by W b true e h = sym (none-canonical W (omega (arith, e, eqb-true b (length W) h)))
-count-by W b false e h = sym (some-bad W (omega (arith, e, bad-le W, eqb-false b (length W) h)))
-
-pub canonical-test : (bs : List ℕ) (o : Outline) → Shaped bs o → (b : ℕ) → b ≡ firstBad (proofWords (proofOf bs)) → eqb b ((length bs - 7 - o .entries) / 4) ≡ allCanonical (proofWords (proofOf bs))
-canonical-test bs o s b e =
-    let W = proofWords (proofOf bs) in
-    let z = proof-size bs (s .reads) in
-    let t : (length bs - 7 - o .entries) / 4 ≡ length W = omega (arith, z, s .entries) in
-    ap (eqb b) t ∙ count-by W b (eqb b (length W)) e refl
+-- how many words there are
+pub word-total : (bs : List ℕ) (o : Outline) → Shaped bs o → (length bs - 7 - o .entries) / 4 ≡ length (proofWords (proofOf bs))
+word-total bs o s = omega (arith, proof-size bs (s .reads), s .entries)

@@ -3,7 +3,7 @@ ghost use mathlib.Core.Path.{_≡_};
 ghost use mathlib.Core.Bool.{true};
 ghost use Prim.Native.Nat.{_+_, _*_, _≤_};
 ghost use lib.ListN.{length, drop};
-ghost use Rattle.wire.specs.Words.{allCanonical, firstBad};
+ghost use Rattle.wire.specs.Words.{firstBad};
 ghost use Rattle.stored.specs.Elements.{overZero};
 ghost use Rattle.stored.specs.Layout.{polysWords, proofWords};
 ghost use Rattle.stored.specs.Parse.{parse, entriesFit, entriesFrom, proofOf, claimsOf, cubicOf};
@@ -153,12 +153,12 @@ pub fn first_bad_in_proof(proof: &[u8], outline: Outline) -> usize
     4 + words + first_bad_in_entries(proof, outline.polys, outline.entries)
 }
 
-// Whether every word of a proof is canonical.
-pub fn canonical_proof(proof: &[u8], outline: Outline) -> bool
+// How many words the elements of a proof have: its bytes but for version, length, the two counts and each entry's count, in fours.
+pub fn word_count(proof: &[u8], outline: Outline) -> usize
     requires { ⌜ Shaped (now proof) outline ⌝ }
-    ensures { λ r. ⌜ r ≡ allCanonical (proofWords (proofOf (now (proof .entry)))) ⌝ }
+    ensures { λ r. ⌜ r ≡ length (proofWords (proofOf (now (proof .entry)))) ⌝ }
 {
-    first_bad_in_proof(proof, outline) == (proof.len() - 7 - outline.entries) / 4
+    (proof.len() - 7 - outline.entries) / 4
 }
 
 // Whether a proof's q0, the denominator of the sum, is zero: its elements' first, from byte 5 on.

@@ -13,11 +13,13 @@ use Rattle.refusal.specs.Limits.{maxRows}
 use Rattle.refusal.specs.Tests.{firstOf}
 use Rattle.refusal.specs.declared.Refusal.{Refusal}
 use Rattle.refusal.specs.declared.Refusal.the-variants.{RaggedRows, TooManyRows, NotPowerOfTwo, ShortRoom, BadWord}
+use Rattle.refusal.specs.declared.Words.the-variants.{Rows}
 use Rattle.wire.specs.Bytes.{be4, bytesOf}
-use Rattle.wire.specs.Words.{allCanonical}
+use Rattle.wire.specs.Words.{firstBad}
 use Rattle.wire.specs.Written.{Wrote}
 use Rattle.wire.specs.WrittenLaws.{wrote-then, wrote-front}
 use Rattle.wire.specs.ByteLaws.{bytes-length}
+use Rattle.wire.specs.WordLaws.{none-canonical, some-bad}
 use Rattle.stored_sheet.specs.declared.SheetAnswer.{SheetAnswer}
 use Rattle.stored_sheet.specs.declared.SheetAnswer.the-variants.{Done, Refused}
 use Rattle.stored_sheet.specs.Sheet.{sheet}
@@ -49,12 +51,13 @@ module _ (ws : List ℕ) (room : ℕ) where
         pub no-room : room < 3 + 4 * length ws → Refused ShortRoom ≡ writeAnswer ws room
         no-room h = sym (inside ∙ ap (tested need) (sized-short (length ws / 8) need room ws m (sym e ∙ p) h))
 
-        module _ (r : 3 + 4 * length ws ≤ room) (b : Bool) (f : b ≡ allCanonical ws) where
-          pub bad-word : b ≡ false → Refused BadWord ≡ writeAnswer ws room
-          bad-word h = sym (inside ∙ ap (tested need) (sized-words (length ws / 8) need room ws m (sym e ∙ p) r false (sym f ∙ h)))
+        module _ (r : 3 + 4 * length ws ≤ room) (b : ℕ) (f : b ≡ firstBad ws) where
+          pub bad-word : b < length ws → Refused (BadWord b Rows) ≡ writeAnswer ws room
+          bad-word h =
+              ap (λ x. Refused (BadWord x Rows)) f ∙ sym (inside ∙ ap (tested need) (sized-words (length ws / 8) need room ws m (sym e ∙ p) r false (some-bad ws (omega (arith, f)))))
 
-          pub write-all : b ≡ true → Done (3 + 4 * length ws) ≡ writeAnswer ws room
-          write-all h = sym (inside ∙ ap (tested need) (sized-words (length ws / 8) need room ws m (sym e ∙ p) r true (sym f ∙ h)))
+          pub write-all : length ws ≤ b → Done (3 + 4 * length ws) ≡ writeAnswer ws room
+          write-all h = sym (inside ∙ ap (tested need) (sized-words (length ws / 8) need room ws m (sym e ∙ p) r true (none-canonical ws (omega (arith, f)))))
 
 -- THE BYTES
 pub words-turn : (ws : List ℕ) (i : ℕ) → i < length ws → bytesOf (drop i ws) ≡ be4 (getD ws i 0) ++ bytesOf (drop (i + 1) ws)

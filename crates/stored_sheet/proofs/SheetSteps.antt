@@ -15,6 +15,7 @@ use Rattle.refusal.specs.Powers.{powerOfTwo}
 use Rattle.refusal.specs.Tests.{Tested, passed, refused, firstOf}
 use Rattle.refusal.specs.declared.Refusal.{Refusal}
 use Rattle.refusal.specs.declared.Refusal.the-variants.{TooManyRows, NotPowerOfTwo, ShortRoom, BadWord, BadVersion, BadLength}
+use Rattle.refusal.specs.declared.Words.the-variants.{Rows}
 use Rattle.wire.specs.Bytes.{word, wordsFrom}
 use Rattle.wire.specs.Words.{allCanonical, firstBad}
 use Rattle.wire.specs.ByteLaws.{words-length, words-add}
@@ -50,7 +51,7 @@ module _ (n need room : ℕ) (ws : List ℕ) where
       unfolding firstOf
       sized-short h = rw (le-ltb maxRows n m, p, lt-ltb room need h)
 
-      pub sized-words : need ≤ room → (b : Bool) → allCanonical ws ≡ b → outcome ≡ cond b passed (refused BadWord)
+      pub sized-words : need ≤ room → (b : Bool) → allCanonical ws ≡ b → outcome ≡ cond b passed (refused (BadWord (firstBad ws) Rows))
       unfolding firstOf
       sized-words r true h = rw (le-ltb maxRows n m, p, le-ltb room need r, h)
       sized-words r false h = rw (le-ltb maxRows n m, p, le-ltb room need r, h)
@@ -96,9 +97,9 @@ module _ (bs : List ℕ) (room : ℕ) where
             no-room h = sym (inside ∙ ap (tested n) (sized-short n (8 * n) room words m (sym e ∙ p) h))
 
             module _ (r : 8 * n ≤ room) (b : ℕ) (f : b ≡ firstBad (wordsFrom (8 * n) (drop 3 bs))) where
-              pub bad-word : b < 8 * n → Refused BadWord ≡ readAnswer bs room
+              pub bad-word : b < 8 * n → Refused (BadWord b Rows) ≡ readAnswer bs room
               bad-word h =
-                  sym (inside ∙ ap (tested n) (sized-words n (8 * n) room words m (sym e ∙ p) r false (some-bad words (omega (arith, words-length (8 * n) (drop 3 bs), f)))))
+                  ap (λ x. Refused (BadWord x Rows)) f ∙ sym (inside ∙ ap (tested n) (sized-words n (8 * n) room words m (sym e ∙ p) r false (some-bad words (omega (arith, words-length (8 * n) (drop 3 bs), f)))))
 
               pub read-all : 8 * n ≤ b → Done n ≡ readAnswer bs room
               read-all h =

@@ -8,10 +8,11 @@ use lib.ListN.{length, getD, drop}
 use Rattle.refusal.specs.Limits.{maxRows}
 use Rattle.refusal.specs.Powers.{powerOfTwo}
 use Rattle.refusal.specs.declared.Refusal.the-variants.{RaggedRows, TooManyRows, NotPowerOfTwo, ShortRoom, BadWord, BadVersion, BadLength}
+use Rattle.refusal.specs.declared.Words.the-variants.{Rows}
 use Rattle.refusal.specs.Tests.{Test, Tested, passed, refused, test, firstOf}
 use Rattle.stored_sheet.specs.declared.SheetAnswer.{SheetAnswer}
 use Rattle.stored_sheet.specs.declared.SheetAnswer.the-variants.{Done, Refused}
-use Rattle.wire.specs.Words.{allCanonical}
+use Rattle.wire.specs.Words.{allCanonical, firstBad}
 use Rattle.stored_sheet.specs.Sheet.{sheet, rowCount, rowWords}
 
 -- a count of rows, the room for what they need, and their words: 2, 3, 5, 6
@@ -19,7 +20,7 @@ abbrev pub sized : (n need room : ℕ) (ws : List ℕ) → List Test
 sized n need room ws = test (ltb maxRows n) TooManyRows
     ∷ test (not (cond (eqb n 0) true (powerOfTwo n))) NotPowerOfTwo
     ∷ test (ltb room need) ShortRoom
-    ∷ test (not (allCanonical ws)) BadWord ∷ []
+    ∷ test (not (allCanonical ws)) (BadWord (firstBad ws) Rows) ∷ []
 
 abbrev pub tested : (n : ℕ) → Tested → SheetAnswer
 tested n passed = Done n

@@ -14,6 +14,7 @@ ghost use Rattle.stored_sheet.specs.SheetReads.{readAnswer, writeAnswer,
 use field::Ext;
 use refusal::Refusal;
 use refusal::Report;
+use refusal::Words;
 
 // What reading or writing a sheet ends with.
 pub enum SheetAnswer {
@@ -67,8 +68,12 @@ fn check_sheet(bytes: &[u8], room: usize) -> SheetAnswer
     if room < words {
         return SheetAnswer::Refused(Refusal::ShortRoom);
     }
-    if wire::first_bad_stored(bytes, 3, words) < words {
-        return SheetAnswer::Refused(Refusal::BadWord);
+    let place = wire::first_bad_stored(bytes, 3, words);
+    if place < words {
+        return SheetAnswer::Refused(Refusal::BadWord {
+            place,
+            list: Words::Rows,
+        });
     }
     SheetAnswer::Done(count)
 }
@@ -115,8 +120,12 @@ fn check_rows(rows: &[u32], room: usize) -> SheetAnswer
     if room < bytes {
         return SheetAnswer::Refused(Refusal::ShortRoom);
     }
-    if !wire::canonical_words(rows) {
-        return SheetAnswer::Refused(Refusal::BadWord);
+    let place = wire::first_bad_word(rows);
+    if place < rows.len() {
+        return SheetAnswer::Refused(Refusal::BadWord {
+            place,
+            list: Words::Rows,
+        });
     }
     SheetAnswer::Done(bytes)
 }

@@ -52,11 +52,7 @@ pub fn ask(proof: &[u8]) {
             text::number(o.entries as u64);
             text::number(o.polys as u64);
             text::number(stored::first_bad_in_proof(proof, o) as u64);
-            text::number(if stored::canonical_proof(proof, o) {
-                1
-            } else {
-                0
-            });
+            text::number(stored::word_count(proof, o) as u64);
             elements(proof, o.polys);
         }
         Shape::Refused(r) => text::number(number_of(r) as u64),

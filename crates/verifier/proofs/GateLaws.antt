@@ -13,10 +13,12 @@ use Rattle.gkr.specs.Run.{Proof}
 use Rattle.refusal.specs.Limits.{maxRounds}
 use Rattle.refusal.specs.declared.Refusal.{Refusal}
 use Rattle.refusal.specs.declared.Refusal.the-variants.{ShortChallenges, ShortRoom, BadWord, ZeroRounds, TooManyRounds, BadVersion, BadLength}
+use Rattle.refusal.specs.declared.Words.the-variants.{Proof as ProofWords, Challenges}
 use Rattle.refusal.specs.Tests.{Test, Tested, passed, refused, test, firstOf}
 use Rattle.refusal.specs.TestLaws.{all-passed, passed-all}
 use Rattle.sizes.specs.Sizes.{neededWords, logRoom}
-use Rattle.wire.specs.Words.{allCanonical}
+use Rattle.wire.specs.Words.{allCanonical, firstBad}
+use Rattle.wire.specs.WordLaws.{none-canonical, some-bad}
 use Rattle.stored.specs.declared.Outline.{Outline}
 use Rattle.stored.specs.declared.Shape.{Shape}
 use Rattle.stored.specs.declared.Shape.the-variants.{Good, Refused}
@@ -30,16 +32,20 @@ use Rattle.verifier.specs.declared.Gate.the-variants.{Open, Shut}
 use Rattle.verifier.specs.Verified.{Asked, needed, counted, tests}
 use Rattle.verifier.specs.Gates.{wordsGate, Opened, Gated}
 
--- ---- the words
-pub words-shut : (bs : List ℕ) (o : Outline) (needs : List ℕ) (b : Bool) → b ≡ allCanonical (proofWords (proofOf bs)) → not b ≡ true → Shut BadWord ≡ wordsGate bs o needs
-words-shut bs o needs b e h = rw (sym e ∙ not-true b h)
+-- ---- the words: of the proof so many, of which b is the first bad one; of the challenges c
+module _ (bs : List ℕ) (o : Outline) (needs : List ℕ) (b w : ℕ) (e : b ≡ firstBad (proofWords (proofOf bs))) (l : w ≡ length (proofWords (proofOf bs))) where
+  pub words-shut : b < w → Shut (BadWord b ProofWords) ≡ wordsGate bs o needs
+  words-shut h = ap (λ x. Shut (BadWord x ProofWords)) e ∙ rw (some-bad (proofWords (proofOf bs)) (omega (arith, e, l)))
 
-module _ (bs : List ℕ) (o : Outline) (needs : List ℕ) (b c : Bool) (e : b ≡ allCanonical (proofWords (proofOf bs))) (h : not b ≡ false) (f : c ≡ allCanonical needs) where
-  pub needs-shut : not c ≡ true → Shut BadWord ≡ wordsGate bs o needs
-  needs-shut k = rw (sym e ∙ not-false b h, sym f ∙ not-true c k)
+  module _ (h : w ≤ b) (c : ℕ) (f : c ≡ firstBad needs) where
+    good : allCanonical (proofWords (proofOf bs)) ≡ true
+    good = none-canonical (proofWords (proofOf bs)) (omega (arith, e, l))
 
-  pub words-open : not c ≡ false → Open o ≡ wordsGate bs o needs
-  words-open k = rw (sym e ∙ not-false b h, sym f ∙ not-false c k)
+    pub needs-shut : c < length needs → Shut (BadWord c Challenges) ≡ wordsGate bs o needs
+    needs-shut k = ap (λ x. Shut (BadWord x Challenges)) f ∙ rw (good, some-bad needs (omega (arith, f)))
+
+    pub words-open : length needs ≤ c → Open o ≡ wordsGate bs o needs
+    words-open k = rw (good, none-canonical needs (omega (arith, f)))
 
 -- ---- the shape
 shape-shut : (version fit : Bool) (π : Proof Ext) (e : Refusal) (ts : List Test) → Refused e ≡ shapeOf (cond version (cond fit (parsed π) bad-length) bad-version)
@@ -106,7 +112,7 @@ module _ (a : Asked) (points logs : ℕ) where
               unfolding firstOf
               read = roomy ∙ rw (eq-eqb (getD (a .proof) 0 0) 1 (s .reads .version), reads-fits (a .proof) (s .reads))
 
-              by-words : a .modes .live ≡ false → (x y : Bool) (g : Gate) → allCanonical (proofWords (proofOf (a .proof))) ≡ x → allCanonical (needed a) ≡ y → g ≡ cond x (cond y (Open o) (Shut BadWord)) (Shut BadWord)
+              by-words : a .modes .live ≡ false → (x y : Bool) (g : Gate) → allCanonical (proofWords (proofOf (a .proof))) ≡ x → allCanonical (needed a) ≡ y → g ≡ cond x (cond y (Open o) (Shut (BadWord (firstBad (needed a)) Challenges))) (Shut (BadWord (firstBad (proofWords (proofOf (a .proof)))) ProofWords))
                   → Gated a points logs g
               unfolding firstOf
               by-words m true true g p q e = subst (Gated a points logs) (sym e) (record { passes = read ∙ rw (p, q, m); shaped = s })

@@ -14,9 +14,10 @@ use Rattle.transcript.specs.declared.Pos.{Pos}
 use Rattle.transcript.specs.Log.{Drawing}
 use Rattle.refusal.specs.declared.Verifying.{Verifying}
 use Rattle.refusal.specs.declared.Refusal.the-variants.{BadWord, ZeroRoot}
+use Rattle.refusal.specs.declared.Words.the-variants.{Proof, Challenges}
 use Rattle.refusal.specs.Tests.{passed, refused, firstOf}
 use Rattle.sizes.specs.Sizes.{neededWords, logRoom}
-use Rattle.wire.specs.Words.{allCanonical}
+use Rattle.wire.specs.Words.{allCanonical, firstBad}
 use Rattle.stored.specs.declared.Outline.{Outline}
 use Rattle.stored.specs.Layout.{proofWords}
 use Rattle.stored.specs.Parse.{proofOf}
@@ -33,7 +34,9 @@ use Rattle.verifier.specs.declared.Gate.the-variants.{Open, Shut}
 use Rattle.verifier.specs.Verified.{Asked, counted, tests}
 
 abbrev pub wordsGate : (bs : List ℕ) (o : Outline) (needs : List ℕ) → Gate
-wordsGate bs o needs = cond (allCanonical (proofWords (proofOf bs))) (cond (allCanonical needs) (Open o) (Shut BadWord)) (Shut BadWord)
+wordsGate bs o needs =
+    let ws = proofWords (proofOf bs) in
+    cond (allCanonical ws) (cond (allCanonical needs) (Open o) (Shut (BadWord (firstBad needs) Challenges))) (Shut (BadWord (firstBad ws) Proof))
 
 -- live, a root over zero where both counts are right
 abbrev pub rootGate : (modes : Verifying) (bs : List ℕ) (n : ℕ) (o : Outline) → Gate

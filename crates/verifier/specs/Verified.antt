@@ -14,10 +14,11 @@ use Rattle.transcript.specs.Log.{Drawing}
 use Rattle.refusal.specs.Limits.{maxRounds}
 use Rattle.refusal.specs.declared.Verifying.{Verifying}
 use Rattle.refusal.specs.declared.Refusal.the-variants.{ShortChallenges, ShortRoom, BadWord, ZeroRounds, TooManyRounds, BadVersion, BadLength, ZeroRoot}
+use Rattle.refusal.specs.declared.Words.the-variants.{Proof, Challenges}
 use Rattle.refusal.specs.Tests.{Test, Tested, passed, refused, test, firstOf}
 use Rattle.refusal.specs.Fronts.{over}
 use Rattle.sizes.specs.Sizes.{neededWords, logRoom}
-use Rattle.wire.specs.Words.{allCanonical}
+use Rattle.wire.specs.Words.{allCanonical, firstBad}
 use Rattle.stored.specs.Layout.{proofWords}
 use Rattle.stored.specs.Parse.{layerCount, entryCount, fits, proofOf}
 use Rattle.stored.specs.Elements.{decoded, overZero}
@@ -70,8 +71,8 @@ tests a points logs = test (eqb (a .rounds) 0) ZeroRounds
     ∷ test (ltb points (4 * a .rounds) || ltb logs (logRoom true (a .rounds))) ShortRoom
     ∷ test (not (eqb (getD (a .proof) 0 0) 1)) BadVersion
     ∷ test (not (fits (a .proof))) BadLength
-    ∷ test (not (allCanonical (proofWords (proofOf (a .proof))))) BadWord
-    ∷ test (not (allCanonical (needed a))) BadWord
+    ∷ test (not (allCanonical (proofWords (proofOf (a .proof))))) (BadWord (firstBad (proofWords (proofOf (a .proof)))) Proof)
+    ∷ test (not (allCanonical (needed a))) (BadWord (firstBad (needed a)) Challenges)
     ∷ test (a .modes .live && (counted (a .proof) (a .rounds) && overZero (a .proof))) ZeroRoot ∷ []
 
 -- what a verdict of the model answers and writes

@@ -10,6 +10,7 @@ ghost use Rattle.verifier.specs.Verified.{asked, lent, outcome, verified
 ghost use Rattle.verifier.specs.Gates.{wordsGate, rootGate, sandbox, Gated, Opened, Ready, Starts, Counted, pointLeft, answered};
 use refusal::Refusal;
 use refusal::Verifying;
+use refusal::Words;
 use stored::Outline;
 use stored::Shape;
 use transcript::Pos;
@@ -28,11 +29,19 @@ fn check_words(proof: &[u8], outline: Outline, needs: &[u32]) -> Gate
     requires { ⌜ Shaped (now proof) outline ⌝ }
     ensures { λ r. ⌜ r ≡ wordsGate (now (proof .entry)) outline (now (needs .entry)) ⌝ }
 {
-    if !stored::canonical_proof(proof, outline) {
-        return Gate::Shut(Refusal::BadWord);
+    let place = stored::first_bad_in_proof(proof, outline);
+    if place < stored::word_count(proof, outline) {
+        return Gate::Shut(Refusal::BadWord {
+            place,
+            list: Words::Proof,
+        });
     }
-    if !wire::canonical_words(needs) {
-        return Gate::Shut(Refusal::BadWord);
+    let place = wire::first_bad_word(needs);
+    if place < needs.len() {
+        return Gate::Shut(Refusal::BadWord {
+            place,
+            list: Words::Challenges,
+        });
     }
     Gate::Open(outline)
 }

@@ -3,7 +3,7 @@ use super::{
     field::{add, interpolate, line, mul, sub},
     prover::{Proof, Transcript},
 };
-use accudrina::{rooms, Claims, Element, Mode, Refusal, PRIME};
+use accudrina::{rooms, Claims, Element, Mode, Refusal, Words, PRIME};
 
 /// The bytes taken apart, or none where a length or a count disagrees with them.
 pub fn parse(bytes: &[u8]) -> Option<Proof> {
@@ -30,8 +30,12 @@ pub fn parse(bytes: &[u8]) -> Option<Proof> {
     rest.is_empty().then_some(Proof { q0, layers, polys })
 }
 
-fn canonical(e: &Element) -> bool {
-    e.0.iter().all(|&w| w < PRIME)
+/// Refused where a word is not below the prime, with the place of the first.
+fn canonical<'a>(es: impl Iterator<Item = &'a Element>, list: Words) -> Result<(), Refusal> {
+    match es.flat_map(|e| e.0).position(|w| w >= PRIME) {
+        Some(place) => Err(Refusal::BadWord { place: place as u32, list }),
+        None => Ok(()),
+    }
 }
 
 /// The refusals before the run, with room enough.
@@ -50,10 +54,9 @@ fn gate(bytes: &[u8], rounds: usize, mode: Mode, challenges: &[Element]) -> Resu
         return Err(Refusal::BadVersion);
     }
     let proof = parse(bytes).ok_or(Refusal::BadLength)?;
-    let mut words = proof.layers.iter().flatten().chain(proof.polys.iter().flatten().flatten());
-    if !canonical(&proof.q0) || !words.all(canonical) || !challenges[..needed].iter().all(canonical) {
-        return Err(Refusal::BadWord);
-    }
+    let claims = proof.layers.iter().flatten();
+    canonical([&proof.q0].into_iter().chain(claims).chain(proof.polys.iter().flatten().flatten()), Words::Proof)?;
+    canonical(challenges[..needed].iter(), Words::Challenges)?;
     let count = |n: usize| n as u32;
     if proof.layers.len() != rounds {
         return Err(Refusal::IncorrectLayerCount { expected: count(rounds), actual: count(proof.layers.len()) });

@@ -1,7 +1,7 @@
 use mathlib.Core.Path.{sym, _∙_}
 use native.Mathlib.Omega.{arith}
 use borrow.Author.Tests.{not-true, not-false}
-use Rattle.wire.specs.WordLaws.{canonical-below}
+use Rattle.wire.specs.WordLaws.{canonical-below, none-canonical}
 use Rattle.evaluation.proofs.Answering.{refuse-1, refuse-2, refuse-3, refuse-13, refuse-6, refuse-6', rows-length, no-rows, done-none, done-some}
 use borrow.Author.Needs.{needs}
 use Rattle.evaluation.proofs.evaluate.Statement.{statement}
@@ -33,18 +33,18 @@ returns-4 c =
     let s = n .before .before in
     refuse-13 _ _ (s .before .before .if1 .left) (s .before .if2 .left) (s .is-size .ensures) (not-false _ (n .before .if3 .left)) (n .least-size .ensures .0) (c .if4 .taken)
 
-canonical-words-requires : tie.Need-canonical-words-requires
-canonical-words-requires c κs = search needs
+first-bad-word-requires : tie.Need-first-bad-word-requires
+first-bad-word-requires c κs = search needs
 
 returns-5 : tie.Need-returns-5
 returns-5 c =
     let r = c .before in
     let n = r .before .before in
     let s = n .before .before in
-    refuse-6 _ _ (s .before .before .if1 .left) (s .before .if2 .left) (s .is-size .ensures) (not-false _ (n .before .if3 .left)) (n .least-size .ensures .0) (r .before .if4 .left) (r .canonical-words .ensures) (not-true _ (c .if5 .taken))
+    refuse-6 _ _ (s .before .before .if1 .left) (s .before .if2 .left) (s .is-size .ensures) (not-false _ (n .before .if3 .left)) (n .least-size .ensures .0) (r .before .if4 .left) (r .first-bad-word .ensures) (c .if5 .taken)
 
-canonical-words-requires-2 : tie.Need-canonical-words-requires-2
-canonical-words-requires-2 c κs = search needs
+first-bad-word-requires-2 : tie.Need-first-bad-word-requires-2
+first-bad-word-requires-2 c κs = search needs
 
 returns-6 : tie.Need-returns-6
 returns-6 c =
@@ -52,7 +52,7 @@ returns-6 c =
     let r = p .before .before in
     let n = r .before .before in
     let s = n .before .before in
-    refuse-6' _ _ (s .before .before .if1 .left) (s .before .if2 .left) (s .is-size .ensures) (not-false _ (n .before .if3 .left)) (n .least-size .ensures .0) (r .before .if4 .left) (r .canonical-words .ensures) (not-false _ (p .before .if5 .left)) (p .canonical-words2 .ensures) (not-true _ (c .if6 .taken))
+    refuse-6' _ _ (s .before .before .if1 .left) (s .before .if2 .left) (s .is-size .ensures) (not-false _ (n .before .if3 .left)) (n .least-size .ensures .0) (r .before .if4 .left) (r .first-bad-word .ensures) (p .before .if5 .left) (p .first-bad-word2 .ensures) (c .if6 .taken)
 
 returns-7 : tie.Need-returns-7
 returns-7 c =
@@ -60,7 +60,7 @@ returns-7 c =
     let r = p .before .before in
     let n = r .before .before in
     let s = n .before .before in
-    no-rows ∙ done-none _ _ (s .before .before .if1 .left) (s .before .if2 .left) (s .is-size .ensures) (not-false _ (n .before .if3 .left)) (n .least-size .ensures .0) (r .before .if4 .left) (r .canonical-words .ensures) (not-false _ (p .before .if5 .left)) (p .canonical-words2 .ensures) (not-false _ (c .before .if6 .left)) (c .if7 .taken)
+    no-rows ∙ done-none _ _ (s .before .before .if1 .left) (s .before .if2 .left) (s .is-size .ensures) (not-false _ (n .before .if3 .left)) (n .least-size .ensures .0) (r .before .if4 .left) (r .first-bad-word .ensures) (p .before .if5 .left) (p .first-bad-word2 .ensures) (c .before .if6 .left) (c .if7 .taken)
 
 eval-rows-by-halves-requires : tie.Need-eval-rows-by-halves-requires
 eval-rows-by-halves-requires c κs =
@@ -71,8 +71,8 @@ eval-rows-by-halves-requires c κs =
     let a = s .before .before .before .before .before .args in (
       (rows-length (a .rows .now) (a .point .now) (s .before .before .if1 .left) (s .before .if2 .left) (s .is-size .ensures) (not-false _ (n .before .if3 .left)) (n .least-size .ensures .0) (c .if7 .left), omega (arith, r .before .if4 .left)),
       (
-        record { below = canonical-below _ (sym (r .canonical-words .ensures) ∙ not-false _ (p .before .if5 .left)) },
-        record { below = canonical-below _ (sym (p .canonical-words2 .ensures) ∙ not-false _ (c .before .if6 .left)) },
+        record { below = canonical-below (a .rows .now) (none-canonical (a .rows .now) (omega (arith, r .first-bad-word .ensures, p .before .if5 .left))) },
+        record { below = canonical-below (a .point .now) (none-canonical (a .point .now) (omega (arith, p .first-bad-word2 .ensures, c .before .if6 .left))) },
       ),
     )
 
@@ -87,7 +87,7 @@ returns-8 c =
     let r = p .before .before in
     let n = r .before .before in
     let s = n .before .before in
-    c .done .ensures ∙ done-some _ _ (s .before .before .if1 .left) (s .before .if2 .left) (s .is-size .ensures) (not-false _ (n .before .if3 .left)) (n .least-size .ensures .0) (r .before .if4 .left) (r .canonical-words .ensures) (not-false _ (p .before .if5 .left)) (p .canonical-words2 .ensures) (not-false _ (e .before .if6 .left)) (e .if7 .left) (v .eval-rows-by-halves .ensures)
+    c .done .ensures ∙ done-some _ _ (s .before .before .if1 .left) (s .before .if2 .left) (s .is-size .ensures) (not-false _ (n .before .if3 .left)) (n .least-size .ensures .0) (r .before .if4 .left) (r .first-bad-word .ensures) (p .before .if5 .left) (p .first-bad-word2 .ensures) (e .before .if6 .left) (e .if7 .left) (v .eval-rows-by-halves .ensures)
 
 pub evaluate-spec : {M : Type 1} → statement M
 evaluate-spec =
@@ -100,9 +100,9 @@ evaluate-spec =
     least-size-requires
     mul-if4
     returns-4
-    canonical-words-requires
+    first-bad-word-requires
     returns-5
-    canonical-words-requires-2
+    first-bad-word-requires-2
     returns-6
     returns-7
     eval-rows-by-halves-requires

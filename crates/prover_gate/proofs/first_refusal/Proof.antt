@@ -1,8 +1,8 @@
 use lib.Seq.{length-take-le}
-use mathlib.Core.Path.{sym, _∙_}
+use mathlib.Core.Path.{sym}
 use borrow.Author.Tests.{not-true, not-false}
 use Rattle.wire.specs.WordLaws.{canonical-below}
-use Rattle.prover_gate.proofs.Admitting.{refuse-1, refuse-2, refuse-3, refuse-4, refuse-5, refuse-6, refuse-6', sandbox-passes, refuse-7, live-passes}
+use Rattle.prover_gate.proofs.Admitting.{none-found, refuse-1, refuse-2, refuse-3, refuse-4, refuse-5, refuse-6, refuse-6', sandbox-passes, refuse-7, live-passes}
 use native.Mathlib.Omega.{arith}
 use borrow.Author.Needs.{needs}
 use Rattle.prover_gate.proofs.first_refusal.Statement.{statement}
@@ -41,46 +41,46 @@ returns-5 c =
     let t = c .before in let k = t .before .before in let s = k .before .before in let z = s .before in
     refuse-5 _ _ (z .before .before .if1 .left) (z .before .if2 .left) (s .fills .ensures) (not-false _ (k .before .if3 .left)) (z .least-size .ensures) (k .needed-words .ensures) (t .before .if4 .left) (t .short-room .ensures) (c .if5 .taken)
 
-canonical-words-requires : tie.Need-canonical-words-requires
-canonical-words-requires c κs = search needs
+first-bad-word-requires : tie.Need-first-bad-word-requires
+first-bad-word-requires c κs = search needs
 
 returns-6 : tie.Need-returns-6
 returns-6 c =
     let u = c .before in let t = u .before .before in let k = t .before .before in let s = k .before .before in let z = s .before in
-    refuse-6 _ _ (z .before .before .if1 .left) (z .before .if2 .left) (s .fills .ensures) (not-false _ (k .before .if3 .left)) (z .least-size .ensures) (k .needed-words .ensures) (t .before .if4 .left) (t .short-room .ensures) (u .before .if5 .left) (u .canonical-words .ensures) (not-true _ (c .if6 .taken))
+    refuse-6 _ _ (z .before .before .if1 .left) (z .before .if2 .left) (s .fills .ensures) (not-false _ (k .before .if3 .left)) (z .least-size .ensures) (k .needed-words .ensures) (t .before .if4 .left) (t .short-room .ensures) (u .before .if5 .left) (u .first-bad-word .ensures) (c .if6 .taken)
 
-slice-aggregate-canonical-words : tie.Need-slice-aggregate-canonical-words
-slice-aggregate-canonical-words c =
+slice-aggregate-first-bad-word : tie.Need-slice-aggregate-first-bad-word
+slice-aggregate-first-bad-word c =
     let t = c .before .before .before .before in let k = t .before .before in
     sym (length-take-le (k .needed-words .result) (k .before .before .before .before .before .before .before .before .args .challenges .now) (t .before .if4 .left))
 
-canonical-words-requires-2 : tie.Need-canonical-words-requires-2
-canonical-words-requires-2 c κs = search needs
+first-bad-word-requires-2 : tie.Need-first-bad-word-requires-2
+first-bad-word-requires-2 c κs = search needs
 
 returns-7 : tie.Need-returns-7
 returns-7 c =
     let w = c .before in let u = w .before .before .before in let t = u .before .before in let k = t .before .before in let s = k .before .before in let z = s .before in
-    refuse-6' _ _ (z .before .before .if1 .left) (z .before .if2 .left) (s .fills .ensures) (not-false _ (k .before .if3 .left)) (z .least-size .ensures) (k .needed-words .ensures) (t .before .if4 .left) (t .short-room .ensures) (u .before .if5 .left) (u .canonical-words .ensures) (not-false _ (w .before .before .if6 .left)) (w .canonical-words2 .ensures) (not-true _ (c .if7 .taken))
+    refuse-6' _ _ (z .before .before .if1 .left) (z .before .if2 .left) (s .fills .ensures) (not-false _ (k .before .if3 .left)) (z .least-size .ensures) (k .needed-words .ensures) (t .before .if4 .left) (t .short-room .ensures) (u .before .if5 .left) (u .first-bad-word .ensures) (w .before .before .if6 .left) (w .first-bad-word2 .ensures) (c .if7 .taken)
 
 returns-8 : tie.Need-returns-8
 returns-8 c =
     let w = c .before .before .before in let u = w .before .before .before in let t = u .before .before in let k = t .before .before in let s = k .before .before in let z = s .before in
-    sandbox-passes _ _ (z .before .before .if1 .left) (z .before .if2 .left) (s .fills .ensures) (not-false _ (k .before .if3 .left)) (z .least-size .ensures) (k .needed-words .ensures) (t .before .if4 .left) (t .short-room .ensures) (u .before .if5 .left) (u .canonical-words .ensures) (not-false _ (w .before .before .if6 .left)) (w .canonical-words2 .ensures) (not-false _ (c .before .before .if7 .left)) (not-true _ (c .if8 .taken))
+    sandbox-passes _ _ (z .before .before .if1 .left) (z .before .if2 .left) (s .fills .ensures) (not-false _ (k .before .if3 .left)) (z .least-size .ensures) (k .needed-words .ensures) (t .before .if4 .left) (t .short-room .ensures) (u .before .if5 .left) (u .first-bad-word .ensures) (w .before .before .if6 .left) (w .first-bad-word2 .ensures) (c .before .before .if7 .left) (not-true _ (c .if8 .taken))
 
 lowest-row-requires : tie.Need-lowest-row-requires
 lowest-row-requires c κs =
     let u = c .before .before .before .before .before .before in
-    (omega arith, record { below = canonical-below _ (sym (u .canonical-words .ensures) ∙ not-false _ (c .before .before .before .before .before .if6 .left)) })
+    (omega arith, record { below = canonical-below _ (none-found _ (u .first-bad-word .ensures) (c .before .before .before .before .before .if6 .left)) })
 
 returns-9 : tie.Need-returns-9
 returns-9 c =
     let l = c .before in let v = l .before in let w = v .before .before .before in let u = w .before .before .before in let t = u .before .before in let k = t .before .before in let s = k .before .before in let z = s .before in
-    refuse-7 _ _ (z .before .before .if1 .left) (z .before .if2 .left) (s .fills .ensures) (not-false _ (k .before .if3 .left)) (z .least-size .ensures) (k .needed-words .ensures) (t .before .if4 .left) (t .short-room .ensures) (u .before .if5 .left) (u .canonical-words .ensures) (not-false _ (w .before .before .if6 .left)) (w .canonical-words2 .ensures) (not-false _ (v .before .before .if7 .left)) (not-false _ (v .if8 .left)) (l .lowest-row .ensures) (c .if9 .taken)
+    refuse-7 _ _ (z .before .before .if1 .left) (z .before .if2 .left) (s .fills .ensures) (not-false _ (k .before .if3 .left)) (z .least-size .ensures) (k .needed-words .ensures) (t .before .if4 .left) (t .short-room .ensures) (u .before .if5 .left) (u .first-bad-word .ensures) (w .before .before .if6 .left) (w .first-bad-word2 .ensures) (v .before .before .if7 .left) (not-false _ (v .if8 .left)) (l .lowest-row .ensures) (c .if9 .taken)
 
 returns-10 : tie.Need-returns-10
 returns-10 c =
     let l = c .before in let v = l .before in let w = v .before .before .before in let u = w .before .before .before in let t = u .before .before in let k = t .before .before in let s = k .before .before in let z = s .before in
-    live-passes _ _ (z .before .before .if1 .left) (z .before .if2 .left) (s .fills .ensures) (not-false _ (k .before .if3 .left)) (z .least-size .ensures) (k .needed-words .ensures) (t .before .if4 .left) (t .short-room .ensures) (u .before .if5 .left) (u .canonical-words .ensures) (not-false _ (w .before .before .if6 .left)) (w .canonical-words2 .ensures) (not-false _ (v .before .before .if7 .left)) (not-false _ (v .if8 .left)) (l .lowest-row .ensures) (c .if9 .left)
+    live-passes _ _ (z .before .before .if1 .left) (z .before .if2 .left) (s .fills .ensures) (not-false _ (k .before .if3 .left)) (z .least-size .ensures) (k .needed-words .ensures) (t .before .if4 .left) (t .short-room .ensures) (u .before .if5 .left) (u .first-bad-word .ensures) (w .before .before .if6 .left) (w .first-bad-word2 .ensures) (v .before .before .if7 .left) (not-false _ (v .if8 .left)) (l .lowest-row .ensures) (c .if9 .left)
 
 pub first-refusal-spec : {M : Type 1} → statement M
 first-refusal-spec =
@@ -95,10 +95,10 @@ first-refusal-spec =
     returns-4
     short-room-requires
     returns-5
-    canonical-words-requires
+    first-bad-word-requires
     returns-6
-    slice-aggregate-canonical-words
-    canonical-words-requires-2
+    slice-aggregate-first-bad-word
+    first-bad-word-requires-2
     returns-7
     returns-8
     lowest-row-requires

@@ -11,7 +11,7 @@ use Rattle.stored_sheet.proofs.check_rows.Tie as tie
 use Rattle.stored_sheet.proofs.check_rows.Reads as reads
 use Rattle.stored_sheet.proofs.check_rows.Lts as lts
 use Rattle.stored_sheet.proofs.zero_or_power.Reads as zero-or-power-reads
-use Rattle.wire.proofs.canonical_words.Reads as canonical-words-reads
+use Rattle.wire.proofs.first_bad_word.Reads as first-bad-word-reads
 
 -- src/lib.rt:92:9
 returns : tie.Need-returns
@@ -42,16 +42,16 @@ returns-4 : tie.Need-returns-4
 returns-4 c = no-room (c .before .before .before .before .before .before .args .rows .now) (c .before .before .before .before .before .before .args .room) (omega arith) (c .before .before .before .if2 .left) (c .before .before .zero-or-power .result) (c .before .before .zero-or-power .ensures) (not-false (c .before .before .zero-or-power .result) (c .before .if3 .left)) (c .if4 .taken)
 
 -- src/lib.rt:105:9
-canonical-words-requires : tie.Need-canonical-words-requires
-canonical-words-requires c κs = search needs
+first-bad-word-requires : tie.Need-first-bad-word-requires
+first-bad-word-requires c κs = search needs
 
 -- src/lib.rt:106:9
 returns-5 : tie.Need-returns-5
-returns-5 c = bad-word (c .before .before .before .before .before .before .before .before .args .rows .now) (c .before .before .before .before .before .before .before .before .args .room) (omega arith) (c .before .before .before .before .before .if2 .left) (c .before .before .before .before .zero-or-power .result) (c .before .before .before .before .zero-or-power .ensures) (not-false (c .before .before .before .before .zero-or-power .result) (c .before .before .before .if3 .left)) (c .before .before .if4 .left) (c .before .canonical-words .result) (c .before .canonical-words .ensures) (not-true (c .before .canonical-words .result) (c .if5 .taken))
+returns-5 c = bad-word (c .before .before .before .before .before .before .before .before .args .rows .now) (c .before .before .before .before .before .before .before .before .args .room) (omega arith) (c .before .before .before .before .before .if2 .left) (c .before .before .before .before .zero-or-power .result) (c .before .before .before .before .zero-or-power .ensures) (not-false (c .before .before .before .before .zero-or-power .result) (c .before .before .before .if3 .left)) (c .before .before .if4 .left) (c .before .first-bad-word .result) (c .before .first-bad-word .ensures) (c .if5 .taken)
 
 -- src/lib.rt:88:1
 returns-6 : tie.Need-returns-6
-returns-6 c = write-all (c .before .before .before .before .before .before .before .before .args .rows .now) (c .before .before .before .before .before .before .before .before .args .room) (omega arith) (c .before .before .before .before .before .if2 .left) (c .before .before .before .before .zero-or-power .result) (c .before .before .before .before .zero-or-power .ensures) (not-false (c .before .before .before .before .zero-or-power .result) (c .before .before .before .if3 .left)) (c .before .before .if4 .left) (c .before .canonical-words .result) (c .before .canonical-words .ensures) (not-false (c .before .canonical-words .result) (c .if5 .left))
+returns-6 c = write-all (c .before .before .before .before .before .before .before .before .args .rows .now) (c .before .before .before .before .before .before .before .before .args .room) (omega arith) (c .before .before .before .before .before .if2 .left) (c .before .before .before .before .zero-or-power .result) (c .before .before .before .before .zero-or-power .ensures) (not-false (c .before .before .before .before .zero-or-power .result) (c .before .before .before .if3 .left)) (c .before .before .if4 .left) (c .before .first-bad-word .result) (c .before .first-bad-word .ensures) (c .if5 .left)
 
 pub check-rows-spec : {M : Type 1} → statement M
 check-rows-spec =
@@ -64,6 +64,6 @@ check-rows-spec =
     mul-bytes
     add-bytes
     returns-4
-    canonical-words-requires
+    first-bad-word-requires
     returns-5
     returns-6)

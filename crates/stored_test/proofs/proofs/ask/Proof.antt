@@ -8,7 +8,7 @@ use Rattle.stored_test.proofs.proofs.ask.Statement.{statement}
 use Rattle.stored_test.proofs.proofs.ask.Tie as tie
 use Rattle.stored_test.proofs.proofs.ask.Reads as reads
 use Rattle.stored_test.proofs.proofs.ask.Lts as lts
-use Rattle.stored.proofs.canonical_proof.Reads as canonical-proof-reads
+use Rattle.stored.proofs.word_count.Reads as word-count-reads
 use Rattle.stored.proofs.first_bad_in_proof.Reads as first-bad-in-proof-reads
 use Rattle.stored.proofs.read_shape.Reads as read-shape-reads
 use Rattle.stored_test.proofs.number_of.Reads as number-of-reads
@@ -39,8 +39,8 @@ first-bad-in-proof-requires c κs = good-shape (c .before .before .before .befor
 number-requires-5 : tie.Need-number-requires-5
 number-requires-5 c κs = search needs
 
-canonical-proof-requires : tie.Need-canonical-proof-requires
-canonical-proof-requires c κs = good-shape (c .before .before .before .before .before .before .before .before .before .before .before .args .proof .now) (c .before .before .before .before .before .before .before .o .given .0 .0) (sym (c .before .before .before .before .before .before .before .o .given .1) ∙ c .before .before .before .before .before .before .before .before .before .read-shape .ensures)
+word-count-requires : tie.Need-word-count-requires
+word-count-requires c κs = good-shape (c .before .before .before .before .before .before .before .before .before .before .before .args .proof .now) (c .before .before .before .before .before .before .before .o .given .0 .0) (sym (c .before .before .before .before .before .before .before .o .given .1) ∙ c .before .before .before .before .before .before .before .before .before .read-shape .ensures)
 
 number-requires-6 : tie.Need-number-requires-6
 number-requires-6 c κs = search needs
@@ -78,7 +78,7 @@ ask-spec =
     number-requires-4
     first-bad-in-proof-requires
     number-requires-5
-    canonical-proof-requires
+    word-count-requires
     number-requires-6
     elements-requires
     enum-known-r

@@ -1,0 +1,2 @@
+-- What the words of a refusal name.
+pub mod Places
