@@ -19,9 +19,8 @@ def prover(make):
         if n < 4 or live == asserted:
             sheet = words_of(make.rows(n, "pairs")) if n else []
             yield case(f"honest, n = {n}, {name}", sheet, [], live, asserted, filler=TOP - n)
-        if 0 < n < 4:
+        if 0 < n < 3:
             yield case(f"random sheet, n = {n}, {name}", words_of(make.rows(n, "random")), [], live, asserted, by=(1, 1, 1, 1))
-    yield case("honest, n = 10, live, asserted", words_of(make.rows(10, "small")), [], 1, 1)
     for live, asserted in MODES:
         name = MODES[live, asserted]
         yield case(f"K2, {name}", rows((1, 2), (-1, 2)), [], live, asserted)

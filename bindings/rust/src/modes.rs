@@ -74,8 +74,16 @@ pub(crate) fn verifying<T>(mode: Mode, challenges: Challenges<'_, T>) -> u32 {
 
 /// The word of the prover's modes.
 pub(crate) fn proving<T>(mode: Mode, sum: Sum, challenges: Challenges<'_, T>) -> u32 {
-    let assert_zero = if sum == Sum::AssertZero { ASSERT_ZERO } else { 0 };
-    verifying(mode, challenges) | assert_zero
+    verifying(mode, challenges) | summing(sum)
+}
+
+/// What of it the room for the log looks at.
+pub(crate) fn summing(sum: Sum) -> u32 {
+    if sum == Sum::AssertZero {
+        ASSERT_ZERO
+    } else {
+        0
+    }
 }
 
 #[cfg(test)]

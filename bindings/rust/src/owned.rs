@@ -47,12 +47,7 @@ pub fn read_sheet(sheet: &[u8]) -> Result<Vec<Fraction>, Refusal> {
 }
 
 /// A proof of the rows. A sum whose q is zero is proved too, and says nothing about the rows: look at [`Proved::sum`].
-pub fn prove<'a>(
-    rows: &[Fraction],
-    mode: Mode,
-    sum: Sum,
-    challenges: impl Into<Challenges<'a, Element>>,
-) -> Result<Proved, Refusal> {
+pub fn prove<'a>(rows: &[Fraction], mode: Mode, sum: Sum, challenges: impl Into<Challenges<'a, Element>>) -> Result<Proved, Refusal> {
     let n = rooms::rounds(rows.len());
     let mut proof = vec![0; rooms::proof_bytes(n)];
     let mut point = vec![0; rooms::point_words(n)];
@@ -70,12 +65,7 @@ pub fn prove<'a>(
 /// The sheet is not seen: compare the claims with its own values at the point. Of a proof that [`prove`] made with
 /// [`Sum::AssertZero`] and the same challenges, or with both drawn, it is proved that it is accepted, that they are these values, and that point and log are the
 /// prover's; in [`Mode::Live`] where no row has q zero, and so where it was proved in that mode.
-pub fn verify<'a>(
-    proof: &[u8],
-    rounds: usize,
-    mode: Mode,
-    challenges: impl Into<Challenges<'a, Element>>,
-) -> Result<Accepted, Refusal> {
+pub fn verify<'a>(proof: &[u8], rounds: usize, mode: Mode, challenges: impl Into<Challenges<'a, Element>>) -> Result<Accepted, Refusal> {
     let mut point = vec![0; rooms::point_words(rounds)];
     let mut log = vec![0; rooms::log_words(rounds, Sum::AssertZero)];
     let words = words(challenges.into());

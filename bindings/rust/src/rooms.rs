@@ -1,7 +1,7 @@
 //! How much room a run asks for. More than 10 rounds have room 0; the calls refuse them by number.
 use crate::{
     ffi,
-    modes::{self, Mode, Sum},
+    modes::{self, Sum},
 };
 
 /// The rounds of so many rows: 0 for none and for one, 11 for a number of rows that is refused.
@@ -21,7 +21,7 @@ pub fn point_words(rounds: usize) -> usize {
 
 /// The words of the log; the verifier's is that of an asserted zero sum.
 pub fn log_words(rounds: usize, sum: Sum) -> usize {
-    unsafe { ffi::accudrina_log_words(rounds, modes::word(Mode::Sandbox, sum)) }
+    unsafe { ffi::accudrina_log_words(rounds, modes::summing(sum)) }
 }
 
 /// The words of the prover's workspace.

@@ -1,5 +1,7 @@
 //! The Rust's recorded answers (oracle/README.md), through the exported functions: every number, field and word of every buffer.
-use accudrina::{evaluate_words, prove_into, read_sheet_into, verify_into, Claims, Done, Element, Evaluated, Mode, Refusal, Rooms, Sum};
+use accudrina::{
+    evaluate_words, prove_into, read_sheet_into, verify_into, Challenges, Claims, Done, Element, Evaluated, Mode, Refusal, Rooms, Sum,
+};
 use std::{fs, path::PathBuf};
 
 /// The numbers of a line, taken from the front.
@@ -53,26 +55,39 @@ fn listed(words: &[u32]) -> Vec<u32> {
     [&[words.len() as u32], words].concat()
 }
 
+/// The modes of a case: 1 where live, 4 where challenges are drawn.
+fn modes(word: u64) -> (Mode, bool) {
+    (if word & 1 == 1 { Mode::Live } else { Mode::Sandbox }, word & 4 == 4)
+}
+
+fn source(drawn: bool, lent: &[u32]) -> Challenges<'_, u32> {
+    if drawn {
+        Challenges::Drawn
+    } else {
+        Challenges::Supplied(lent)
+    }
+}
+
 fn prover(case: &mut Line<'_>) -> Vec<u32> {
-    let mode = if case.number() == 1 { Mode::Live } else { Mode::Sandbox };
+    let (mode, drawn) = modes(case.number());
     let sum = if case.number() == 1 { Sum::AssertZero } else { Sum::Observe };
     let (rows, challenges) = (case.words(), case.words());
     let [proof, mut point, mut log, mut work] = case.buffers();
     let mut proof: Vec<u8> = proof.iter().map(|&b| b as u8).collect();
     let rooms = Rooms { proof: &mut proof, point: &mut point, log: &mut log, work: &mut work };
     let done = |d: Done| told(0, [d.rounds as u32, 0, 0], d.sum.p, d.sum.q);
-    let answer = prove_into(&rows, mode, sum, &challenges, rooms).map_or_else(refused, done);
+    let answer = prove_into(&rows, mode, sum, source(drawn, &challenges), rooms).map_or_else(refused, done);
     let proof: Vec<u32> = proof.into_iter().map(u32::from).collect();
     [answer.to_vec(), listed(&proof), listed(&point), listed(&log), listed(&work)].concat()
 }
 
 fn verifier(case: &mut Line<'_>) -> Vec<u32> {
     let rounds = case.number() as usize;
-    let mode = if case.number() == 1 { Mode::Live } else { Mode::Sandbox };
+    let (mode, drawn) = modes(case.number());
     let (proof, challenges) = (case.bytes(), case.words());
     let [mut point, mut log] = case.buffers();
     let accepted = |c: Claims| told(0, [0; 3], c.numer, c.denom);
-    let answer = verify_into(&proof, rounds, mode, &challenges, &mut point, &mut log).map_or_else(refused, accepted);
+    let answer = verify_into(&proof, rounds, mode, source(drawn, &challenges), &mut point, &mut log).map_or_else(refused, accepted);
     [answer.to_vec(), listed(&point), listed(&log)].concat()
 }
 

@@ -16,6 +16,7 @@ pub enum Awaits {
     Name(Name),
 }
 
+// What the options that are modes set.
 pub struct Flags {
     pub live: bool,
     pub asserted: bool,
@@ -172,7 +173,7 @@ fn fit(o: Options, n: usize) -> bool
     both(is_whole(o), has_one_source(o, n))
 }
 
-// Whether the options are those of `prove`: all known, challenges not both drawn and named, and no sheet beside the one that is proved, of n arguments.
+// Whether the options are those of `prove`: all known, challenges not both drawn and named, no sheet beside the one that is proved, of n arguments.
 pub fn fit_prove(o: Options, n: usize) -> bool
     ensures { λ r. ⌜ r ≡ ((whole o && oneSource o n) && eqb (o .names .sheet) n) ⌝ }
 {
