@@ -90,7 +90,7 @@ module _ (a : Asked) (some : a .rounds ≡ 0 → ⊥) where
   fronts-alike e e′ passed = refl
   fronts-alike e e′ (refused r) = refl
 
-  all-alike : (b : Lent) (e e′ : Bool) → verified (emptied-mode e a) b ≡ verified (emptied-mode e′ a) b
+  pub all-alike : (b : Lent) (e e′ : Bool) → verified (emptied-mode e a) b ≡ verified (emptied-mode e′ a) b
   unfolding verified
   all-alike b e e′ =
       ap (λ t. laid (fronts (emptied-mode e a) t) b) (first-alike (length (b .point)) (length (b .log)) e e′)

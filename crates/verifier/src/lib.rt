@@ -5,13 +5,11 @@ ghost use mathlib.Core.List.{_++_};
 ghost use Prim.Native.Nat.{_≤_};
 ghost use lib.Dec.{eqb};
 ghost use lib.ListN.{length, take, drop};
-ghost use Rattle.refusal.specs.Tests.{firstOf};
 ghost use Rattle.stored.specs.ParseLaws.{Shaped};
 ghost use Rattle.transcript.specs.Source.{source};
 ghost use Rattle.verifier_round.specs.declared.Verdict.the-variants.{Accepted};
-ghost use Rattle.verifier.specs.Verified.{asked, lent, outcome, emptyTests, emptied, verified};
-ghost use Rattle.verifier.specs.Gates.{wordsGate, rootGate, unrooted, sandbox, Gated, Opened, Ready, ReadyEmpty, Starts, Counted, pointLeft, answered};
-use field::Ext;
+ghost use Rattle.verifier.specs.Verified.{asked, lent, outcome, verified};
+ghost use Rattle.verifier.specs.Gates.{wordsGate, rootGate, unrooted, sandbox, Gated, Opened, Ready, Starts, Counted, pointLeft, answered};
 use refusal::Refusal;
 use refusal::Verifying;
 use stored::Outline;
@@ -20,6 +18,8 @@ use transcript::Pos;
 use verifier_round::Advance;
 use verifier_round::Layer;
 use verifier_round::Verdict;
+
+mod empty; // no rounds, where that is valid
 
 // What the checks before the run answer.
 pub enum Gate {
@@ -225,35 +225,6 @@ fn run(
     answer(end)
 }
 
-// No rounds, where that is valid: no layer, no polynomial entry, and q0 is 1. Nothing is observed.
-fn verify_empty(proof: &[u8], outline: Outline) -> Verdict
-    requires { ⌜ ReadyEmpty (now proof) outline ⌝ }
-    ensures { λ r. ⌜ r ≡ emptied (firstOf (emptyTests (now (proof .entry)))) ⌝ }
-{
-    let layers = outline.layers;
-    let entries = outline.entries;
-    if layers != 0 {
-        return Verdict::Refused(Refusal::IncorrectLayerCount {
-            expected: 0,
-            actual: layers,
-        });
-    }
-    if entries != 0 {
-        return Verdict::Refused(Refusal::IncorrectSumcheckPolyCount {
-            expected: 0,
-            actual: entries,
-        });
-    }
-    let q0 = wire::element_at(proof, 5);
-    if !q0.equals(Ext::ONE) {
-        return Verdict::Refused(Refusal::InvalidZeroRoundValue { actual: q0 });
-    }
-    Verdict::Accepted {
-        numer: Ext::ZERO,
-        denom: Ext::ONE,
-    }
-}
-
 // What is not refused before: no rounds, or the run.
 fn verify_admitted(
     proof: &[u8],
@@ -269,7 +240,7 @@ fn verify_admitted(
         ≡ verified (asked (now (proof .entry)) rounds modes (now (challenges .entry))) (lent (now (point .entry)) (now (log .entry))) ⌝ }
 {
     if rounds == 0 {
-        return verify_empty(proof, outline);
+        return empty::verify_empty(proof, outline);
     }
     run(proof, rounds, outline, modes.drawn, challenges, point, log)
 }

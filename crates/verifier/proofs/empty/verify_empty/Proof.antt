@@ -3,8 +3,8 @@ use Rattle.field.specs.Base as B
 use Rattle.field.specs.Ext as E
 use borrow.Author.Needs.{needs}
 use Rattle.verifier.proofs.NoRounds.{layers-there, entries-there, not-one, is-one}
-use Rattle.verifier.proofs.verify_empty.Statement.{statement}
-use Rattle.verifier.proofs.verify_empty.Tie as tie
+use Rattle.verifier.proofs.empty.verify_empty.Statement.{statement}
+use Rattle.verifier.proofs.empty.verify_empty.Tie as tie
 
 returns : tie.Need-returns
 returns c = layers-there (c .before .before .args .proof .now) (c .before .before .args .outline) (c .before .before .pre) (c .if1 .taken)
