@@ -122,5 +122,6 @@ fn main() {
     print_plain();
     print_counts();
     print_elements();
+    command_text::refusals::print_refusal(Refusal::InvalidZeroRoundValue { actual: Ext::ZERO });
     command_text::refusals::print_refusal(Refusal::ZeroRoot);
 }
