@@ -26,6 +26,7 @@ WORDS = {
     17: "RootConsistencyCheckFailed: the denominator of the sum, as stated and as layer 0 has it: expected %s, actual %s",
     18: "IncorrectSubroundCount: the number of sub-rounds in round %s: expected %s, actual %s",
     19: "LayerConsistencyCheckFailed: the claim of round %s, as its layer has it and as its sub-rounds reach it: expected %s, actual %s",
+    22: "InvalidZeroRoundValue: the denominator of the sum of no rows: expected 1, actual %s",
     27: "ZeroRoot: the denominator of the sum is zero, so that the proof says nothing about the rows (live mode)",
 }
 SHEET, PROOF, TEXT = 3 + 32 * m.ROWS, 65536, 262144
@@ -139,8 +140,9 @@ def compare(files, sheet, rounds, point, claims):
         rows = rows_of(files, sheet)
     except Refused as said:
         return str(said)
-    if len(rows) // 8 != 2**rounds:
-        return "refused: the sheet has %d rows, and a proof of %d rounds is about %d" % (len(rows) // 8, rounds, 2**rounds)
+    about = 2**rounds if rounds else 0
+    if len(rows) // 8 != about:
+        return "refused: the sheet has %d rows, and a proof of %d rounds is about %d" % (len(rows) // 8, rounds, about)
     return "claims match the sheet" if m.outcome(70, [rows, point]).elements == claims else "refused: the claims are not the sheet's"
 
 
@@ -150,8 +152,8 @@ def verify(files, proof, rounds, modes, challenges, sheet):
     o = m.outcome(50, [rounds, modes, files[proof], challenges_of(files, modes, challenges), 40, 960, 0])
     if o.no:
         raise Refused(refusal(o))
-    point = " ".join(long(e) for e in m.elements(o.fronts[0]))
-    lines = ["verdict 0", "numer " + long(o.elements[0]), "denom " + long(o.elements[1]), "point " + point]
+    point = "".join(" " + long(e) for e in m.elements(o.fronts[0]))
+    lines = ["verdict 0", "numer " + long(o.elements[0]), "denom " + long(o.elements[1]), "point" + point]
     lines += notes(m.read_proof(files[proof])[0], modes, challenges)
     return lines + ([compare(files, sheet, rounds, o.fronts[0], o.elements)] if sheet else [])
 
@@ -160,7 +162,7 @@ def run(files, line):
     """What a command line of known words prints; `size NAME` tells the bytes of a file."""
     name, *args = line.split(" ")
     challenges, sheet = (args[args.index(option) + 1] if option in args else None for option in ("--challenges", "--sheet"))
-    modes = sum(bit for option, bit in (("--live", m.LIVE), ("--drawn", m.DRAWN)) if option in args)
+    modes = sum(bit for option, bit in (("--live", m.LIVE), ("--drawn", m.DRAWN), ("--empty", m.EMPTY)) if option in args)
     try:
         if name == "size":
             return ["bytes %d" % len(files[args[0]]) if args[0] in files else "no such file"]
