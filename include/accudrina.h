@@ -36,6 +36,7 @@ extern "C" {
 #define ACCUDRINA_LIVE UINT32_C(1)        /* prover: a row with q = 0 is refused as 7; verifier: a proof whose q0 is 0, as 27 */
 #define ACCUDRINA_ASSERT_ZERO UINT32_C(2) /* prover: a sum whose p is not 0 is refused as 8 */
 #define ACCUDRINA_DRAWN UINT32_C(4)       /* both: challenges are drawn from the log, and those lent are not read */
+#define ACCUDRINA_EMPTY UINT32_C(16)      /* verifier: 0 rounds are valid, and not refused as 10 */
 
 /* The results, with the fields of each: plain ones in [1] to [3], elements in [4] to [7] and [8] to [11]. */
 enum accudrina_result {
@@ -49,7 +50,7 @@ enum accudrina_result {
     ACCUDRINA_ZERO_DENOMINATOR = 7,                  /* plain: live mode, the lowest row with q = 0, from 0 */
     ACCUDRINA_NON_ZERO_ROOT_SUM = 8,                 /* a zero sum is asserted, and the sum's p is not 0 */
     ACCUDRINA_SINGLE_ROW = 9,                        /* one row, not refused as 8 */
-    ACCUDRINA_ZERO_ROUNDS = 10,                      /* the verifier was given 0 rounds */
+    ACCUDRINA_ZERO_ROUNDS = 10,                      /* the verifier was given 0 rounds, without ACCUDRINA_EMPTY */
     ACCUDRINA_TOO_MANY_ROUNDS = 11,                  /* more than 10 */
     ACCUDRINA_BAD_VERSION = 12,                      /* no first byte, or not 1 */
     ACCUDRINA_BAD_LENGTH = 13,                       /* a stored length or count disagrees with the bytes, or a point with the rows */
@@ -59,6 +60,7 @@ enum accudrina_result {
     ACCUDRINA_ROOT_CONSISTENCY_CHECK_FAILED = 17,    /* elements: expected, actual */
     ACCUDRINA_INCORRECT_SUBROUND_COUNT = 18,         /* plain: round, expected, actual */
     ACCUDRINA_LAYER_CONSISTENCY_CHECK_FAILED = 19,   /* plain: round; elements: expected, actual */
+    ACCUDRINA_INVALID_ZERO_ROUND_VALUE = 22,         /* elements: 0 rounds, and the q0 that should be 1 */
     ACCUDRINA_ZERO_ROOT = 27,                        /* live verifier: q0 is 0 */
     ACCUDRINA_UNKNOWN_MODE = 28                      /* plain: the bits of the modes that the call does not take */
 };
@@ -114,12 +116,14 @@ uint32_t accudrina_prove(const uint32_t *rows, size_t rows_len,
 /* Verifies a proof that the sum of 2^rounds rows is zero. proof_len is the proof's exact length.
  * Modes. LIVE: a proof whose q0, the sum's denominator, is 0 is refused as 27. Otherwise that is no reason to refuse, and such a proof
  * says nothing about the rows: q0 is the first element, in the proof's bytes 5 to 20. DRAWN: as in the prover.
+ * EMPTY: 0 rounds are valid, for a sheet with no rows: both counts must be 0 and q0 must be 1; accepted, the claims are 0 and 1, and nothing
+ * but `answer` is written. accudrina_prove's 23 bytes for no rows are accepted so, in every other mode and with any challenges (proved).
  * Done, accepted: two claims in [4] to [7] and [8] to [11]; the point and the log stand at the front of their buffers. Of every accepted
  * proof that is all: the sheet was not seen, and the caller compares the claims with the values of its columns p and q at the
  * point, which accudrina_evaluate answers.
  * Of a proof that accudrina_prove wrote with ASSERT_ZERO, given the same challenges or both DRAWN, it is proved that it is accepted, that the claims are
  * these values, and that point and log equal the prover's; LIVE that is so where no row has q = 0, and so where the prover was LIVE too.
- * Refused as the first that fits of 28, 10, 11, 4, 5, 12, 13, 6, 14, 15, 27, then 16 to 19 as the run meets them: the point is as it was;
+ * Refused as the first that fits of 28, 10, 11, 4, 5, 12, 13, 6, 14, 15, 22 (0 rounds), 27, then 16 to 19 as the run meets them: the point is as it was;
  * so is the log, but for 16 to 19, which leave what the run observed and sampled until then. */
 uint32_t accudrina_verify(const uint8_t *proof, size_t proof_len,
                           size_t rounds, uint32_t modes,

@@ -127,7 +127,7 @@ def expected(cases, cross=lambda code, a: True):
             check_refusal(code, a, refused[i], i in said, rust)
             result.append((refused[i], "rust" if code == 40 and refused[i].no == 8 else "model"))
             continue
-        if code == 70:
+        if code == 70 or none_verified(code, a):
             result.append((m.run(code, a), "model"))
             continue
         if rust is None:
@@ -138,12 +138,17 @@ def expected(cases, cross=lambda code, a: True):
     return result
 
 
+def none_verified(code, a):
+    """The Rust panics at 0 rounds."""
+    return code == 50 and a[0] == 0
+
+
 def comparable(code, a, refused):
     """Whether the Rust can be asked: a run, a refusal that is the Rust's too, one where it panics, or our proof reader's."""
     if code in (60, 70):
         return False
     if refused is None:
-        return True
+        return not none_verified(code, a)
     if code == 40:
         return refused.no in (3, 8, 9)
     return code == 50 and refused.no in (6, 12, 13, 27)

@@ -25,6 +25,7 @@ WORDS = {
     17: "RootConsistencyCheckFailed: the denominator of the sum, as stated and as layer 0 has it: expected %s, actual %s",
     18: "IncorrectSubroundCount: the number of sub-rounds in round %s: expected %s, actual %s",
     19: "LayerConsistencyCheckFailed: the claim of round %s, as its layer has it and as its sub-rounds reach it: expected %s, actual %s",
+    22: "InvalidZeroRoundValue: the denominator of the sum of no rows: expected 1, actual %s",
     27: "ZeroRoot: the denominator of the sum is zero, so that the proof says nothing about the rows (live mode)",
 }
 SHEET, PROOF, TEXT = 3 + 32 * m.ROWS, 65536, 262144
@@ -158,8 +159,9 @@ def compare(files, sheet, rounds, point, claims):
         rows = rows_of(files, sheet)
     except Refused as said:
         return str(said)
-    if len(rows) // 8 != 2**rounds:
-        return "refused: the sheet has %d rows, and a proof of %d rounds is about %d" % (len(rows) // 8, rounds, 2**rounds)
+    about = 2**rounds if rounds else 0
+    if len(rows) // 8 != about:
+        return "refused: the sheet has %d rows, and a proof of %d rounds is about %d" % (len(rows) // 8, rounds, about)
     return "claims match the sheet" if m.outcome(70, [rows, point]).elements == claims else "refused: the claims are not the sheet's"
 
 
@@ -170,8 +172,8 @@ def verify(files, proof, rounds, modes, challenges, sheet):
     if o.no:
         read = m.read_proof(files[proof])
         raise Refused(refusal(o, None if isinstance(read, int) else (len(read[1]), [len(entry) for entry in read[2]])))
-    point = " ".join(long(e) for e in m.elements(o.fronts[0]))
-    lines = ["verdict 0", "numer " + long(o.elements[0]), "denom " + long(o.elements[1]), "point " + point]
+    point = "".join(" " + long(e) for e in m.elements(o.fronts[0]))
+    lines = ["verdict 0", "numer " + long(o.elements[0]), "denom " + long(o.elements[1]), "point" + point]
     lines += notes(m.read_proof(files[proof])[0], modes, challenges)
     return lines + ([compare(files, sheet, rounds, o.fronts[0], o.elements)] if sheet else [])
 
@@ -180,7 +182,7 @@ def run(files, line):
     """What a command line of known words prints; `size NAME` tells the bytes of a file."""
     name, *args = line.split(" ")
     challenges, sheet = (args[args.index(option) + 1] if option in args else None for option in ("--challenges", "--sheet"))
-    modes = sum(bit for option, bit in (("--live", m.LIVE), ("--drawn", m.DRAWN)) if option in args)
+    modes = sum(bit for option, bit in (("--live", m.LIVE), ("--drawn", m.DRAWN), ("--empty", m.EMPTY)) if option in args)
     try:
         if name == "size":
             return ["bytes %d" % len(files[args[0]]) if args[0] in files else "no such file"]

@@ -9,7 +9,7 @@ TOP = (1 << 32) - 1
 EDGE = [0, 1, 2, P - 1]
 BAD = [P, P + 1, 1 << 31, TOP]
 # The longest lists and buffers of a case, by its arguments, for programs that read them into arrays (lists of poly: 8,200).
-LARGEST = {40: (5, 1, 16400, 320, 2900, 48, 1000, 32800), 50: ((1 << 64) - 1, 5, 16400, 320, 48, 1000), 60: (65600, 16400), 70: (16400, 48)}
+LARGEST = {40: (5, 1, 16400, 320, 2900, 48, 1000, 32800), 50: ((1 << 64) - 1, 21, 16400, 320, 48, 1000), 60: (65600, 16400), 70: (16400, 48)}
 
 
 def within(code, a):

@@ -10,7 +10,7 @@ from hashlib import shake_128
 P = 2013265921
 ROWS, ROUNDS = 1024, 10
 SAMPLED = 1 << 31
-LIVE, DRAWN = 1, 4
+LIVE, DRAWN, EMPTY = 1, 4, 16
 ROW_WORDS, PROOF_WORDS, CHALLENGE_WORDS, POINT_WORDS = 1, 2, 3, 4
 LABEL = b"frac-gkr/1"
 HALF, SIXTH = 1006632961, 1677721601
@@ -229,6 +229,8 @@ def root_checks(q0, p, q):
 
 def verify_gkr(proof, n, source):
     """Outcome 0 or 14 to 19; fronts: point, log."""
+    if n == 0:
+        return Outcome(0, [], [ZERO, ONE], [[], []])
     q0, layers, polys = proof
     if len(layers) != n:
         return Outcome(14, [n, len(layers)])
@@ -399,7 +401,7 @@ def prove_refusal(modes, asserted, rows, challenges, proof, point, log, work):
 
 
 def verify_refusal(n, modes, proof, challenges, point, log):
-    no = first((10, lambda: n == 0), (11, lambda: n > ROUNDS), (4, lambda: len(challenges) < needed(modes, n)),
+    no = first((10, lambda: n == 0 and not modes & EMPTY), (11, lambda: n > ROUNDS), (4, lambda: len(challenges) < needed(modes, n)),
                (5, lambda: point < 4 * n or log < log_words(n)))
     if no:
         return Outcome(no)
@@ -411,8 +413,19 @@ def verify_refusal(n, modes, proof, challenges, point, log):
     six = bad_word((PROOF_WORDS, words), (CHALLENGE_WORDS, challenges[:needed(modes, n)]))
     if six:
         return six
+    if n == 0:
+        return empty_refusal(q0, layers, polys)
     counted = len(layers) == n and len(polys) == n - 1
     return Outcome(27) if modes & LIVE and counted and q0 == ZERO else None
+
+
+def empty_refusal(q0, layers, polys):
+    """0 rounds, where they are valid."""
+    if layers:
+        return Outcome(14, [0, len(layers)])
+    if polys:
+        return Outcome(15, [0, len(polys)])
+    return Outcome(22, elements=[q0]) if q0 != ONE else None
 
 
 def read_sheet(data, room):

@@ -1,7 +1,7 @@
 //! The calls over lent buffers, as C has them. They ask nothing of a slice: any content and any length gets an answer.
 use crate::{
     ffi,
-    modes::{self, Challenges, Mode, Sum},
+    modes::{self, Challenges, Mode, Sum, Verifying},
     Element, Fraction, Refusal,
 };
 
@@ -91,13 +91,13 @@ pub fn prove_into<'a>(
 pub fn verify_into<'a>(
     proof: &[u8],
     rounds: usize,
-    mode: Mode,
+    how: impl Into<Verifying>,
     challenges: impl Into<Challenges<'a, u32>>,
     point: &mut [u32],
     log: &mut [u32],
 ) -> Result<Claims, Refusal> {
     let challenges = challenges.into();
-    let modes = modes::verifying(mode, challenges);
+    let modes = modes::verifying(how.into(), challenges);
     let lent = challenges.lent();
     let mut answer = [0; 16];
     // Safe: as in `read_sheet_into`.

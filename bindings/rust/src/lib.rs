@@ -18,6 +18,6 @@ pub mod rooms;
 
 pub use element::{elements_of, row_words, words_of, Element, Fraction, PRIME};
 pub use lent::{evaluate_words, prove_into, read_sheet_into, verify_into, Claims, Done, Evaluated, Rooms};
-pub use modes::{Challenges, Mode, Sum};
+pub use modes::{Challenges, Mode, Sum, Verifying};
 pub use owned::{evaluate, prove, read_sheet, verify, Accepted, Proved};
 pub use refusal::{Refusal, Words};

@@ -9,6 +9,27 @@ pub enum Mode {
     Live,
 }
 
+impl Mode {
+    /// The same for a verifier to which 0 rounds are valid too: the proof of a sheet with no rows.
+    pub fn or_empty(self) -> Verifying {
+        Verifying { mode: self, empty: true }
+    }
+}
+
+/// How a proof is verified. A [`Mode`] alone is taken for one in which 0 rounds are refused.
+#[derive(Clone, Copy, Debug, PartialEq, Eq)]
+pub struct Verifying {
+    pub mode: Mode,
+    /// Whether 0 rounds are valid.
+    pub empty: bool,
+}
+
+impl From<Mode> for Verifying {
+    fn from(mode: Mode) -> Self {
+        Verifying { mode, empty: false }
+    }
+}
+
 /// What is said of the sum.
 #[derive(Clone, Copy, Debug, PartialEq, Eq)]
 pub enum Sum {
@@ -65,16 +86,18 @@ impl<'a, T> Challenges<'a, T> {
 const LIVE: u32 = 1;
 const ASSERT_ZERO: u32 = 2;
 const DRAWN: u32 = 4;
+const EMPTY: u32 = 16;
 
 /// The word of the verifier's modes.
-pub(crate) fn verifying<T>(mode: Mode, challenges: Challenges<'_, T>) -> u32 {
-    let live = if mode == Mode::Live { LIVE } else { 0 };
-    live | challenges.bit()
+pub(crate) fn verifying<T>(how: Verifying, challenges: Challenges<'_, T>) -> u32 {
+    let live = if how.mode == Mode::Live { LIVE } else { 0 };
+    let empty = if how.empty { EMPTY } else { 0 };
+    live | empty | challenges.bit()
 }
 
 /// The word of the prover's modes.
 pub(crate) fn proving<T>(mode: Mode, sum: Sum, challenges: Challenges<'_, T>) -> u32 {
-    verifying(mode, challenges) | summing(sum)
+    verifying(mode.into(), challenges) | summing(sum)
 }
 
 /// What of it the room for the log looks at.
@@ -91,7 +114,7 @@ mod tests {
     use super::*;
     use crate::{ffi, Refusal};
 
-    const UNKNOWN: [u32; 9] = [8, 16, 32, 64, 1 << 30, 1 << 31, 9, 12, u32::MAX];
+    const UNKNOWN: [u32; 10] = [8, 24, 32, 48, 64, 1 << 30, 1 << 31, 9, 12, u32::MAX];
 
     /// The call's number and answer over four marked buffers, which are as before; the answer was marked too.
     fn prove(rows: &[u32], modes: u32) -> (u32, ffi::Answer) {
@@ -155,7 +178,7 @@ mod tests {
     #[test]
     fn unknown_bits_are_refused_first_of_all() {
         let zero_sum = [1, 0, 0, 0, 2, 0, 0, 0, crate::PRIME - 1, 0, 0, 0, 2, 0, 0, 0];
-        for modes in UNKNOWN {
+        for modes in [16, 17].into_iter().chain(UNKNOWN) {
             for rows in [&zero_sum[..], &zero_sum[..7], &[]] {
                 assert_eq!(prove(rows, modes), told(modes & !7));
             }
@@ -164,20 +187,20 @@ mod tests {
     }
 
     #[test]
-    fn the_verifier_takes_two_bits() {
+    fn the_verifier_takes_three_bits() {
         let half = |p| crate::Fraction::new(crate::Element::new(p), crate::Element::new(2));
         let rows = [half(1), half(crate::PRIME - 1)];
         let proof = crate::prove(&rows, Mode::Live, Sum::AssertZero, &[crate::Element::new(5)]).unwrap().proof;
-        for modes in [2, 3, 6, 7].into_iter().chain(UNKNOWN) {
+        for modes in [2, 3, 6, 7, 18].into_iter().chain(UNKNOWN) {
             for (bytes, rounds) in [(&proof[..], 1), (&[], 1), (&proof[..], 0), (&proof[..], 11)] {
-                assert_eq!(verify(bytes, rounds, modes), told(modes & !5));
+                assert_eq!(verify(bytes, rounds, modes), told(modes & !21));
             }
         }
         // With one round nothing is asked of mu: accepted whatever it is.
-        assert_eq!([0, 1, 4, 5].map(|modes| verify(&proof, 1, modes).0), [0; 4]);
+        assert_eq!([0, 1, 4, 5, 16, 17, 20, 21].map(|modes| verify(&proof, 1, modes).0), [0; 8]);
         let mut over_zero = proof;
         over_zero[5..21].fill(0);
-        assert_eq!([0, 1, 4, 5].map(|modes| verify(&over_zero, 1, modes).0), [17, 27, 17, 27]);
+        assert_eq!([0, 1, 4, 5, 16, 21].map(|modes| verify(&over_zero, 1, modes).0), [17, 27, 17, 27, 17, 27]);
     }
 
     #[test]

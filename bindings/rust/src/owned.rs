@@ -2,7 +2,7 @@
 use crate::{
     element::{elements_of, row_words, words_of},
     lent::{evaluate_words, prove_into, read_sheet_into, verify_into, Claims, Rooms},
-    modes::{Challenges, Mode, Sum},
+    modes::{Challenges, Mode, Sum, Verifying},
     rooms, Element, Fraction, Refusal,
 };
 
@@ -60,16 +60,22 @@ pub fn prove<'a>(rows: &[Fraction], mode: Mode, sum: Sum, challenges: impl Into<
 }
 
 /// The claims of a proof of so many rounds, if it is accepted. The proof's exact bytes are asked for. In [`Mode::Live`] a sum whose q is zero
-/// is refused; in [`Mode::Sandbox`] it is accepted, and says nothing about the rows.
+/// is refused; in [`Mode::Sandbox`] it is accepted, and says nothing about the rows. The proof of a sheet with no rows, of 0 rounds, is accepted with
+/// [`Mode::or_empty`] alone.
 ///
 /// The sheet is not seen: compare the claims with its own values at the point. Of a proof that [`prove`] made with
 /// [`Sum::AssertZero`] and the same challenges, or with both drawn, it is proved that it is accepted, that they are these values, and that point and log are the
 /// prover's; in [`Mode::Live`] where no row has q zero, and so where it was proved in that mode.
-pub fn verify<'a>(proof: &[u8], rounds: usize, mode: Mode, challenges: impl Into<Challenges<'a, Element>>) -> Result<Accepted, Refusal> {
+pub fn verify<'a>(
+    proof: &[u8],
+    rounds: usize,
+    how: impl Into<Verifying>,
+    challenges: impl Into<Challenges<'a, Element>>,
+) -> Result<Accepted, Refusal> {
     let mut point = vec![0; rooms::point_words(rounds)];
     let mut log = vec![0; rooms::log_words(rounds, Sum::AssertZero)];
     let words = words(challenges.into());
-    let claims = verify_into(proof, rounds, mode, again(&words), &mut point, &mut log)?;
+    let claims = verify_into(proof, rounds, how, again(&words), &mut point, &mut log)?;
     Ok(Accepted { claims, point: elements_of(&point), log })
 }
 

@@ -37,7 +37,7 @@ pub enum Refusal {
     NonZeroRootSum,
     /// 9: one row.
     SingleRow,
-    /// 10: the verifier was asked for no rounds.
+    /// 10: the verifier was asked for no rounds, and not with [`crate::Mode::or_empty`].
     ZeroRounds,
     /// 11: more than 10 rounds.
     TooManyRounds,
@@ -57,6 +57,8 @@ pub enum Refusal {
     IncorrectSubroundCount { round: u32, expected: u32, actual: u32 },
     /// 19: a layer's claims do not meet its polynomials.
     LayerConsistencyCheckFailed { round: u32, expected: Element, actual: Element },
+    /// 22: no rounds, and the stated denominator is not 1.
+    InvalidZeroRoundValue { actual: Element },
     /// 27: live mode, the sum's q is zero.
     ZeroRoot,
     /// 28: a mode that the call does not take. The calls of this crate pass none such: the archive is older.
@@ -104,6 +106,7 @@ impl Refusal {
             17 => Self::RootConsistencyCheckFailed { expected: left, actual: right },
             18 => Self::IncorrectSubroundCount { round: a, expected: b, actual: c },
             19 => Self::LayerConsistencyCheckFailed { round: a, expected: left, actual: right },
+            22 => Self::InvalidZeroRoundValue { actual: left },
             27 => Self::ZeroRoot,
             28 => Self::UnknownMode { bits: a },
             _ => Self::Unknown { number },
@@ -132,6 +135,7 @@ impl Refusal {
             Self::RootConsistencyCheckFailed { .. } => 17,
             Self::IncorrectSubroundCount { .. } => 18,
             Self::LayerConsistencyCheckFailed { .. } => 19,
+            Self::InvalidZeroRoundValue { .. } => 22,
             Self::ZeroRoot => 27,
             Self::UnknownMode { .. } => 28,
             Self::Unknown { number } => number,

@@ -1,6 +1,7 @@
 //! The Rust's recorded answers (oracle/README.md), through the exported functions: every number, field and word of every buffer.
 use accudrina::{
     evaluate_words, prove_into, read_sheet_into, verify_into, Challenges, Claims, Done, Element, Evaluated, Mode, Refusal, Rooms, Sum,
+    Verifying,
 };
 use std::{fs, path::PathBuf};
 
@@ -41,7 +42,7 @@ fn refused(refusal: Refusal) -> Told {
         Refusal::ZeroDenominator { row } => ([row, 0, 0], zero, zero),
         Refusal::IncorrectLayerCount { expected, actual } => ([expected, actual, 0], zero, zero),
         Refusal::IncorrectSumcheckPolyCount { expected, actual } => ([expected, actual, 0], zero, zero),
-        Refusal::ZeroCheckFailed { actual } => (none, actual, zero),
+        Refusal::ZeroCheckFailed { actual } | Refusal::InvalidZeroRoundValue { actual } => (none, actual, zero),
         Refusal::RootConsistencyCheckFailed { expected, actual } => (none, expected, actual),
         Refusal::IncorrectSubroundCount { round, expected, actual } => ([round, expected, actual], zero, zero),
         Refusal::LayerConsistencyCheckFailed { round, expected, actual } => ([round, 0, 0], expected, actual),
@@ -55,7 +56,7 @@ fn listed(words: &[u32]) -> Vec<u32> {
     [&[words.len() as u32], words].concat()
 }
 
-/// The modes of a case: 1 where live, 4 where challenges are drawn.
+/// The modes of a case: 1 where live, 4 where challenges are drawn; the verifier's 16, where 0 rounds are valid, is looked at beside them.
 fn modes(word: u64) -> (Mode, bool) {
     (if word & 1 == 1 { Mode::Live } else { Mode::Sandbox }, word & 4 == 4)
 }
@@ -83,11 +84,13 @@ fn prover(case: &mut Line<'_>) -> Vec<u32> {
 
 fn verifier(case: &mut Line<'_>) -> Vec<u32> {
     let rounds = case.number() as usize;
-    let (mode, drawn) = modes(case.number());
+    let word = case.number();
+    let (mode, drawn) = modes(word);
+    let how = Verifying { mode, empty: word & 16 == 16 };
     let (proof, challenges) = (case.bytes(), case.words());
     let [mut point, mut log] = case.buffers();
     let accepted = |c: Claims| told(0, [0; 3], c.numer, c.denom);
-    let answer = verify_into(&proof, rounds, mode, source(drawn, &challenges), &mut point, &mut log).map_or_else(refused, accepted);
+    let answer = verify_into(&proof, rounds, how, source(drawn, &challenges), &mut point, &mut log).map_or_else(refused, accepted);
     [answer.to_vec(), listed(&point), listed(&log)].concat()
 }
 

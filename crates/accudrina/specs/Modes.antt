@@ -18,12 +18,15 @@ ASSERT-ZERO = 2
 abbrev pub DRAWN : ℕ
 DRAWN = 4
 
+abbrev pub EMPTY : ℕ
+EMPTY = 16
+
 -- the bits that the prover takes, and the verifier
 abbrev pub provingBits : List ℕ
 provingBits = LIVE ∷ ASSERT-ZERO ∷ DRAWN ∷ []
 
 abbrev pub verifyingBits : List ℕ
-verifyingBits = LIVE ∷ DRAWN ∷ []
+verifyingBits = LIVE ∷ DRAWN ∷ EMPTY ∷ []
 
 -- whether a bit is set: 1, 2, 4, ..
 unfoldable pub has : (bit modes : ℕ) → Bool
@@ -43,7 +46,7 @@ provingOf modes = record { live = has LIVE modes; «assert_zero» = has ASSERT-Z
 
 -- and of verifying
 abbrev pub verifyingOf : (modes : ℕ) → Verifying
-verifyingOf modes = record { live = has LIVE modes; drawn = has DRAWN modes }
+verifyingOf modes = record { live = has LIVE modes; drawn = has DRAWN modes; empty = has EMPTY modes }
 
 -- 28, of the exported calls alone: the bits that are not taken
 abbrev pub unknownMode : (bits : ℕ) → Report

@@ -16,6 +16,9 @@ pub const ASSERT_ZERO: u32 = 2;
 // Challenges are drawn from the log, and those lent are not read.
 pub const DRAWN: u32 = 4;
 
+// The verifier takes 0 rounds: the proof of a sheet with no rows.
+pub const EMPTY: u32 = 16;
+
 // Whether a bit is set: 1, 2, 4, ..
 pub fn has(modes: u32, bit: u32) -> bool
     requires { ⌜ 1 ≤ bit ⌝ }
@@ -57,7 +60,7 @@ pub fn proving(modes: u32) -> Proving
 pub fn untaken_by_verifier(modes: u32) -> u32
     ensures { λ r. ⌜ r ≡ Modes.untaken Modes.verifyingBits modes ⌝ }
 {
-    without(without(modes, LIVE), DRAWN)
+    without(without(without(modes, LIVE), DRAWN), EMPTY)
 }
 
 // The modes of verifying that a word says.
@@ -67,6 +70,7 @@ pub fn verifying(modes: u32) -> Verifying
     Verifying {
         live: has(modes, LIVE),
         drawn: has(modes, DRAWN),
+        empty: has(modes, EMPTY),
     }
 }
 

@@ -1,11 +1,13 @@
 -- Demand 3, proved: the prover's bytes are read back as the honest proof, which passes the live verifier's root check and which the model's verifier accepts.
 -- Assumes nothing.
 use mathlib.Core.Path.{_≡_, refl, sym, _∙_, ap, ap₂, subst}
-use mathlib.Core.Bool.{Bool, true, false, _&&_, and-eq-true-iff}
+use mathlib.Core.Bool.{Bool, true, false, not, _&&_, and-eq-true-iff}
 use mathlib.Core.List.{List}
 use Prim.Native.Nat.{ℕ, zero, suc, _*_, _^_, _<_, _≤_}
 use native.Mathlib.Omega.{arith}
 use native.Mathlib.Nat.{zero-add}
+use borrow.Author.Tests.{ne-eqb}
+use lib.Dec.{eqb}
 use lib.ListN.{length, take, drop}
 use lib.Seq.{take-at}
 use Rattle.field.specs.Ext as E
@@ -16,6 +18,7 @@ use Rattle.field.specs.ElementLaws.{dec-enc}
 use Rattle.gkr.specs.Run.{Transcript, Frac, Proof}
 use Rattle.gkr.specs.Transcripts.{Words, empty, Source}
 use Rattle.gkr.specs.Sizes.{proof-bytes, log-words}
+use Rattle.gkr.specs.Tests.{fail}
 use Rattle.gkr.specs.Tree as Tree
 use Rattle.gkr.specs.Gkr as Gkr
 use Rattle.gkr.specs.Gkr.{done, accepted}
@@ -41,6 +44,7 @@ use Rattle.prover.specs.declared.Answer.the-variants.{Done}
 use Rattle.verifier.specs.Verified as Verifier
 use Rattle.verifier.specs.Verified.{Lent}
 use Rattle.verifier.proofs.GateLaws.{opens-all}
+use Rattle.verifier.proofs.NoRounds.{all-alike}
 use Rattle.agreement.specs.Demand3.{Taken, root, Room, verdict, Agreed, Demand3}
 use Rattle.agreement.specs.Companions.{OtherSum, ProvedLive}
 use Rattle.stored.specs.ElementLaws.{decoded-encoded, encoded-canonical, root-nil}
@@ -53,9 +57,9 @@ use Rattle.agreement.proofs.Opening.{opens, rounds-taken-are}
 abbrev pub sourceOf : (c : Call) (n : ℕ) → Source E.Ext
 sourceOf c n = Source.source (c .modes .drawn) (take (neededWords (c .modes .drawn) n) (c .challenges))
 
--- a verifier that draws where the prover does
+-- a verifier that draws where the prover does; whether 0 rounds are valid is nothing to it
 abbrev pub like : (c : Call) (live : Bool) → Verifying
-like c live = record { live = live; drawn = c .modes .drawn }
+like c live = record { live = live; drawn = c .modes .drawn; empty = false }
 
 -- The run over a sheet that is taken, zero asserted or not: t is the log before root q.
 module _ (c : Call) (live : Bool) (m : ℕ) (b : Prover.Buffers) (v : Lent) (h : Taken c (suc m)) (r : Room (c .modes .«assert_zero») (suc m) b v) (sound : live ≡ true → Sound (c .rows)) where
@@ -98,12 +102,17 @@ module _ (c : Call) (live : Bool) (m : ℕ) (b : Prover.Buffers) (v : Lent) (h :
     pub back : Answered bytes (encoded (run .proof))
     back = parse-reads bytes (encoded (run .proof)) (write-read (encoded (run .proof)))
 
+    -- there are rounds
+    some : eqb (suc m) 0 ≡ false
+    some = ne-eqb (suc m) 0 (λ z. omega arith)
+
     -- no row is over zero where the verifier is live, and so the root is not
-    root-passes : (x : Bool) → (how .live && (Verifier.counted bytes (suc m) && overZero bytes)) ≡ x → x ≡ false
+    root-passes : (x : Bool) → (how .live && Verifier.rootless bytes (suc m)) ≡ x → x ≡ false
     unfolding Gkr.run
     root-passes true e =
-        let l = and-eq-true-iff (how .live) (Verifier.counted bytes (suc m) && overZero bytes) .0 e in
-        let z = and-eq-true-iff (Verifier.counted bytes (suc m)) (overZero bytes) .0 (l .1) .1 in
+        let l = and-eq-true-iff (how .live) (Verifier.rootless bytes (suc m)) .0 e in
+        let k = and-eq-true-iff (not (eqb (suc m) 0)) (Verifier.counted bytes (suc m) && overZero bytes) .0 (l .1) .1 in
+        let z = and-eq-true-iff (Verifier.counted bytes (suc m)) (overZero bytes) .0 k .1 in
         let q = ap (λ π. decoded π .q0) (back .proof) ∙ dec-enc (root c (suc m) .q) in
         absurd (rows-and-sum (c .rows) (suc m) (counted (c .rows) (suc m) (h .rows)) .0 (sound (l .0)) (sym q ∙ root-nil bytes z))
     root-passes false e = refl
@@ -112,13 +121,14 @@ module _ (c : Call) (live : Bool) (m : ℕ) (b : Prover.Buffers) (v : Lent) (h :
     opened-run =
         let canon = ap (λ π. allCanonical (proofWords π)) (back .proof) ∙ encoded-canonical (run .proof) in
         opens-all (Verifier.asked bytes (suc m) how (c .challenges)) _ _ (back .reads)
-        (record { some = h .some; few = h .few; chals = h .enough; room = r .point-again; log-room = r .log-again; canon = canon; clean = h .valid-challenges }) (root-passes _ refl)
+        (record { some = ap (λ x. x && true) some; few = h .few; chals = h .enough; room = r .point-again; log-room = r .log-again; canon = canon; clean = h .valid-challenges }) (root-passes _ refl)
 
     -- which the verifier reads as that proof
     verified-run : Verifier.verified (Verifier.asked bytes (suc m) how (c .challenges)) v ≡ ended v (Gkr.verify-gkr Extension S (suc m) (run .proof) empty)
     unfolding Verifier.verified
     verified-run =
         ap (λ w. Verifier.laid (Verifier.fronts (Verifier.asked bytes (suc m) how (c .challenges)) w) v) opened-run
+        ∙ ap (λ f. Verifier.laid f v) (fail (eqb (suc m) 0) _ _ some)
         ∙ ap (λ π. ended v (Gkr.verify-gkr Extension S (suc m) (decoded π) empty)) (back .proof)
         ∙ ap (λ π. ended v (Gkr.verify-gkr Extension S (suc m) π empty)) (decoded-encoded (run .proof))
 
@@ -173,14 +183,16 @@ module _ (c : Call) (live : Bool) (m : ℕ) (b : Prover.Buffers) (v : Lent) (h :
 none : (n : ℕ) → n ≡ 0 → 1 ≤ n → ⊥
 none n e h = omega arith
 
-alike : (c : Call) (how : Verifying) → how .drawn ≡ c .modes .drawn → how ≡ like c (how .live)
-alike c how d = λ i. record { live = how .live; drawn = d i }
+pub alike : (c : Call) (how : Verifying) (m : ℕ) (P : Prover.Outcome) (v : Lent) → how .drawn ≡ c .modes .drawn → verdict c how (suc m) P v ≡ verdict c (like c (how .live)) (suc m) P v
+alike c how m P v d =
+    ap (λ x. verdict c (record { live = how .live; drawn = x; empty = how .empty }) (suc m) P v) d
+    ∙ all-alike (Verifier.asked (take (proof-bytes (suc m)) (P .buffers .proof)) (suc m) (like c (how .live)) (c .challenges)) (λ z. omega arith) v (how .empty) false
 
 -- THE THEOREM
 pub demand-3 : Demand3
 demand-3 c how zero b v h d a z r sound = absurd (none 0 refl (h .some))
 demand-3 c how (suc m) b v h d a z r sound =
-    subst (λ w. Agreed c (suc m) b v (Prover.proved c b) (verdict c w (suc m) (Prover.proved c b) v)) (sym (alike c how d)) (agreed c (how .live) m b v h a z r sound)
+    subst (λ Q. Agreed c (suc m) b v (Prover.proved c b) Q) (sym (alike c how m (Prover.proved c b) v d)) (agreed c (how .live) m b v h a z r sound)
 
 -- ANOTHER SUM, NOT ASSERTED
 
@@ -202,7 +214,7 @@ other-sum c how (suc m) b v h d a z r sound =
     ap (λ s. Gkr.fractional-sumcheck Extension (Drawing ch) s m f empty) a in
     let r′ : Room (c .modes .«assert_zero») (suc m) b v = subst (λ s. Room s (suc m) b v) (sym a) r in
     let n = Honest.not-zero Extension (Drawing ch) m f t empty (differs (root c (suc m) .p) z) in
-    (sum-run c (how .live) m b v h r′ sound t e, ap (λ w. verdict c w (suc m) (Prover.proved c b) v .answer) (alike c how d) ∙ ap (λ o. o .answer) (verdict-run c (how .live) m b v h r′ sound t e ∙ ap (λ w. Verifier.laid (Verifier.ended ch w) v) n))
+    (sum-run c (how .live) m b v h r′ sound t e, ap (λ o. o .answer) (alike c how m (Prover.proved c b) v d) ∙ ap (λ o. o .answer) (verdict-run c (how .live) m b v h r′ sound t e ∙ ap (λ w. Verifier.laid (Verifier.ended ch w) v) n))
 
 -- PROVED LIVE
 

@@ -3,5 +3,6 @@ pub mod HonestSize
 pub mod Opening
 pub mod Agreeing
 pub mod ZeroRows
+pub mod NoRowsHold
 pub mod Joining
 pub mod KTableHolds

@@ -17,6 +17,7 @@ use Rattle.gkr.specs.Count as Count
 use Rattle.gkr.specs.Gkr as Gkr
 use Rattle.gkr.specs.Gkr.{done}
 use Rattle.transcript.specs.Log.{Drawing}
+use Rattle.refusal.specs.declared.Verifying.{Verifying}
 use Rattle.refusal.specs.declared.Refusal.the-variants.{ZeroRoot}
 use Rattle.stored.specs.Layout.{layout}
 use Rattle.stored.specs.Parse.{layerCount, entryCount, proofOf}
@@ -36,7 +37,7 @@ use Rattle.verifier.specs.Companions.{ZeroRooted}
 use Rattle.verifier.proofs.Modes.{live-verifying}
 use Rattle.agreement.specs.Demand3.{Taken, root, Room, verdict}
 use Rattle.agreement.specs.Companions.{RowOverZero}
-use Rattle.agreement.proofs.Agreeing.{sourceOf, like, front, back, opened-run, is-done, r′}
+use Rattle.agreement.proofs.Agreeing.{sourceOf, like, alike, front, back, opened-run, is-done, r′}
 
 -- The run over a sheet that is taken, zero asserted or not, as in `Agreeing`: t is the log before root q.
 module _ (c : Call) (m : ℕ) (b : Prover.Buffers) (v : Lent) (h : Taken c (suc m)) (r : Room (c .modes .«assert_zero») (suc m) b v) where
@@ -62,20 +63,23 @@ module _ (c : Call) (m : ℕ) (b : Prover.Buffers) (v : Lent) (h : Taken c (suc 
     unfolding Gkr.run
     rooted over =
         record {
+          some = omega arith;
           layers = sym (claims-count (layerCount (asked .proof)) _) ∙ ap (λ p. length (p .claims)) is ∙ length-map (π .claims) (mapClaims enc) ∙ Count.claims-length Extension S m (node (c .rows)) t;
           entries = sym (entries-count (entryCount (asked .proof)) _) ∙ ap (λ p. length (p .polys)) is ∙ length-map (π .polys) (map (mapCubic enc)) ∙ Count.send-counts Extension S (node (c .rows)) m _ _ .1 ∙ omega arith;
           q0 = ap (λ p. decoded p .q0) is ∙ dec-enc (root c (suc m) .q) ∙ over;
         }
 
-    pub refused-live : OverZero (c .rows) (suc m) → verdict c (like c true) (suc m) (Prover.proved c b) v .answer ≡ TurnedAway ZeroRoot
-    refused-live over =
-        ap (λ bs. Verifier.verified (Verifier.asked bs (suc m) (like c true) (c .challenges)) v .answer) (front c false m b v h r none t e)
+    pub refused-live : (how : Verifying) → how .live ≡ true → how .drawn ≡ c .modes .drawn → OverZero (c .rows) (suc m) → verdict c how (suc m) (Prover.proved c b) v .answer ≡ TurnedAway ZeroRoot
+    refused-live how l d over =
+        ap (λ o. o .answer) (alike c how m (Prover.proved c b) v d)
+        ∙ ap (λ x. verdict c (like c x) (suc m) (Prover.proved c b) v .answer) l
+        ∙ ap (λ bs. Verifier.verified (Verifier.asked bs (suc m) (like c true) (c .challenges)) v .answer) (front c false m b v h r none t e)
         ∙ live-verifying asked v .given .1 (opened-run c false m b v h r none t e, rooted over)
 
 -- THE THEOREM
 pub row-over-zero : RowOverZero
-row-over-zero c zero b v h a z r s = absurd (let k = h .some in omega arith)
-row-over-zero c (suc m) b v h a z r s =
+row-over-zero c how zero b v h l d a z r s = absurd (let k = h .some in omega arith)
+row-over-zero c how (suc m) b v h l d a z r s =
     let n = none c m b v h (subst (λ x. Room x (suc m) b v) (sym a) r) in
-    refused-live c m b v h (r′ c false m b v h a z r n) empty (is-done c false m b v h a z r n)
+    refused-live c m b v h (r′ c false m b v h a z r n) empty (is-done c false m b v h a z r n) how l d
     (⊎-elim (λ (l : (i : ℕ) × Lowest (c .rows) i). lowest-sum (c .rows) (suc m) (counted (c .rows) (suc m) (h .rows)) (l .0) (l .1)) (λ (k : Sound (c .rows)). absurd (s k)) (lowest-or-sound (c .rows)))

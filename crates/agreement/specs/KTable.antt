@@ -66,7 +66,7 @@ abbrev pub point : Call → ℕ → List ℕ
 point c n = Prover.proved c (room n) .buffers .point
 
 abbrev pub in-sandbox : Verifying
-in-sandbox = record { live = false; drawn = false }
+in-sandbox = record { live = false; drawn = false; empty = false }
 
 abbrev pub verdictOf : Verifying → Call → ℕ → Verdict
 verdictOf how c n = verdict c how n (Prover.proved c (room n)) (room-again n) .answer
@@ -84,7 +84,7 @@ abbrev pub verifies : Call → ℕ → Verdict → Case
 verifies c n a = record { Answers = Verdict; asked = verdictOf in-sandbox c n; expected = a }
 
 abbrev pub verifies-live : Call → ℕ → Verdict → Case
-verifies-live c n a = record { Answers = Verdict; asked = verdictOf (record { live = true; drawn = false }) c n; expected = a }
+verifies-live c n a = record { Answers = Verdict; asked = verdictOf (record { live = true; drawn = false; empty = false }) c n; expected = a }
 
 abbrev pub ends-at : Call → ℕ → List E.Ext → Case
 ends-at c n z = record { Answers = List ℕ; asked = point c n; expected = pointWords z }

@@ -39,6 +39,7 @@ fn verify(name: &[u8], proof: &[u8], rounds: usize, challenges: &[u32]) {
         Verifying {
             live: false,
             drawn: false,
+            empty: false,
         },
         challenges,
         &mut point,

@@ -25,7 +25,7 @@ fn usage() {
     );
     io::write_all(
         2,
-        b"sheetproof verify PROOF ROUNDS [--live] [--drawn | --challenges TEXT] [--sheet SHEET]\n",
+        b"sheetproof verify PROOF ROUNDS [--live] [--empty] [--drawn | --challenges TEXT] [--sheet SHEET]\n",
     );
     io::write_all(2, b"sheetproof show SHEET\n");
     io::write_all(2, b"sheetproof make TEXT SHEET\n");
@@ -94,6 +94,7 @@ fn run_verify(args: &[u8], n: usize) {
         Verifying {
             live: o.flags.live,
             drawn: o.flags.drawn,
+            empty: o.flags.empty,
         },
         &args[e..f],
         &args[g..h],

@@ -1,6 +1,6 @@
 // What the options after the names of a command mean.
 ghost use mathlib.Core.Path.{_≡_};
-ghost use mathlib.Core.Bool.{_&&_};
+ghost use mathlib.Core.Bool.{not, _&&_};
 ghost use Prim.Native.Nat.{_-_};
 ghost use lib.Dec.{eqb};
 ghost use Rattle.command.specs.Meaning.{set, named, isName, isNothing, none, asked, taken, optionsFrom, whole, oneSource};
@@ -21,6 +21,7 @@ pub struct Flags {
     pub live: bool,
     pub asserted: bool,
     pub drawn: bool,
+    pub empty: bool,
 }
 
 // The arguments that name a text of challenges and a sheet.
@@ -45,6 +46,7 @@ fn set_flag(flags: Flags, mode: Mode) -> Flags
         Mode::Live => next.live = true,
         Mode::NoAssert => next.asserted = false,
         Mode::Drawn => next.drawn = true,
+        Mode::NoRows => next.empty = true,
     }
     next
 }
@@ -128,6 +130,7 @@ fn no_options(n: usize) -> Options
             live: false,
             asserted: true,
             drawn: false,
+            empty: false,
         },
         names: Names {
             challenges: n,
@@ -173,11 +176,18 @@ fn fit(o: Options, n: usize) -> bool
     both(is_whole(o), has_one_source(o, n))
 }
 
-// Whether the options are those of `prove`: all known, challenges not both drawn and named, no sheet beside the one that is proved, of n arguments.
-pub fn fit_prove(o: Options, n: usize) -> bool
-    ensures { λ r. ⌜ r ≡ ((whole o && oneSource o n) && eqb (o .names .sheet) n) ⌝ }
+// No sheet beside the one that is proved, of n arguments, and nothing about no rows, which are always proved.
+fn is_provers(o: Options, n: usize) -> bool
+    ensures { λ r. ⌜ r ≡ (eqb (o .names .sheet) n && not (o .flags .empty)) ⌝ }
 {
-    both(fit(o, n), o.names.sheet == n)
+    both(o.names.sheet == n, !o.flags.empty)
+}
+
+// Whether the options are those of `prove`: all known, challenges not both drawn and named, and none that `verify` alone takes, of n arguments.
+pub fn fit_prove(o: Options, n: usize) -> bool
+    ensures { λ r. ⌜ r ≡ ((whole o && oneSource o n) && (eqb (o .names .sheet) n && not (o .flags .empty))) ⌝ }
+{
+    both(fit(o, n), is_provers(o, n))
 }
 
 // Whether they are those of `verify`: all known, challenges not both drawn and named, and nothing about the sum's numerator, which it always asks to be zero.

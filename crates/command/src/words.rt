@@ -17,6 +17,7 @@ pub enum Mode {
     Live,
     NoAssert,
     Drawn,
+    NoRows,
 }
 
 // An option after which a name stands.
@@ -75,7 +76,8 @@ fn pick(word: &[u8], text: &[u8], meant: Word, other: Word) -> Word
 fn read_mode(word: &[u8]) -> Word
     ensures { λ r. ⌜ r ≡ modeWord (now (word .entry)) ⌝ }
 {
-    let drawn = pick(word, b"--drawn", Word::Mode(Mode::Drawn), Word::Other);
+    let no_rows = pick(word, b"--empty", Word::Mode(Mode::NoRows), Word::Other);
+    let drawn = pick(word, b"--drawn", Word::Mode(Mode::Drawn), no_rows);
     let no_assert = pick(word, b"--no-assert", Word::Mode(Mode::NoAssert), drawn);
     pick(word, b"--live", Word::Mode(Mode::Live), no_assert)
 }

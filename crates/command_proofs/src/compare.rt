@@ -2,7 +2,7 @@
 ghost use mathlib.Core.Path.{_≡_};
 ghost use mathlib.Core.Bool.{cond};
 ghost use Prim.Native.Nat.{_*_, _^_, min};
-ghost use lib.Dec.{ltb};
+ghost use lib.Dec.{eqb, ltb};
 ghost use lib.ListN.{length};
 ghost use Rattle.io.specs.Counts.{Counts};
 ghost use Rattle.refusal.specs.Limits.{maxRounds};
@@ -12,10 +12,13 @@ use command_text::print;
 use command_text::print_count;
 use step::Frac;
 
-// The rows that a proof of so many rounds is about; 0 where there is none.
+// The rows that a proof of so many rounds is about: none for no rounds, and 0 where there is no such proof.
 fn rows_about(rounds: usize) -> usize
-    ensures { λ r. ⌜ r ≡ cond (ltb maxRounds rounds) 0 (2 ^ rounds) ⌝ }
+    ensures { λ r. ⌜ r ≡ cond (eqb rounds 0) 0 (cond (ltb maxRounds rounds) 0 (2 ^ rounds)) ⌝ }
 {
+    if rounds == 0 {
+        return 0;
+    }
     if rounds > refusal::MAX_ROUNDS {
         return 0;
     }
@@ -42,8 +45,13 @@ fn point_words(point: &[u32], rounds: usize) -> usize
     point.len()
 }
 
-// Rows that were read, and the point of an accepted proof, are refused only where their sizes do not fit.
+// Rows that were read, and the point of an accepted proof, are refused only where their sizes do not fit. One row has no rounds either.
 fn print_comparison(rows: &[u32], point: &[u32], rounds: usize, stated: Frac) {
+    if rounds == 0 {
+        if rows.len() != 0 {
+            return print_sizes(rows.len() / 8, rounds);
+        }
+    }
     let n = point_words(point, rounds);
     match claims::compare(rows, &point[..n], stated) {
         Comparison::Same => print(b"claims match the sheet\n"),

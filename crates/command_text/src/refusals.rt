@@ -110,6 +110,11 @@ fn layer_consistency(round: usize, expected: Ext, actual: Ext) {
     elements(expected, actual);
 }
 
+fn zero_round_value(actual: Ext) {
+    print(b"InvalidZeroRoundValue: the denominator of the sum of no rows");
+    elements(Ext::ONE, actual);
+}
+
 fn zero_root() {
     print(
         b"ZeroRoot: the denominator of the sum is zero, so that the proof says nothing about the rows (live mode)",
@@ -138,6 +143,7 @@ fn print_words(r: Report) {
         17 => root_consistency(r.left, r.right),
         18 => subround_count(r.first, r.second, r.third),
         19 => layer_consistency(r.first, r.left, r.right),
+        22 => zero_round_value(r.left),
         _ => zero_root(),
     }
 }

@@ -14,21 +14,25 @@ use Rattle.gkr.specs.Transcripts.{Source}
 use Rattle.gkr.specs.Gkr.{accepted, zero-rounds, layer-count, poly-count, zero-check, root-check, subround-count, layer-check}
 use Rattle.refusal.specs.Limits.{maxRounds}
 use Rattle.refusal.specs.Tests.{Tested, firstOf}
+use Rattle.refusal.specs.TestWays.{each-way}
 use Rattle.wire.specs.Words.{allCanonical}
 use Rattle.stored.specs.Layout.{proofWords}
 use Rattle.stored.specs.Parse as Parse
 use Rattle.stored.specs.Parse.{proofOf}
-use Rattle.stored.specs.Elements.{overZero}
 use Rattle.sizes.specs.Sizes.{neededWords, logRoom}
 use Rattle.verifier_round.specs.Verdicts.{Model, answerOf}
 use Rattle.verifier.specs.Verified as Verifier
-use Rattle.verifier.specs.Verified.{Asked, Lent, asked, counted, needed, sourceOf, fronts}
+use Rattle.verifier.specs.Verified.{Asked, Lent, Outcome, asked, rootless, needed, sourceOf, emptyTests, emptied, fronts}
 use Rattle.verifier.specs.Gates.{verdict}
 use Rattle.verifier_round.specs.Report.{verdictReport}
 use Rattle.accudrina.specs.Modes.{DRAWN, verifyingBits, has, untaken, verifyingOf}
 use Rattle.accudrina.specs.Calls.{Returned, verifyingTaken}
 use Rattle.exported.specs.Asked.{ForVerifier, NotShort, VerifierNotShort}
 use Rattle.exported.proofs.Lending.{never, lent, challenges-lent, log-lent, other}
+
+-- what no rounds answer
+none : (proof : List ℕ) → NotShort (verdictReport (emptied (firstOf (emptyTests proof))) .number)
+none proof = each-way (λ t. NotShort (verdictReport (emptied t) .number)) (emptyTests proof) (λ _. other 14 refl refl, λ _. (λ _. other 15 refl refl, λ _. (λ _. other 22 refl refl, λ _. other 0 refl refl)))
 
 -- what the run answers
 model : (ch : Source E.Ext) (w : Model ch) → NotShort (verdictReport (answerOf ch w) .number)
@@ -49,7 +53,7 @@ unfolding Verifier.verified firstOf
 run-not-short proof n modes ch v h =
     let a = asked proof n (verifyingOf modes) ch in
     let P = Passed a in
-    either P (eqb n 0) _ _ (λ e. other 10 refl refl) (λ some.
+    either P (eqb n 0 && not (a .modes .empty)) _ _ (λ e. other 10 refl refl) (λ some.
     either P (ltb maxRounds n) _ _ (λ e. other 11 refl refl) (λ e.
     let few = ltb-false maxRounds n e in
     let logs = le-ltb _ _ (log-lent n (length (v .log)) few (omega (arith, h .log))) in
@@ -59,7 +63,8 @@ run-not-short proof n modes ch v h =
     either P (not (Parse.fits (a .proof))) _ _ (λ e. other 13 refl refl) (λ e6.
     either P (not (allCanonical (proofWords (proofOf (a .proof))))) _ _ (λ e. other 6 refl refl) (λ e7.
     either P (not (allCanonical (needed a))) _ _ (λ e. other 6 refl refl) (λ e8.
-    either P (a .modes .live && (counted (a .proof) n && overZero (a .proof))) _ _ (λ e. other 27 refl refl) (λ e9. model (sourceOf a) (verdict (a .proof) n (sourceOf a)))))))))))
+    either P (a .modes .live && rootless (a .proof) n) _ _ (λ e. other 27 refl refl) (λ e9.
+    either (λ (o : Outcome). NotShort (verdictReport (o .answer) .number)) (eqb n 0) _ _ (λ e. none (a .proof)) (λ e. model (sourceOf a) (verdict (a .proof) n (sourceOf a))))))))))))
 
 pub verifier-not-short : VerifierNotShort
 verifier-not-short proof n modes ch v h =

@@ -42,7 +42,7 @@ sound (suc (suc zero)) h = refl
 sound (suc (suc (suc zero))) h = refl
 sound (suc (suc (suc (suc i)))) h = absurd (omega arith)
 
-sheet : (live again : Bool) → Sheet (in-mode live K3) (record { live = again; drawn = false }) n
+sheet : (live again : Bool) → Sheet (in-mode live K3) (record { live = again; drawn = false; empty = false }) n
 unfolding model arithmetic cell allCanonical pointWords
 sheet live again =
     record {
@@ -77,7 +77,7 @@ for-prover live =
     logs true = leb-true _ _ refl
     logs false = leb-true _ _ refl
 
-for-verifier : (again : Bool) → ForVerifier n (wordAgain (record { live = again; drawn = false })) (K3 .challenges) (room-again n)
+for-verifier : (again : Bool) → ForVerifier n (wordAgain (record { live = again; drawn = false; empty = false })) (K3 .challenges) (room-again n)
 unfolding pointWords has
 for-verifier again = record { point = leb-true _ _ refl; log = leb-true _ _ refl; challenges = λ _. leb-true _ _ refl }
 
@@ -85,12 +85,12 @@ pub K3-met : K3Met
 unfolding roundsFrom isSize
 K3-met live again =
     record {
-      premises = premises (in-mode live K3) (record { live = again; drawn = false }) n (room n) (room-again n) (sheet live again) (for-prover live) (for-verifier again);
+      premises = premises (in-mode live K3) (record { live = again; drawn = false; empty = false }) n (room n) (room-again n) (sheet live again) (for-prover live) (for-verifier again);
       for-prover = for-prover live;
       for-verifier = for-verifier again;
     }
 
-claims : (live again : Bool) → handed (in-mode live K3) (record { live = again; drawn = false }) n (proves (in-mode live K3) (room n)) (room-again n) .told ≡ done 0 (frac (minus 25) (el 1))
+claims : (live again : Bool) → handed (in-mode live K3) (record { live = again; drawn = false; empty = false }) n (proves (in-mode live K3) (room n)) (room-again n) .told ≡ done 0 (frac (minus 25) (el 1))
 unfolding model arithmetic cell allCanonical bytesOf word claimsWords cubicsWords polysWords entriesBytes layout claimsFrom cubicsFrom entriesFrom entriesFit fits overZero roundsFrom isSize shortRoom degenerate lowest firstOf firstRefusal pointWords Prover.fronts Prover.proved Verifier.verified answerWords has without
 claims true true = refl
 claims true false = refl
@@ -103,5 +103,5 @@ sum = refl
 
 pub K3-accepted : K3Accepted
 K3-accepted live again =
-    let e = demand-3-exported (in-mode live K3) (record { live = again; drawn = false }) n (room n) (room-again n) (K3-met live again .premises) in
+    let e = demand-3-exported (in-mode live K3) (record { live = again; drawn = false; empty = false }) n (room n) (room-again n) (K3-met live again .premises) in
     record { exchanged = e; proved = e .proved ∙ ap (done n) sum; accepted = claims live again }

@@ -42,14 +42,18 @@ pub record ReadBackAgain (how : Verifying) : Type 0 where
   pub modes : verifyingOf (wordAgain how) ≡ how
   pub all-taken : untaken verifyingBits (wordAgain how) ≡ 0
 
-each-again : (live drawn : Bool) → ReadBackAgain (record { live = live; drawn = drawn })
+each-again : (live drawn empty : Bool) → ReadBackAgain (record { live = live; drawn = drawn; empty = empty })
 unfolding has without
-each-again true true = record { modes = refl; all-taken = refl }
-each-again true false = record { modes = refl; all-taken = refl }
-each-again false true = record { modes = refl; all-taken = refl }
-each-again false false = record { modes = refl; all-taken = refl }
+each-again true true true = record { modes = refl; all-taken = refl }
+each-again true true false = record { modes = refl; all-taken = refl }
+each-again true false true = record { modes = refl; all-taken = refl }
+each-again true false false = record { modes = refl; all-taken = refl }
+each-again false true true = record { modes = refl; all-taken = refl }
+each-again false true false = record { modes = refl; all-taken = refl }
+each-again false false true = record { modes = refl; all-taken = refl }
+each-again false false false = record { modes = refl; all-taken = refl }
 
 pub in-its-mode : (c : Call) (how : Verifying) (n : ℕ) (P : Returned Buffers) (v : Lent) → handed c how n P v ≡ verifyingTaken (asked (take (proof-bytes n) (P .buffers .proof)) n how (c .challenges)) v
 in-its-mode c how n P v =
-    let w = each-again (how .live) (how .drawn) in
+    let w = each-again (how .live) (how .drawn) (how .empty) in
     λ i. taking (w .all-taken i) v (verifyingTaken (asked (take (proof-bytes n) (P .buffers .proof)) n (w .modes i) (c .challenges)) v)

@@ -21,7 +21,7 @@ use Rattle.prover.specs.Companions.{Sound}
 use Rattle.verifier.specs.Verified.{Lent}
 use Rattle.agreement.specs.Demand3.{Taken, root, Room}
 use Rattle.accudrina.specs.Answer.{Told}
-use Rattle.accudrina.specs.Modes.{LIVE, ASSERT-ZERO, DRAWN}
+use Rattle.accudrina.specs.Modes.{LIVE, ASSERT-ZERO, DRAWN, EMPTY}
 use Rattle.accudrina.specs.Calls.{Returned, proving, verifying}
 
 -- done: the number 0 is returned, and the sixteen words are 0, a plain field, two zeros, two elements, four zeros
@@ -33,7 +33,7 @@ abbrev pub word : Proving → ℕ
 word m = cond (m .live) LIVE 0 + cond (m .«assert_zero») ASSERT-ZERO 0 + cond (m .drawn) DRAWN 0
 
 abbrev pub wordAgain : Verifying → ℕ
-wordAgain m = cond (m .live) LIVE 0 + cond (m .drawn) DRAWN 0
+wordAgain m = cond (m .live) LIVE 0 + cond (m .drawn) DRAWN 0 + cond (m .empty) EMPTY 0
 
 abbrev pub wordOf : Call → ℕ
 wordOf c = word (c .modes)

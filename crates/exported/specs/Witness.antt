@@ -28,7 +28,7 @@ pub record Accepted (c : Call) (how : Verifying) : Type 0 where
   pub accepted : handed c how n (proves c (room n)) (room-again n) .told ≡ done 0 (frac (minus 25) (el 1))
 
 abbrev pub K3Met : Type 0
-K3Met = (live again : Bool) → Met (in-mode live K3) (record { live = again; drawn = false })
+K3Met = (live again : Bool) → Met (in-mode live K3) (record { live = again; drawn = false; empty = false })
 
 abbrev pub K3Accepted : Type 0
-K3Accepted = (live again : Bool) → Accepted (in-mode live K3) (record { live = again; drawn = false })
+K3Accepted = (live again : Bool) → Accepted (in-mode live K3) (record { live = again; drawn = false; empty = false })

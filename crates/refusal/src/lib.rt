@@ -32,10 +32,11 @@ pub struct Proving {
     pub drawn: bool,
 }
 
-// How a proof is verified: whether a root over zero is refused, and whether challenges are drawn.
+// How a proof is verified: whether a root over zero is refused, whether challenges are drawn, and whether 0 rounds are valid.
 pub struct Verifying {
     pub live: bool,
     pub drawn: bool,
+    pub empty: bool,
 }
 
 // The list that a word stands in which is not canonical: the rows, the proof's elements, the challenges, the point of an evaluation, or a list of a helper's own.
@@ -89,6 +90,9 @@ pub enum Refusal {
     LayerConsistencyCheckFailed {
         round: usize,
         expected: Ext,
+        actual: Ext,
+    },
+    InvalidZeroRoundValue {
         actual: Ext,
     },
     ZeroRoot,
@@ -192,6 +196,7 @@ pub fn number_and_fields(refusal: Refusal) -> Report
             expected,
             actual,
         } => element_report(19, round, expected, actual),
+        Refusal::InvalidZeroRoundValue { actual } => element_report(22, 0, actual, Ext::ZERO),
         Refusal::ZeroRoot => plain_report(27, 0, 0, 0),
     }
 }

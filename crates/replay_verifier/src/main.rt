@@ -27,11 +27,12 @@ fn next_rooms(text: &[u8], at: usize) -> Rooms {
     }
 }
 
-// The word of modes has 1 where live, and 4 where challenges are drawn.
+// The word of modes has 1 where live, 4 where challenges are drawn, and 16 where 0 rounds are valid.
 fn modes_of(word: u64) -> Verifying {
     Verifying {
         live: word % 2 == 1,
         drawn: word / 4 % 2 == 1,
+        empty: word / 16 % 2 == 1,
     }
 }
 

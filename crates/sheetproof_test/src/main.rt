@@ -151,5 +151,6 @@ fn main() {
     print_named_words();
     print_counts();
     print_elements();
+    command_text::refusals::print_refusal(Refusal::InvalidZeroRoundValue { actual: Ext::ZERO });
     command_text::refusals::print_refusal(Refusal::ZeroRoot);
 }

@@ -47,6 +47,7 @@ fn show_rows(rows: &[u32], count: usize, work: &mut [u32]) {
         Verifying {
             live: false,
             drawn: false,
+            empty: false,
         },
         &challenges,
         &mut proof,

@@ -1,10 +1,12 @@
 -- The end: what the run left is the definition's outcome, and no second one fits.
 -- Assumes nothing.
 use mathlib.Core.Path.{_≡_, refl, sym, _∙_, ap, ap₂, subst}
-use mathlib.Core.Bool.{Bool}
+use mathlib.Core.Bool.{Bool, true, false, not, _&&_}
 use mathlib.Core.List.{List, _++_}
 use Prim.Native.Nat.{ℕ, _*_, _≤_}
 use native.Mathlib.Omega.{arith}
+use borrow.Author.Tests.{ne-eqb, eqb-false}
+use lib.Dec.{eqb}
 use lib.ListN.{length, take, drop, take-append-drop}
 use lib.Seq.{length-take-le}
 use Rattle.field.specs.Ext as E
@@ -13,6 +15,7 @@ use Rattle.field.specs.ElementLaws.{enc-dec}
 use Rattle.field.specs.Cells.{Clean, cells}
 use Rattle.field.specs.PointLaws.{point-is}
 use Rattle.gkr.specs.Gkr.{accepted}
+use Rattle.gkr.specs.Tests.{fail}
 use Rattle.gkr.specs.Transcripts.{Source}
 use Rattle.transcript.specs.declared.Pos.{Pos}
 use Rattle.transcript.specs.Source.{source}
@@ -63,16 +66,23 @@ module _ (p lg lg' : List ℕ) (ch : Source E.Ext) (pos : Pos) (v : Model ch) (l
       z ∙ ap (λ u. laid (ended ch u) (lent p lg)) (sym (a .verdict))
 
 -- ---- the checks, and what the run asks
+some-rounds : (n : ℕ) (empty : Bool) → empty ≡ false → (eqb n 0 && not empty) ≡ false → 1 ≤ n
+some-rounds n empty e h = omega (arith, eqb-false n 0 (go (eqb n 0) (sym (ap (λ b. eqb n 0 && not b) e) ∙ h)))
+  where
+    go : (b : Bool) → (b && true) ≡ false → b ≡ false
+    go true q = q
+    go false q = refl
+
 pub opened-of : (a : Asked) (points logs : ℕ) (g : Gate) (o : Outline) → g ≡ Open o → Gated a points logs g → Opened a points logs o
 opened-of a points logs g o q h = subst (Gated a points logs) q h
 
-pub ready-of : (a : Asked) (pt lg : List ℕ) (k points : ℕ) (o : Outline) (drawn : Bool) → drawn ≡ a .modes .drawn → Opened a points (length lg) o → k ≡ neededWords (a .modes .drawn) (a .rounds)
+pub ready-of : (a : Asked) (pt lg : List ℕ) (k points : ℕ) (o : Outline) (drawn : Bool) → drawn ≡ a .modes .drawn → Opened a points (length lg) o → a .modes .empty ≡ false → k ≡ neededWords (a .modes .drawn) (a .rounds)
     → 4 * maxRounds ≤ length pt → Clean pt → Ready (a .proof) pt lg (take k (a .challenges)) drawn (a .rounds) o
-ready-of a pt lg k points o drawn q h ke r c =
+ready-of a pt lg k points o drawn q h em ke r c =
     let g = passes h in
     let l : length (take k (a .challenges)) ≡ k = length-take-le k (a .challenges) (omega (arith, g .chals, ke)) in
     record {
-      some = g .some;
+      some = some-rounds (a .rounds) (a .modes .empty) em (g .some);
       shaped = h .shaped;
       canon = g .canon;
       room = omega (arith, g .few);
@@ -98,10 +108,12 @@ module _ (a : Asked) (b : Lent) where
   abbrev over-source : (drawn : Bool) (k : ℕ) → Outcome
   over-source drawn k = let ch = source drawn (take k (a .challenges)) in laid (ended ch (verdict (a .proof) (a .rounds) ch)) b
 
-  pub run-is : (k : ℕ) (o : Outline) (x : Outcome) (drawn : Bool) → drawn ≡ a .modes .drawn → Opened a (length (b .point)) (length (b .log)) o → k ≡ neededWords (a .modes .drawn) (a .rounds)
-      → x ≡ over-source drawn k → x ≡ verified a b
+  pub run-is : (k : ℕ) (o : Outline) (x : Outcome) (drawn : Bool) → drawn ≡ a .modes .drawn → Opened a (length (b .point)) (length (b .log)) o → a .modes .empty ≡ false
+      → k ≡ neededWords (a .modes .drawn) (a .rounds) → x ≡ over-source drawn k → x ≡ verified a b
   unfolding verified
-  run-is k o x drawn q g e h = h ∙ ap₂ over-source q e ∙ ap (λ t. laid (fronts a t) b) (sym (g .passes))
+  run-is k o x drawn q g em e h =
+      let some = some-rounds (a .rounds) (a .modes .empty) em (passes g .some) in
+      h ∙ ap₂ over-source q e ∙ ap (λ f. laid f b) (sym (fail (eqb (a .rounds) 0) _ _ (ne-eqb (a .rounds) 0 (λ z. omega (arith, some))))) ∙ ap (λ t. laid (fronts a t) b) (sym (g .passes))
 
   -- no second outcome fits
   pub only-one : (x y : Outcome) → x ≡ verified a b → y ≡ verified a b → x ≡ y

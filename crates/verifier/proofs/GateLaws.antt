@@ -26,10 +26,9 @@ use Rattle.stored.specs.Shapes.{shapeOf}
 use Rattle.stored.specs.Layout.{proofWords}
 use Rattle.stored.specs.Parse.{bad-version, bad-length, parsed, fits, parse, proofOf}
 use Rattle.stored.specs.ParseLaws.{Reads, Shaped, good-shape, reads-fits}
-use Rattle.stored.specs.Elements.{overZero}
 use Rattle.verifier.specs.declared.Gate.{Gate}
 use Rattle.verifier.specs.declared.Gate.the-variants.{Open, Shut}
-use Rattle.verifier.specs.Verified.{Asked, needed, counted, tests}
+use Rattle.verifier.specs.Verified.{Asked, needed, rootless, tests}
 use Rattle.verifier.specs.Gates.{wordsGate, Opened, Gated}
 
 -- ---- the words: of the proof so many, of which b is the first bad one; of the challenges c
@@ -66,19 +65,19 @@ module _ (a : Asked) (points logs : ℕ) where
   abbrev way : Tested
   way = firstOf (tests a points logs)
 
-  pub way-10 : n ≡ 0 → way ≡ refused ZeroRounds
+  pub way-10 : (x : Bool) → x ≡ (eqb n 0 && not (a .modes .empty)) → x ≡ true → way ≡ refused ZeroRounds
   unfolding firstOf
-  way-10 h = rw (eq-eqb n 0 h)
+  way-10 x e h = rw (sym e ∙ h)
 
-  module _ (h1 : n ≡ 0 → ⊥) where
+  module _ (x : Bool) (xe : x ≡ (eqb n 0 && not (a .modes .empty))) (h1 : x ≡ false) where
     pub way-11 : maxRounds < n → way ≡ refused TooManyRounds
     unfolding firstOf
-    way-11 h = rw (ne-eqb n 0 h1, lt-ltb maxRounds n h)
+    way-11 h = rw (sym xe ∙ h1, lt-ltb maxRounds n h)
 
     module _ (h2 : n ≤ maxRounds) (k : ℕ) (ke : k ≡ neededWords (a .modes .drawn) n) where
       few-rounds : way ≡ firstOf (drop 2 (tests a points logs))
       unfolding firstOf
-      few-rounds = rw (ne-eqb n 0 h1, le-ltb maxRounds n h2)
+      few-rounds = rw (sym xe ∙ h1, le-ltb maxRounds n h2)
 
       pub way-4 : length (a .challenges) < k → way ≡ refused ShortChallenges
       unfolding firstOf
@@ -128,7 +127,7 @@ neither true y h = absurd (let z : _≡_ {A = ℕ} 0 1 = cc in omega arith)
 neither false y h = (refl, h)
 
 pub record Passes (a : Asked) (points logs : ℕ) : Type 0 where
-  pub some : 1 ≤ a .rounds
+  pub some : (eqb (a .rounds) 0 && not (a .modes .empty)) ≡ false
   pub few : a .rounds ≤ maxRounds
   pub chals : neededWords (a .modes .drawn) (a .rounds) ≤ length (a .challenges)
   pub room : 4 * a .rounds ≤ points
@@ -141,7 +140,7 @@ passes {a} {points} {logs} g =
     let m = passed-all (tests a points logs) (g .passes) in
     let r = neither (ltb points (4 * a .rounds)) (ltb logs (logRoom true (a .rounds))) (m .1 .1 .1 .0) in
     record {
-      some = omega (arith, eqb-false (a .rounds) 0 (m .0));
+      some = m .0;
       few = ltb-false maxRounds (a .rounds) (m .1 .0);
       chals = ltb-false (length (a .challenges)) (neededWords (a .modes .drawn) (a .rounds)) (m .1 .1 .0);
       room = ltb-false points (4 * a .rounds) (r .0);
@@ -150,11 +149,11 @@ passes {a} {points} {logs} g =
       clean = not-false _ (m .1 .1 .1 .1 .1 .1 .1 .0);
     }
 
-pub opens-all : (a : Asked) (points logs : ℕ) → Reads (a .proof) → Passes a points logs → (a .modes .live && (counted (a .proof) (a .rounds) && overZero (a .proof))) ≡ false
+pub opens-all : (a : Asked) (points logs : ℕ) → Reads (a .proof) → Passes a points logs → (a .modes .live && rootless (a .proof) (a .rounds)) ≡ false
     → firstOf (tests a points logs) ≡ passed
 opens-all a points logs r h root =
     all-passed (tests a points logs) (
-      ne-eqb (a .rounds) 0 (λ e. omega (arith, h .some)),
+      h .some,
       (
         le-ltb maxRounds (a .rounds) (h .few),
         (

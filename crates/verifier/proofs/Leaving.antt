@@ -3,8 +3,10 @@
 use mathlib.Core.Path.{_≡_, refl, sym, ap, ap₂}
 use Prim.Native.Nat.{ℕ, _≤_}
 use native.Mathlib.Omega.{arith}
+use lib.Dec.{eqb}
 use lib.ListN.{length}
 use Rattle.field.specs.Ext as E
+use Rattle.gkr.specs.Tests.{either}
 use Rattle.gkr.specs.Transcripts.{Source}
 use Rattle.gkr.specs.Gkr.{accepted, zero-rounds, layer-count, poly-count, zero-check, root-check, subround-count, layer-check}
 use Rattle.refusal.specs.declared.Refusal.{Refusal}
@@ -61,11 +63,15 @@ module _ (b : Lent) (e : Refusal) where
 
   point-left : (a : Asked) (w : Tested) → fronts a w .answer ≡ Refused e → laid (fronts a w) b .buffers .point ≡ b .point
   point-left a (refused r) h = refl
-  point-left a passed h = run-point (sourceOf a) (verdict (a .proof) (a .rounds) (sourceOf a)) h
+  point-left a passed h =
+      either (λ f. f .answer ≡ Refused e → laid f b .buffers .point ≡ b .point) (eqb (a .rounds) 0) _ _ (λ _ _. refl)
+      (λ _. run-point (sourceOf a) (verdict (a .proof) (a .rounds) (sourceOf a))) h
 
   both-left : (a : Asked) (w : Tested) → fronts a w .answer ≡ Refused e → Other → laid (fronts a w) b .buffers ≡ b
   both-left a (refused r) h l = refl
-  both-left a passed h l = run-both (sourceOf a) (verdict (a .proof) (a .rounds) (sourceOf a)) h l
+  both-left a passed h l =
+      either (λ f. f .answer ≡ Refused e → laid f b .buffers ≡ b) (eqb (a .rounds) 0) _ _ (λ _ _. refl)
+      (λ _ k. run-both (sourceOf a) (verdict (a .proof) (a .rounds) (sourceOf a)) k l) h
 
 pub untouched : (a : Asked) (b : Lent) → Untouched a b
 unfolding verified

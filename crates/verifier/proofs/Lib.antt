@@ -7,3 +7,4 @@ pub mod Leaving
 pub mod Answers
 pub mod Modes
 pub mod Unread
+pub mod NoRounds

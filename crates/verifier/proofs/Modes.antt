@@ -1,10 +1,10 @@
--- Live mode differs from sandbox only by 27: where the sandbox refuses nothing before its run, both counts are right and q0 is zero.
+-- Live mode differs from sandbox only by 27: where the sandbox refuses nothing before its run, of one round or more, both counts are right and q0 is zero.
 -- Assumes nothing.
 use mathlib.Core.Path.{_≡_, refl, sym, _∙_, ap, ap₂}
-use mathlib.Core.Bool.{Bool, true, false, cond, _&&_, and-eq-true-iff, false≢true}
+use mathlib.Core.Bool.{Bool, true, false, cond, not, _&&_, and-eq-true-iff, false≢true}
 use Prim.Native.Nat.{ℕ, _-_}
 use native.Mathlib.Omega.{arith}
-use borrow.Author.Tests.{eq-eqb, eqb-true, not-false}
+use borrow.Author.Tests.{eq-eqb, ne-eqb, eqb-true, eqb-false, not-true, not-false}
 use lib.Dec.{eqb}
 use lib.ListN.{length}
 use Rattle.field.specs.Ext as E
@@ -19,8 +19,7 @@ use Rattle.stored.specs.ParseLaws.{fits-reads}
 use Rattle.stored.specs.Elements.{overZero}
 use Rattle.stored.specs.ElementLaws.{root-there, root-nil}
 use Rattle.verifier_round.specs.declared.Verdict.the-variants.{Refused}
-use Rattle.verifier.specs.Verified.{Asked, Lent, sourceOf, counted, tests, fronts, laid, verified}
-use Rattle.verifier.specs.Gates.{verdict}
+use Rattle.verifier.specs.Verified.{Asked, Lent, counted, rootless, tests, fronts, laid, verified}
 use Rattle.verifier.specs.Companions.{in-mode, ZeroRooted, LiveVerifying}
 use Rattle.verifier.proofs.Answers.{unlike, not-by-run}
 use Rattle.verifier.proofs.RootLaws.{then-root}
@@ -61,7 +60,7 @@ module _ (a : Asked) (b : Lent) where
                     λ u7. (
                       λ m. unlike _ ZeroRoot refl,
                       λ u8.
-                          (λ m. absurd (false≢true m), λ u9. not-by-run (sourceOf a) (verdict (a .proof) (a .rounds) (sourceOf a)) ZeroRoot refl),
+                          (λ m. absurd (false≢true m), λ u9. not-by-run (in-mode false a) ZeroRoot refl),
                     ),
                   ),
                 ),
@@ -73,22 +72,22 @@ module _ (a : Asked) (b : Lent) where
 
   -- THE TWO MODES
 
-  -- both counts are right, and q0 is zero
   abbrev root : Bool
-  root = counted (a .proof) (a .rounds) && overZero (a .proof)
+  root = rootless (a .proof) (a .rounds)
 
   rooted : root ≡ true → ZeroRooted a
   rooted h =
-      let x = and-eq-true-iff (counted (a .proof) (a .rounds)) (overZero (a .proof)) .0 h in
+      let w = and-eq-true-iff (not (eqb (a .rounds) 0)) (counted (a .proof) (a .rounds) && overZero (a .proof)) .0 h in
+      let x = and-eq-true-iff (counted (a .proof) (a .rounds)) (overZero (a .proof)) .0 (w .1) in
       let y = and-eq-true-iff (eqb (layerCount (a .proof)) (a .rounds)) (eqb (entryCount (a .proof)) (a .rounds - 1)) .0 (x .0) in
-      record { layers = eqb-true _ _ (y .0); entries = eqb-true _ _ (y .1); q0 = root-nil (a .proof) (x .1) }
+      record { some = omega (arith, eqb-false (a .rounds) 0 (not-true _ (w .0))); layers = eqb-true _ _ (y .0); entries = eqb-true _ _ (y .1); q0 = root-nil (a .proof) (x .1) }
 
   root-of : front ≡ passed → ZeroRooted a → root ≡ true
   root-of p r =
       let m = passed-all (tests (in-mode false a) points logs) p in
       let s = fits-reads (a .proof) (eqb-true _ 1 (not-false _ (m .1 .1 .1 .1 .0))) (not-false _ (m .1 .1 .1 .1 .1 .0)) in
       let z = root-there (a .proof) (omega (arith, s .room)) ∙ same-of _ E.nil (r .q0) in
-      rw (eq-eqb _ _ (r .layers), eq-eqb _ _ (r .entries)) z
+      rw (ne-eqb (a .rounds) 0 (λ e. omega (arith, r .some)), eq-eqb _ _ (r .layers), eq-eqb _ _ (r .entries)) z
 
   mode-free : (t : Tested) → fronts (in-mode true a) t ≡ fronts (in-mode false a) t
   mode-free passed = refl

@@ -17,28 +17,35 @@ use Rattle.stored.specs.Elements.{overZero}
 use Rattle.stored.specs.ParseLaws.{Shaped}
 use Rattle.verifier.specs.declared.Gate.{Gate}
 use Rattle.verifier.specs.declared.Gate.the-variants.{Open, Shut}
-use Rattle.verifier.specs.Verified.{Asked, Lent, asked, counted, tests, fronts, laid, verified}
+use Rattle.verifier.specs.Verified.{Asked, Lent, asked, rootless, tests, fronts, laid, verified}
 use Rattle.verifier.specs.Companions.{in-mode}
-use Rattle.verifier.specs.Gates.{rootGate, sandbox, Opened, Gated}
+use Rattle.verifier.specs.Gates.{rootGate, Opened, Gated}
 
 -- THE TEST
+
+pub and-right : (b : Bool) → (b && false) ≡ false
+and-right true = refl
+and-right false = refl
 
 module _ (modes : Verifying) (bs : List ℕ) (n : ℕ) (o : Outline) (s : Shaped bs o) where
   -- passed where one of its parts is not met
   pub not-live : modes .live ≡ false → Open o ≡ rootGate modes bs n o
   not-live h = rw h
 
-  module _ (h1 : modes .live ≡ true) where
+  pub no-rounds : n ≡ 0 → Open o ≡ rootGate modes bs n o
+  no-rounds h = rw (eq-eqb n 0 h, and-right (modes .live))
+
+  module _ (h0 : n ≡ 0 → ⊥) (h1 : modes .live ≡ true) where
     pub other-layers : (o .layers ≡ n → ⊥) → Open o ≡ rootGate modes bs n o
-    other-layers h = rw (h1, ne-eqb _ n (λ e. h (s .layers ∙ e)))
+    other-layers h = rw (ne-eqb n 0 h0, h1, ne-eqb _ n (λ e. h (s .layers ∙ e)))
 
     module _ (h2 : o .layers ≡ n) where
       pub other-entries : (k : ℕ) → k ≡ n - 1 → (o .entries ≡ k → ⊥) → Open o ≡ rootGate modes bs n o
-      other-entries k e h = rw (h1, eq-eqb _ n (sym (s .layers) ∙ h2), ne-eqb _ (n - 1) (λ q. h (s .entries ∙ q ∙ sym e)))
+      other-entries k e h = rw (ne-eqb n 0 h0, h1, eq-eqb _ n (sym (s .layers) ∙ h2), ne-eqb _ (n - 1) (λ q. h (s .entries ∙ q ∙ sym e)))
 
       module _ (k : ℕ) (e : k ≡ n - 1) (h3 : o .entries ≡ k) (z : Bool) (ze : z ≡ overZero bs) where
         tested : rootGate modes bs n o ≡ cond z (Shut ZeroRoot) (Open o)
-        tested = rw (h1, eq-eqb _ n (sym (s .layers) ∙ h2), eq-eqb _ (n - 1) (sym (s .entries) ∙ h3 ∙ e), sym ze)
+        tested = rw (ne-eqb n 0 h0, h1, eq-eqb _ n (sym (s .layers) ∙ h2), eq-eqb _ (n - 1) (sym (s .entries) ∙ h3 ∙ e), sym ze)
 
         pub root-shut : z ≡ true → Shut ZeroRoot ≡ rootGate modes bs n o
         root-shut h = sym (tested ∙ ap (λ b. cond b (Shut ZeroRoot) (Open o)) h)
@@ -51,7 +58,7 @@ module _ (modes : Verifying) (bs : List ℕ) (n : ℕ) (o : Outline) (s : Shaped
 module _ (a : Asked) (points logs : ℕ) where
   -- a root over zero, live
   abbrev last : Tested
-  last = cond (a .modes .live && (counted (a .proof) (a .rounds) && overZero (a .proof))) (refused ZeroRoot) passed
+  last = cond (a .modes .live && rootless (a .proof) (a .rounds)) (refused ZeroRoot) passed
 
   abbrev sandboxed : Tested
   sandboxed = firstOf (tests (in-mode false a) points logs)
@@ -68,7 +75,7 @@ module _ (a : Asked) (points logs : ℕ) where
   stays-shut g e q h = then-root ∙ ap (λ t. next t last) (subst (Gated (in-mode false a) points logs) q h)
 
   pub root-next : (o : Outline) → Opened (in-mode false a) points logs o → (g : Gate) → g ≡ rootGate (a .modes) (a .proof) (a .rounds) o → Gated a points logs g
-  root-next o h g e = subst (Gated a points logs) (sym e) (go (a .modes .live && (counted (a .proof) (a .rounds) && overZero (a .proof))) (then-root ∙ ap (λ t. next t last) (h .passes)))
+  root-next o h g e = subst (Gated a points logs) (sym e) (go (a .modes .live && rootless (a .proof) (a .rounds)) (then-root ∙ ap (λ t. next t last) (h .passes)))
     where
       go : (b : Bool) → firstOf (tests a points logs) ≡ cond b (refused ZeroRoot) passed → Gated a points logs (cond b (Shut ZeroRoot) (Open o))
       go true q = q

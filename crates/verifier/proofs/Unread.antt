@@ -12,8 +12,7 @@ use Rattle.refusal.specs.declared.Refusal.the-variants.{ShortChallenges}
 use Rattle.refusal.specs.Tests.{Tested, passed, refused, firstOf}
 use Rattle.refusal.specs.TestWays.{each-way}
 use Rattle.verifier_round.specs.declared.Verdict.the-variants.{Refused}
-use Rattle.verifier.specs.Verified.{Asked, Lent, asked, sourceOf, tests, fronts, laid, verified}
-use Rattle.verifier.specs.Gates.{verdict}
+use Rattle.verifier.specs.Verified.{Asked, Lent, asked, tests, fronts, laid, verified}
 use Rattle.verifier.specs.Companions.{DrawnVerifying}
 use Rattle.verifier.proofs.Answers.{unlike, not-by-run}
 
@@ -24,7 +23,7 @@ none-short ch = le-ltb (length ch) 0 (omega arith)
 module _ (a : Asked) (b : Lent) where
   -- the same call, supplied or drawn, with other challenges lent
   abbrev with-lent : (drawn : Bool) (ch : List ℕ) → Asked
-  with-lent drawn ch = asked (a .proof) (a .rounds) (record { live = a .modes .live; drawn = drawn }) ch
+  with-lent drawn ch = asked (a .proof) (a .rounds) (record { live = a .modes .live; drawn = drawn; empty = a .modes .empty }) ch
 
   abbrev first : Asked → Tested
   first c = firstOf (tests c (length (b .point)) (length (b .log)))
@@ -66,7 +65,7 @@ module _ (a : Asked) (b : Lent) where
                     λ u7. (
                       λ m. unlike _ ShortChallenges refl,
                       λ u8.
-                          (λ m. unlike _ ShortChallenges refl, λ u9. not-by-run (sourceOf c) (verdict (a .proof) (a .rounds) (sourceOf c)) ShortChallenges refl),
+                          (λ m. unlike _ ShortChallenges refl, λ u9. not-by-run c ShortChallenges refl),
                     ),
                   ),
                 ),

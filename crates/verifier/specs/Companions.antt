@@ -1,4 +1,4 @@
--- What stands beside `verified`: isolation, what a refusal leaves, live mode, drawn challenges.
+-- What stands beside `verified`: isolation, what a refusal leaves, live mode, drawn challenges, empty sheets.
 -- Assumes nothing.
 use mathlib.Core.Path.{_≡_}
 use mathlib.Core.Bool.{Bool, true, false}
@@ -8,13 +8,13 @@ use Prim.Native.Nat.{ℕ, _-_, _≤_}
 use lib.ListN.{length}
 use Rattle.field.specs.Ext as E
 use Rattle.refusal.specs.declared.Refusal.{Refusal}
-use Rattle.refusal.specs.declared.Refusal.the-variants.{ShortChallenges, ZeroRoot}
+use Rattle.refusal.specs.declared.Refusal.the-variants.{ShortChallenges, ZeroRounds, ZeroRoot}
 use Rattle.refusal.specs.Numbers.{reportOf}
 use Rattle.refusal.specs.Tests.{passed, firstOf}
 use Rattle.stored.specs.Parse.{layerCount, entryCount, proofOf}
 use Rattle.stored.specs.Elements.{decoded}
 use Rattle.verifier_round.specs.declared.Verdict.the-variants.{Refused}
-use Rattle.verifier.specs.Verified.{Asked, Lent, Outcome, asked, tests, laid, verified}
+use Rattle.verifier.specs.Verified.{Asked, Lent, Outcome, outcome, asked, tests, laid, verified}
 
 -- two outcomes over different buffers: the same answer, and the same words written
 pub record Alike (b b′ : Lent) (o o′ : Outcome) : Type 0 where
@@ -33,10 +33,11 @@ pub record Untouched (a : Asked) (b : Lent) : Type 0 where
 -- LIVE MODE
 
 abbrev pub in-mode : (live : Bool) → Asked → Asked
-in-mode live a = asked (a .proof) (a .rounds) (record { live = live; drawn = a .modes .drawn }) (a .challenges)
+in-mode live a = asked (a .proof) (a .rounds) (record { live = live; drawn = a .modes .drawn; empty = a .modes .empty }) (a .challenges)
 
--- both counts are those of the rounds, and q0 is zero
+-- one round or more, both counts are those of the rounds, and q0 is zero
 pub record ZeroRooted (a : Asked) : Type 0 where
+  pub some : 1 ≤ a .rounds
   pub layers : layerCount (a .proof) ≡ a .rounds
   pub entries : entryCount (a .proof) ≡ a .rounds - 1
   pub q0 : decoded (proofOf (a .proof)) .q0 ≡ E.nil
@@ -51,3 +52,13 @@ pub record LiveVerifying (a : Asked) (b : Lent) : Type 0 where
 pub record DrawnVerifying (a : Asked) (b : Lent) : Type 0 where
   pub unread : a .modes .drawn ≡ true → (lent : List ℕ) → verified (asked (a .proof) (a .rounds) (a .modes) lent) b ≡ verified a b
   pub enough : a .modes .drawn ≡ true → ¬ (verified a b .answer ≡ Refused ShortChallenges)
+
+-- EMPTY SHEETS: of one round or more the mode says nothing; without it 0 rounds are refused as 10, whatever else is wrong; with it they never are, and nothing is written
+abbrev pub emptied-mode : (empty : Bool) → Asked → Asked
+emptied-mode empty a = asked (a .proof) (a .rounds) (record { live = a .modes .live; drawn = a .modes .drawn; empty = empty }) (a .challenges)
+
+pub record EmptyVerifying (a : Asked) (b : Lent) : Type 0 where
+  pub equal : 1 ≤ a .rounds → verified (emptied-mode true a) b ≡ verified (emptied-mode false a) b
+  pub old : a .rounds ≡ 0 → verified (emptied-mode false a) b ≡ outcome (Refused ZeroRounds) (b .point) (b .log)
+  pub never : ¬ (verified (emptied-mode true a) b .answer ≡ Refused ZeroRounds)
+  pub nothing : a .rounds ≡ 0 → verified (emptied-mode true a) b .buffers ≡ b

@@ -22,7 +22,7 @@ use Rattle.stored.specs.declared.Outline.{Outline}
 use Rattle.stored.specs.Layout.{proofWords}
 use Rattle.stored.specs.Parse.{proofOf}
 use Rattle.stored.specs.ParseLaws.{Shaped}
-use Rattle.stored.specs.Elements.{decoded, overZero}
+use Rattle.stored.specs.Elements.{decoded}
 use Rattle.verifier_round.specs.declared.Advance.{Advance}
 use Rattle.verifier_round.specs.declared.Advance.the-variants.{Next, Stopped}
 use Rattle.verifier_round.specs.declared.Verdict.{Verdict}
@@ -31,20 +31,24 @@ use Rattle.verifier_round.specs.Verdicts.{Model}
 use Rattle.verifier_rounds.specs.Runs.{Ends}
 use Rattle.verifier.specs.declared.Gate.{Gate}
 use Rattle.verifier.specs.declared.Gate.the-variants.{Open, Shut}
-use Rattle.verifier.specs.Verified.{Asked, counted, tests}
+use Rattle.verifier.specs.Verified.{Asked, rootless, tests}
 
 abbrev pub wordsGate : (bs : List ℕ) (o : Outline) (needs : List ℕ) → Gate
 wordsGate bs o needs =
     let ws = proofWords (proofOf bs) in
     cond (allCanonical ws) (cond (allCanonical needs) (Open o) (Shut (BadWord (firstBad needs) Challenges))) (Shut (BadWord (firstBad ws) Proof))
 
--- live, a root over zero where both counts are right
+-- live, a root over zero, of one round or more, where both counts are right
 abbrev pub rootGate : (modes : Verifying) (bs : List ℕ) (n : ℕ) (o : Outline) → Gate
-rootGate modes bs n o = cond (modes .live && (counted bs n && overZero bs)) (Shut ZeroRoot) (Open o)
+rootGate modes bs n o = cond (modes .live && rootless bs n) (Shut ZeroRoot) (Open o)
 
--- without live mode; the run does not look at it
+-- without live mode, which is about the root alone
+abbrev pub unrooted : Verifying → Verifying
+unrooted modes = record { live = false; drawn = modes .drawn; empty = modes .empty }
+
+-- the run looks at no mode but this
 abbrev pub sandbox : (drawn : Bool) → Verifying
-sandbox drawn = record { live = false; drawn = drawn }
+sandbox drawn = record { live = false; drawn = drawn; empty = false }
 
 -- nothing is refused before the run, and the bytes have this outline
 pub record Opened (a : Asked) (points logs : ℕ) (o : Outline) : Type 0 where
@@ -65,6 +69,11 @@ pub record Ready (bs pt lg ch : List ℕ) (drawn : Bool) (n : ℕ) (o : Outline)
   pub chals : neededWords drawn n ≤ length ch
   pub points : Clean pt
   pub clean : Clean ch
+
+-- what no rounds ask
+pub record ReadyEmpty (bs : List ℕ) (o : Outline) : Type 0 where
+  pub shaped : Shaped bs o
+  pub canon : allCanonical (proofWords (proofOf bs)) ≡ true
 
 -- nothing is written or used yet, and nothing taken in
 pub record Starts (pos : Pos) : Type 0 where

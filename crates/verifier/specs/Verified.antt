@@ -1,19 +1,20 @@
 -- What verify_gkr answers, and what it leaves in point and log, for every proof, rounds, mode, challenges and room.
 -- Assumes nothing.
-use mathlib.Core.Bool.{Bool, true, not, _&&_, _||_}
+use mathlib.Core.Bool.{Bool, true, cond, not, _&&_, _||_}
 use mathlib.Core.List.{List, [], _∷_}
 use Prim.Native.Nat.{ℕ, _*_, _-_}
 use lib.Dec.{eqb, ltb}
 use lib.ListN.{length, getD, take}
 use Rattle.field.specs.Ext as E
 use Rattle.field.specs.Extension.{Extension}
+use Rattle.field.specs.Element.{enc}
 use Rattle.gkr.specs.Gkr as Gkr
 use Rattle.gkr.specs.Transcripts.{empty, Source}
 use Rattle.transcript.specs.Source.{source}
 use Rattle.transcript.specs.Log.{Drawing}
 use Rattle.refusal.specs.Limits.{maxRounds}
 use Rattle.refusal.specs.declared.Verifying.{Verifying}
-use Rattle.refusal.specs.declared.Refusal.the-variants.{ShortChallenges, ShortRoom, BadWord, ZeroRounds, TooManyRounds, BadVersion, BadLength, ZeroRoot}
+use Rattle.refusal.specs.declared.Refusal.the-variants.{ShortChallenges, ShortRoom, BadWord, ZeroRounds, TooManyRounds, BadVersion, BadLength, IncorrectLayerCount, IncorrectSumcheckPolyCount, InvalidZeroRoundValue, ZeroRoot}
 use Rattle.refusal.specs.declared.Words.the-variants.{Proof, Challenges}
 use Rattle.refusal.specs.Tests.{Test, Tested, passed, refused, test, firstOf}
 use Rattle.refusal.specs.Fronts.{over}
@@ -23,7 +24,7 @@ use Rattle.stored.specs.Layout.{proofWords}
 use Rattle.stored.specs.Parse.{layerCount, entryCount, fits, proofOf}
 use Rattle.stored.specs.Elements.{decoded, overZero}
 use Rattle.verifier_round.specs.declared.Verdict.{Verdict}
-use Rattle.verifier_round.specs.declared.Verdict.the-variants.{Refused}
+use Rattle.verifier_round.specs.declared.Verdict.the-variants.{Accepted, Refused}
 use Rattle.verifier_round.specs.Verdicts.{Model, answerOf, pointOf, loggedBy}
 
 -- what a call is given: a proof's bytes, the rounds, the modes of verifying, and challenge words, four a challenge
@@ -63,9 +64,13 @@ sourceOf a = source (a .modes .drawn) (needed a)
 abbrev pub counted : (proof : List ℕ) (rounds : ℕ) → Bool
 counted proof rounds = eqb (layerCount proof) rounds && eqb (entryCount proof) (rounds - 1)
 
+-- one round or more, both counts right, and q0 is zero
+abbrev pub rootless : (proof : List ℕ) (rounds : ℕ) → Bool
+rootless proof rounds = not (eqb rounds 0) && (counted proof rounds && overZero proof)
+
 -- the refusals before the run, by the lengths of point and log
 abbrev pub tests : Asked → (points logs : ℕ) → List Test
-tests a points logs = test (eqb (a .rounds) 0) ZeroRounds
+tests a points logs = test (eqb (a .rounds) 0 && not (a .modes .empty)) ZeroRounds
     ∷ test (ltb maxRounds (a .rounds)) TooManyRounds
     ∷ test (ltb (length (a .challenges)) (neededWords (a .modes .drawn) (a .rounds))) ShortChallenges
     ∷ test (ltb points (4 * a .rounds) || ltb logs (logRoom true (a .rounds))) ShortRoom
@@ -73,16 +78,29 @@ tests a points logs = test (eqb (a .rounds) 0) ZeroRounds
     ∷ test (not (fits (a .proof))) BadLength
     ∷ test (not (allCanonical (proofWords (proofOf (a .proof))))) (BadWord (firstBad (proofWords (proofOf (a .proof)))) Proof)
     ∷ test (not (allCanonical (needed a))) (BadWord (firstBad (needed a)) Challenges)
-    ∷ test (a .modes .live && (counted (a .proof) (a .rounds) && overZero (a .proof))) ZeroRoot ∷ []
+    ∷ test (a .modes .live && rootless (a .proof) (a .rounds)) ZeroRoot ∷ []
 
 -- what a verdict of the model answers and writes
 abbrev pub ended : (ch : Source E.Ext) → Model ch → Outcome
 ended ch v = outcome (answerOf ch v) (pointOf ch v) (loggedBy ch v)
 
--- what a call answers and writes: nothing where it is refused before the run, else what the model's verifier does over an empty log
+-- 0 rounds, where they are valid: no layer, no entry, and q0 is 1
+abbrev pub emptyTests : (proof : List ℕ) → List Test
+emptyTests proof = let q0 = decoded (proofOf proof) .q0 in
+    test (not (eqb (layerCount proof) 0)) (IncorrectLayerCount 0 (layerCount proof))
+    ∷ test (not (eqb (entryCount proof) 0)) (IncorrectSumcheckPolyCount 0 (entryCount proof))
+    ∷ test (not (E.same q0 E.one)) (InvalidZeroRoundValue (enc q0)) ∷ []
+
+-- the claims are 0 and 1
+abbrev pub emptied : Tested → Verdict
+emptied passed = Accepted (enc E.nil) (enc E.one)
+emptied (refused e) = Refused e
+
+-- what a call answers and writes: nothing where it is refused before the run, or has no rounds; else what the model's verifier does over an empty log
 abbrev pub fronts : Asked → Tested → Outcome
 fronts a (refused e) = outcome (Refused e) [] []
-fronts a passed = let ch = sourceOf a in ended ch (Gkr.verify-gkr Extension (Drawing ch) (a .rounds) (decoded (proofOf (a .proof))) empty)
+fronts a passed = cond (eqb (a .rounds) 0) (outcome (emptied (firstOf (emptyTests (a .proof)))) [] [])
+    (let ch = sourceOf a in ended ch (Gkr.verify-gkr Extension (Drawing ch) (a .rounds) (decoded (proofOf (a .proof))) empty))
 
 -- written at the fronts of the buffers, the rest as before
 abbrev pub laid : Outcome → Lent → Outcome

@@ -1,13 +1,15 @@
 // The verifier over the stored bytes of a proof: refusals in document 01's order, then the run.
 ghost use mathlib.Core.Path.{_≡_};
+ghost use mathlib.Core.Bool.{not, _&&_};
 ghost use mathlib.Core.List.{_++_};
 ghost use Prim.Native.Nat.{_≤_};
+ghost use lib.Dec.{eqb};
 ghost use lib.ListN.{length, take, drop};
 ghost use Rattle.stored.specs.ParseLaws.{Shaped};
 ghost use Rattle.transcript.specs.Source.{source};
 ghost use Rattle.verifier_round.specs.declared.Verdict.the-variants.{Accepted};
 ghost use Rattle.verifier.specs.Verified.{asked, lent, outcome, verified};
-ghost use Rattle.verifier.specs.Gates.{wordsGate, rootGate, sandbox, Gated, Opened, Ready, Starts, Counted, pointLeft, answered};
+ghost use Rattle.verifier.specs.Gates.{wordsGate, rootGate, unrooted, sandbox, Gated, Opened, Ready, Starts, Counted, pointLeft, answered};
 use refusal::Refusal;
 use refusal::Verifying;
 use refusal::Words;
@@ -17,6 +19,8 @@ use transcript::Pos;
 use verifier_round::Advance;
 use verifier_round::Layer;
 use verifier_round::Verdict;
+
+mod empty; // no rounds, where that is valid
 
 // What the checks before the run answer.
 pub enum Gate {
@@ -46,24 +50,34 @@ fn check_words(proof: &[u8], outline: Outline, needs: &[u32]) -> Gate
     Gate::Open(outline)
 }
 
-// The first refusal of the sandbox, in document 01's order.
+// Whether there are no rounds, in the mode where that is not valid.
+fn lacks_rounds(rounds: usize, empty: bool) -> bool
+    ensures { λ r. ⌜ r ≡ (eqb rounds 0 && not empty) ⌝ }
+{
+    if rounds != 0 {
+        return false;
+    }
+    !empty
+}
+
+// The first refusal but for a root over zero, in document 01's order.
 fn check(
     proof: &[u8],
     rounds: usize,
-    drawn: bool,
+    modes: Verifying,
     challenges: &[u32],
     points: usize,
     logs: usize,
 ) -> Gate
-    ensures { λ r. ⌜ Gated (asked (now (proof .entry)) rounds (sandbox drawn) (now (challenges .entry))) points logs r ⌝ }
+    ensures { λ r. ⌜ Gated (asked (now (proof .entry)) rounds (unrooted modes) (now (challenges .entry))) points logs r ⌝ }
 {
-    if rounds == 0 {
+    if lacks_rounds(rounds, modes.empty) {
         return Gate::Shut(Refusal::ZeroRounds);
     }
     if refusal::MAX_ROUNDS < rounds {
         return Gate::Shut(Refusal::TooManyRounds);
     }
-    let needs = sizes::needed_words(drawn, rounds);
+    let needs = sizes::needed_words(modes.drawn, rounds);
     if challenges.len() < needs {
         return Gate::Shut(Refusal::ShortChallenges);
     }
@@ -79,11 +93,14 @@ fn check(
     }
 }
 
-// Live, the root, once both counts are those of the rounds: 14 and 15 come first.
+// Live, the root, of one round or more, once both counts are those of the rounds: 14 and 15 come first.
 fn check_root(proof: &[u8], rounds: usize, modes: Verifying, outline: Outline) -> Gate
-    requires { ⌜ (1 ≤ rounds) × Shaped (now proof) outline ⌝ }
+    requires { ⌜ Shaped (now proof) outline ⌝ }
     ensures { λ r. ⌜ r ≡ rootGate modes (now (proof .entry)) rounds outline ⌝ }
 {
+    if rounds == 0 {
+        return Gate::Open(outline);
+    }
     if !modes.live {
         return Gate::Open(outline);
     }
@@ -110,7 +127,7 @@ fn admit(
 ) -> Gate
     ensures { λ r. ⌜ Gated (asked (now (proof .entry)) rounds modes (now (challenges .entry))) points logs r ⌝ }
 {
-    match check(proof, rounds, modes.drawn, challenges, points, logs) {
+    match check(proof, rounds, modes, challenges, points, logs) {
         Gate::Shut(refusal) => Gate::Shut(refusal),
         Gate::Open(outline) => check_root(proof, rounds, modes, outline),
     }
@@ -227,6 +244,26 @@ fn run(
     answer(end)
 }
 
+// What is not refused before: no rounds, or the run.
+fn verify_admitted(
+    proof: &[u8],
+    rounds: usize,
+    outline: Outline,
+    modes: Verifying,
+    challenges: &[u32],
+    point: &mut [u32],
+    log: &mut [u32],
+) -> Verdict
+    requires { ⌜ Opened (asked (now proof) rounds modes (now challenges)) (length (now point)) (length (now log)) outline ⌝ }
+    ensures { λ r. ⌜ outcome r (now (point .exit)) (now (log .exit))
+        ≡ verified (asked (now (proof .entry)) rounds modes (now (challenges .entry))) (lent (now (point .entry)) (now (log .entry))) ⌝ }
+{
+    if rounds == 0 {
+        return empty::verify_empty(proof, outline);
+    }
+    run(proof, rounds, outline, modes.drawn, challenges, point, log)
+}
+
 // Checks a stored proof of so many rounds: accepted with both claims and the point written, or refused; the log holds what was observed and sampled until then.
 pub fn verify_gkr(
     proof: &[u8],
@@ -241,6 +278,14 @@ pub fn verify_gkr(
 {
     match admit(proof, rounds, modes, challenges, point.len(), log.len()) {
         Gate::Shut(refusal) => Verdict::Refused(refusal),
-        Gate::Open(outline) => run(proof, rounds, outline, modes.drawn, challenges, point, log),
+        Gate::Open(outline) => verify_admitted(
+            proof,
+            rounds,
+            outline,
+            modes,
+            challenges,
+            point,
+            log,
+        ),
     }
 }

@@ -127,6 +127,12 @@ enum-known-refusal-8 c = search needs
 element-report-requires-3 : tie.Need-element-report-requires-3
 element-report-requires-3 c κs = search needs
 
+enum-known-refusal-9 : tie.Need-enum-known-refusal-9
+enum-known-refusal-9 c = search needs
+
+element-report-requires-4 : tie.Need-element-report-requires-4
+element-report-requires-4 c κs = search needs
+
 enum-told-12 : tie.Need-enum-told-12
 enum-told-12 c = search needs
 
@@ -191,7 +197,10 @@ returns-19 : tie.Need-returns-19
 returns-19 c = c .element-report3 .ensures ∙ sym (ap reportOf (c .before .before .refusal8 .given .1))
 
 returns-20 : tie.Need-returns-20
-returns-20 c = c .plain-report17 .ensures ∙ sym (ap reportOf (c .before .enum-told12 .given .1))
+returns-20 c = c .element-report4 .ensures ∙ sym (ap reportOf (c .before .before .refusal9 .given .1))
+
+returns-21 : tie.Need-returns-21
+returns-21 c = c .plain-report17 .ensures ∙ sym (ap reportOf (c .before .enum-told12 .given .1))
 
 pub number-and-fields-spec : {M : Type 1} → statement M
 number-and-fields-spec =
@@ -236,6 +245,8 @@ number-and-fields-spec =
     plain-report-requires-16
     enum-known-refusal-8
     element-report-requires-3
+    enum-known-refusal-9
+    element-report-requires-4
     enum-told-12
     plain-report-requires-17
     returns
@@ -257,4 +268,5 @@ number-and-fields-spec =
     returns-17
     returns-18
     returns-19
-    returns-20)
+    returns-20
+    returns-21)

@@ -1,6 +1,5 @@
 use Rattle.verifier.specs.Verified.{asked}
-use Rattle.verifier.specs.Gates.{sandbox}
-use Rattle.verifier.proofs.GateLaws.{passes}
+use Rattle.verifier.specs.Gates.{unrooted}
 use Rattle.verifier.proofs.EndLaws.{opened-of}
 use Rattle.verifier.proofs.RootLaws.{stays-shut, root-next}
 use borrow.Author.Needs.{needs}
@@ -22,15 +21,15 @@ enum-known-outline c = search needs
 
 check-root-requires : tie.Need-check-root-requires
 check-root-requires c κs =
-    let o = opened-of (asked (c .before .before .before .before .before .before .args .proof .now) (c .before .before .before .before .before .before .args .rounds) (sandbox (c .before .before .before .before .before .before .args .modes .drawn)) (c .before .before .before .before .before .before .args .challenges .now)) (c .before .before .before .before .before .before .args .points) (c .before .before .before .before .before .before .args .logs) (c .before .before .before .check .result) _ (c .before .outline .given .1) (c .before .before .before .check .ensures) in
-    (passes o .some, o .shaped)
+    let o = opened-of (asked (c .before .before .before .before .before .before .args .proof .now) (c .before .before .before .before .before .before .args .rounds) (unrooted (c .before .before .before .before .before .before .args .modes)) (c .before .before .before .before .before .before .args .challenges .now)) (c .before .before .before .before .before .before .args .points) (c .before .before .before .before .before .before .args .logs) (c .before .before .before .check .result) _ (c .before .outline .given .1) (c .before .before .before .check .ensures) in
+    o .shaped
 
 returns : tie.Need-returns
 returns c = stays-shut (asked (c .before .before .before .before .before .before .args .proof .now) (c .before .before .before .before .before .before .args .rounds) (c .before .before .before .before .before .before .args .modes) (c .before .before .before .before .before .before .args .challenges .now)) (c .before .before .before .before .before .before .args .points) (c .before .before .before .before .before .before .args .logs) (c .before .before .before .check .result) _ (c .before .refusal .given .1) (c .before .before .before .check .ensures)
 
 returns-2 : tie.Need-returns-2
 returns-2 c =
-    let o = opened-of (asked (c .before .before .before .before .before .before .before .args .proof .now) (c .before .before .before .before .before .before .before .args .rounds) (sandbox (c .before .before .before .before .before .before .before .args .modes .drawn)) (c .before .before .before .before .before .before .before .args .challenges .now)) (c .before .before .before .before .before .before .before .args .points) (c .before .before .before .before .before .before .before .args .logs) (c .before .before .before .before .check .result) _ (c .before .before .outline .given .1) (c .before .before .before .before .check .ensures) in
+    let o = opened-of (asked (c .before .before .before .before .before .before .before .args .proof .now) (c .before .before .before .before .before .before .before .args .rounds) (unrooted (c .before .before .before .before .before .before .before .args .modes)) (c .before .before .before .before .before .before .before .args .challenges .now)) (c .before .before .before .before .before .before .before .args .points) (c .before .before .before .before .before .before .before .args .logs) (c .before .before .before .before .check .result) _ (c .before .before .outline .given .1) (c .before .before .before .before .check .ensures) in
     root-next (asked (c .before .before .before .before .before .before .before .args .proof .now) (c .before .before .before .before .before .before .before .args .rounds) (c .before .before .before .before .before .before .before .args .modes) (c .before .before .before .before .before .before .before .args .challenges .now)) (c .before .before .before .before .before .before .before .args .points) (c .before .before .before .before .before .before .before .args .logs) _ o _ (c .check-root .ensures)
 
 pub admit-spec : {M : Type 1} → statement M

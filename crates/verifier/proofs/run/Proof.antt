@@ -1,4 +1,4 @@
-use mathlib.Core.Path.{sym}
+use mathlib.Core.Path.{refl, sym}
 use lib.Seq.{length-take-le}
 use Prim.Native.Nat.{_*_}
 use Rattle.field.specs.CellLaws.{clean-zeros}
@@ -25,7 +25,7 @@ slice-aggregate-verify-counted-2 : tie.Need-slice-aggregate-verify-counted-2
 slice-aggregate-verify-counted-2 c = sym (length-take-le _ (c .before .before .before .before .before .before .before .before .before .args .challenges .now) (omega (arith, passes (c .before .before .before .before .before .before .before .before .before .pre) .chals, c .before .before .before .needed-words .ensures)))
 
 verify-counted-requires : tie.Need-verify-counted-requires
-verify-counted-requires c κs = (ready-of _ _ _ _ _ _ _ (c .before .before .before .before .start .ensures .2) (c .before .before .before .before .before .before .before .before .before .pre) (c .before .before .before .needed-words .ensures) (omega arith) (clean-zeros (4 * maxRounds)), record { put = c .before .before .before .before .start .ensures .0; used = c .before .before .before .before .start .ensures .1; blocks = c .before .before .before .before .start .ensures .3 })
+verify-counted-requires c κs = (ready-of _ _ _ _ _ _ _ (c .before .before .before .before .start .ensures .2) (c .before .before .before .before .before .before .before .before .before .pre) refl (c .before .before .before .needed-words .ensures) (omega arith) (clean-zeros (4 * maxRounds)), record { put = c .before .before .before .before .start .ensures .0; used = c .before .before .before .before .start .ensures .1; blocks = c .before .before .before .before .start .ensures .3 })
 
 slice-aggregate-leave-point : tie.Need-slice-aggregate-leave-point
 slice-aggregate-leave-point c = search needs
@@ -46,7 +46,7 @@ same-length-2 : tie.Need-same-length-2
 same-length-2 c = search needs
 
 returns : tie.Need-returns
-returns c = run-is (asked (c .before .before .before .before .before .before .before .before .before .before .before .before .before .before .before .before .before .before .before .args .proof .now) (c .before .before .before .before .before .before .before .before .before .before .before .before .before .before .before .before .before .before .before .args .rounds) (sandbox (c .before .before .before .before .before .before .before .before .before .before .before .before .before .before .before .before .before .before .before .args .drawn)) (c .before .before .before .before .before .before .before .before .before .before .before .before .before .before .before .before .before .before .before .args .challenges .now)) (lent (c .before .before .before .before .before .before .before .before .before .before .before .before .before .before .before .before .before .before .before .args .point .now) (c .before .before .before .before .before .before .before .before .before .before .before .before .before .before .before .before .before .before .before .args .log .now)) _ _ _ _ (c .before .before .before .before .before .before .before .before .before .before .before .before .before .before .start .ensures .2) (c .before .before .before .before .before .before .before .before .before .before .before .before .before .before .before .before .before .before .before .pre) (c .before .before .before .before .before .before .before .before .before .before .before .before .before .needed-words .ensures) (ended-is _ _ _ _ _ _ (c .before .before .before .before .before .before .before .before .before .verify-counted .kept .1 .1 .1 .1 .0) (c .before .before .before .before .before .before .before .before .before .before .before .before .before .before .before .before .before .before .before .args .rounds) _ _ (c .before .before .before .before .before .before .before .before .before .verify-counted .result) _ (c .before .before .before .before .before .before .before .before .before .verify-counted .ensures) (point-fits _ _ (passes (c .before .before .before .before .before .before .before .before .before .before .before .before .before .before .before .before .before .before .before .pre) .few) (c .before .before .before .before .before .before .before .before .before .verify-counted .kept .1 .1 .1 .0)) (c .before .before .before .leave-point .ensures) (c .answer .ensures))
+returns c = run-is (asked (c .before .before .before .before .before .before .before .before .before .before .before .before .before .before .before .before .before .before .before .args .proof .now) (c .before .before .before .before .before .before .before .before .before .before .before .before .before .before .before .before .before .before .before .args .rounds) (sandbox (c .before .before .before .before .before .before .before .before .before .before .before .before .before .before .before .before .before .before .before .args .drawn)) (c .before .before .before .before .before .before .before .before .before .before .before .before .before .before .before .before .before .before .before .args .challenges .now)) (lent (c .before .before .before .before .before .before .before .before .before .before .before .before .before .before .before .before .before .before .before .args .point .now) (c .before .before .before .before .before .before .before .before .before .before .before .before .before .before .before .before .before .before .before .args .log .now)) _ _ _ _ (c .before .before .before .before .before .before .before .before .before .before .before .before .before .before .start .ensures .2) (c .before .before .before .before .before .before .before .before .before .before .before .before .before .before .before .before .before .before .before .pre) refl (c .before .before .before .before .before .before .before .before .before .before .before .before .before .needed-words .ensures) (ended-is _ _ _ _ _ _ (c .before .before .before .before .before .before .before .before .before .verify-counted .kept .1 .1 .1 .1 .0) (c .before .before .before .before .before .before .before .before .before .before .before .before .before .before .before .before .before .before .before .args .rounds) _ _ (c .before .before .before .before .before .before .before .before .before .verify-counted .result) _ (c .before .before .before .before .before .before .before .before .before .verify-counted .ensures) (point-fits _ _ (passes (c .before .before .before .before .before .before .before .before .before .before .before .before .before .before .before .before .before .before .before .pre) .few) (c .before .before .before .before .before .before .before .before .before .verify-counted .kept .1 .1 .1 .0)) (c .before .before .before .leave-point .ensures) (c .answer .ensures))
 
 pub run-spec : {M : Type 1} → statement M
 run-spec =

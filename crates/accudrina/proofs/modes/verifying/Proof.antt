@@ -8,8 +8,11 @@ has-requires c κs = search needs
 has-requires-2 : tie.Need-has-requires-2
 has-requires-2 c κs = search needs
 
+has-requires-3 : tie.Need-has-requires-3
+has-requires-3 c κs = search needs
+
 returns : tie.Need-returns
-returns c = λ i. record { live = c .before .has .ensures i; drawn = c .has2 .ensures i }
+returns c = λ i. record { live = c .before .before .has .ensures i; drawn = c .before .has2 .ensures i; empty = c .has3 .ensures i }
 
 pub verifying-spec : {M : Type 1} → statement M
-verifying-spec = tie.close (tie.spec has-requires has-requires-2 returns)
+verifying-spec = tie.close (tie.spec has-requires has-requires-2 has-requires-3 returns)

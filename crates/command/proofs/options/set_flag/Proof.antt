@@ -15,6 +15,9 @@ enum-told-2 c = search needs
 enum-told-3 : tie.Need-enum-told-3
 enum-told-3 c = search needs
 
+enum-told-4 : tie.Need-enum-told-4
+enum-told-4 c = search needs
+
 returns : tie.Need-returns
 returns c = sym (ap (set (c .before .before .args .flags)) (c .enum-told .given .1))
 
@@ -24,5 +27,8 @@ returns-2 c = sym (ap (set (c .before .before .args .flags)) (c .enum-told2 .giv
 returns-3 : tie.Need-returns-3
 returns-3 c = sym (ap (set (c .before .before .args .flags)) (c .enum-told3 .given .1))
 
+returns-4 : tie.Need-returns-4
+returns-4 c = sym (ap (set (c .before .before .args .flags)) (c .enum-told4 .given .1))
+
 pub set-flag-spec : {M : Type 1} → statement M
-set-flag-spec = tie.close (tie.spec enum-told enum-told-2 enum-told-3 returns returns-2 returns-3)
+set-flag-spec = tie.close (tie.spec enum-told enum-told-2 enum-told-3 enum-told-4 returns returns-2 returns-3 returns-4)
