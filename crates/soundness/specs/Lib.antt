@@ -1,0 +1,27 @@
+-- The verifier is sound.
+pub mod Few
+pub mod FewLaws
+pub mod Roots
+pub mod Agree
+pub mod Decide
+pub mod Steps
+pub mod StepLaws
+pub mod Challenges
+pub mod Sound
+pub mod Slips
+pub mod Unique
+pub mod Tally
+pub mod TallyLaws
+pub mod Errors
+pub mod ErrorLaws
+pub mod Provers
+pub mod Shape
+pub mod Union
+pub mod Counted
+pub mod Fractions
+pub mod FractionLaws
+pub mod Extension
+pub mod Pairs
+pub mod Whole
+pub mod Uniform
+pub mod Examples
