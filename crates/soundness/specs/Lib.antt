@@ -18,6 +18,8 @@ pub mod Provers
 pub mod Shape
 pub mod Union
 pub mod Counted
+pub mod Strategies
+pub mod Interactive
 pub mod Fractions
 pub mod FractionLaws
 pub mod Extension
