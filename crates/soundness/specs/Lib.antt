@@ -20,6 +20,9 @@ pub mod Union
 pub mod Counted
 pub mod Strategies
 pub mod Interactive
+pub mod Kept
+pub mod FromLog
+pub mod WordLog
 pub mod Fractions
 pub mod FractionLaws
 pub mod Extension

@@ -42,7 +42,7 @@ module _ (F : Field) (S : Transcript (F .ring .carrier)) where
   sub-mosts h xi lambda rhos (s ∷ polys) [] claim t n = absurd (suc-ne-zero _ n)
   sub-mosts h xi lambda rhos (s ∷ polys) (x ∷ left) claim t n = ap (λ l. 3 ∷ l) (sub-mosts h xi lambda _ polys left _ _ (suc-inj n))
 
-  sub-point : (polys : List (Cubic R)) (xi : List R) (claim eq : R) (t : Log) → length polys ≡ length xi → length (Sumcheck.verify-gkr-sumcheck F S polys xi claim eq t .point) ≡ length xi
+  pub sub-point : (polys : List (Cubic R)) (xi : List R) (claim eq : R) (t : Log) → length polys ≡ length xi → length (Sumcheck.verify-gkr-sumcheck F S polys xi claim eq t .point) ≡ length xi
   unfolding Sumcheck.verify-gkr-sumcheck
   sub-point [] [] claim eq t n = refl
   sub-point [] (x ∷ xi) claim eq t n = absurd (suc-ne-zero _ (sym n))
