@@ -23,6 +23,8 @@ pub mod Interactive
 pub mod Kept
 pub mod FromLog
 pub mod WordLog
+pub mod Carry
+pub mod Supplied
 pub mod Fractions
 pub mod FractionLaws
 pub mod Extension
