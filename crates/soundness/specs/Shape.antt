@@ -84,3 +84,16 @@ module _ (F : Field) (S : Transcript (F .ring .carrier)) where
   pub accepted-places : (f : ℕ → Frac R) (m : ℕ) (π : Proof R) (t : Log) → Accepts F S f (Gkr.verify-gkr F S (suc m) π t) → mosts (challenges F S π t) ≡ places m
   unfolding Gkr.verify-gkr
   accepted-places f m π t g = counted-mosts f m (π .q0) (π .claims) (π .polys) t g
+
+  counted-lengths : (f : ℕ → Frac R) (m : ℕ) (q0 : R) (cs : List (Claims R)) (polyss : List (List (Cubic R))) (t : Log)
+      → Accepts F S f (Gkr.counted F S m q0 cs polyss t) → (length cs ≡ suc m) × (length polyss ≡ m)
+  unfolding Gkr.counted
+  counted-lengths f m q0 [] polyss t g = absurd g
+  counted-lengths f m q0 (c ∷ cs) polyss t g =
+      let claims = passed F S f (eqb (length cs) m) _ _ (λ x. x) g in
+      let polys = passed F S f (eqb (length polyss) m) _ _ (λ x. x) (claims .1) in
+      (ap suc (eqb-true _ _ (claims .0)), eqb-true _ _ (polys .0))
+
+  pub accepted-lengths : (f : ℕ → Frac R) (m : ℕ) (π : Proof R) (t : Log) → Accepts F S f (Gkr.verify-gkr F S (suc m) π t) → (length (π .claims) ≡ suc m) × (length (π .polys) ≡ m)
+  unfolding Gkr.verify-gkr
+  accepted-lengths f m π t g = counted-lengths f m (π .q0) (π .claims) (π .polys) t g

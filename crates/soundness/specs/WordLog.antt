@@ -1,7 +1,7 @@
 -- A log of words keeps all elements, observed and sampled. So over a log of words, with challenges from any source: a bad challenge is a value of the source at a log
 -- that fixes the few values which are bad there.
 -- Assumes nothing.
-use Prim.Native.Nat.{ℕ, suc, _+_, _%_, _^_, _<_}
+use Prim.Native.Nat.{ℕ, zero, suc, _+_, _%_, _^_, _<_}
 use mathlib.Core.Path.{_≡_, refl, _∙_, ap}
 use mathlib.Core.Logic.{_⊎_}
 use mathlib.Core.List.{List, [], _∷_, _++_}
@@ -90,13 +90,14 @@ words-kept source = record {
     sampled-element : (x : Ext) → element (mark (x .c0 .val)) (mark (x .c1 .val)) (mark (x .c2 .val)) (mark (x .c3 .val)) ≡ x
     sampled-element x = Ext-path (sampled-word (x .c0)) (sampled-word (x .c1)) (sampled-word (x .c2)) (sampled-word (x .c3))
 
--- what is on the table at a log of suc m rounds: a function of the log alone
-pub at-log : (m : ℕ) (u : Words) → Step Ext
-at-log m u = FromLog.table Extension m (read u)
+-- what is on the table at a log of a run of n rounds: a function of the log alone
+pub at-log : (n : ℕ) (u : Words) → Step Ext
+at-log zero u = FromLog.table Extension 0 (read u)
+at-log (suc m) u = FromLog.table Extension m (read u)
 
 -- CHALLENGES THAT ARE ANY FUNCTION OF THE LOG: the root is (0, q0), or at some log u the function's value is among the few that are bad at what u puts on the table
 pub source-sound : (source : Source Ext) (f : ℕ → Frac Ext) (m : ℕ) (π : Proof Ext)
     → Accepts Extension (drawing words source) f (Gkr.verify-gkr Extension (drawing words source) (suc m) π empty)
-    → RootIs Extension f (suc m) (π .q0) ⊎ ((u : Words) × bad Extension f (at-log m u) (source u))
+    → RootIs Extension f (suc m) (π .q0) ⊎ ((u : Words) × bad Extension f (at-log (suc m) u) (source u))
 unfolding words-kept at-log read elements
 source-sound source f m π a = FromLog.drawn-sound Extension ext-domain same-true (drawing words source) (words-kept source) f m π empty tt refl a

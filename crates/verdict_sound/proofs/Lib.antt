@@ -1,0 +1,3 @@
+-- The run behind a verdict, and what it says.
+pub mod Runs
+pub mod Saying

@@ -1,0 +1,79 @@
+-- What an accepted verdict of verify_gkr says of the rows, when its claims are their values at the point that it wrote.
+-- Assumes nothing.
+use mathlib.Core.Path.{_≡_}
+use mathlib.Core.Bool.{true}
+use mathlib.Core.List.{List}
+use mathlib.Core.Logic.{_⊎_}
+use Prim.Native.Nat.{ℕ, _^_}
+use lib.ListN.{take}
+use Rattle.field.specs.Ext as E
+use Rattle.field.specs.ExtRing.{ExtRing}
+use Rattle.field.specs.Extension.{Extension}
+use Rattle.field.specs.Element.{enc}
+use Rattle.field.specs.Cells.{cells}
+use Rattle.field.specs.declared.Ext.{Ext}
+use Rattle.gkr.specs.Run.{Frac, Proof}
+use Rattle.gkr.specs.Sizes.{point-words}
+use Rattle.gkr.specs.Transcripts.{Words, empty, Source}
+use Rattle.gkr.specs.Tree as Tree
+use Rattle.domain.specs.Rows.{ZeroRow}
+use Rattle.soundness.specs.Fractions.{SumsToZero}
+use Rattle.soundness.specs.Steps.{bad}
+use Rattle.soundness.specs.Challenges as Challenges
+use Rattle.soundness.specs.Challenges.{RootIs}
+use Rattle.soundness.specs.WordLog.{at-log}
+use Rattle.transcript.specs.Log.{Drawing}
+use Rattle.transcript.specs.Source.{supplied}
+use Rattle.stored.specs.Parse.{proofOf}
+use Rattle.stored.specs.Elements.{decoded}
+use Rattle.verifier_round.specs.declared.Verdict.the-variants.{Accepted}
+use Rattle.verifier.specs.Verified.{Asked, Lent, Outcome, needed, verified}
+use Rattle.prover_tree.specs.Nodes.{node}
+use Rattle.evaluation.specs.declared.Evaluation.the-variants.{Done}
+use Rattle.evaluation.specs.Evaluated.{evaluated}
+
+-- where the challenges of a call come from
+abbrev pub sourceOf : Asked → Source E.Ext
+sourceOf a = supplied (needed a)
+
+-- the proof that stands in the bytes
+abbrev pub stated : Asked → Proof E.Ext
+stated a = decoded (proofOf (a .proof))
+
+-- ACCEPTED, and the claims answered are the values of the rows f at the point written
+abbrev pub Matches : (a : Asked) (b : Lent) (f : ℕ → Frac E.Ext) → Type 0
+Matches a b f =
+    let o = verified a b in
+    let v = Tree.value ExtRing f (cells (o .buffers .point) 0 (a .rounds)) in
+    o .answer ≡ Accepted (enc (v .p)) (enc (v .q))
+
+-- one of the challenges of the run was bad for the rows f
+abbrev pub Unlucky : (a : Asked) (f : ℕ → Frac E.Ext) → Type 0
+Unlucky a f = Challenges.Unlucky Extension (Drawing (sourceOf a)) f (stated a) empty
+
+-- THE ROOT of the rows is (0, q0), or a challenge was bad
+abbrev pub AcceptedSound : Type 0
+AcceptedSound = (a : Asked) (b : Lent) (f : ℕ → Frac E.Ext) → Matches a b f → RootIs Extension f (a .rounds) (stated a .q0) ⊎ Unlucky a f
+
+-- LIVE: no row is over zero and the fractions add up to zero, or a challenge was bad
+abbrev pub AcceptedLive : Type 0
+AcceptedLive =
+    (a : Asked) (b : Lent) (f : ℕ → Frac E.Ext) → a .modes .live ≡ true → Matches a b f
+    → ((¬ ZeroRow ExtRing f (2 ^ a .rounds)) × SumsToZero ExtRing f (2 ^ a .rounds)) ⊎ Unlucky a f
+
+-- WHATEVER THE SOURCE: the root is (0, q0), or at some log u the source gave a value that is among the few that are bad at what u puts on the table
+abbrev pub AcceptedDrawn : Type 0
+AcceptedDrawn =
+    (a : Asked) (b : Lent) (f : ℕ → Frac E.Ext) → Matches a b f
+    → RootIs Extension f (a .rounds) (stated a .q0) ⊎ ((u : Words) × bad Extension f (at-log (a .rounds) u) (sourceOf a u))
+
+-- A SHEET: the call accepts, and evaluating the sheet's rows at the point that it wrote gives its two claims
+pub record Checked (a : Asked) (b : Lent) (rows : List ℕ) : Type 0 where
+  pub numer : Ext
+  pub denom : Ext
+  pub accepted : verified a b .answer ≡ Accepted numer denom
+  pub valued : evaluated rows (take (point-words (a .rounds)) (verified a b .buffers .point)) ≡ Done (a .rounds) numer denom
+
+-- then its claims match the rows
+abbrev pub SheetMatches : Type 0
+SheetMatches = (a : Asked) (b : Lent) (rows : List ℕ) → Checked a b rows → Matches a b (node rows)
