@@ -27,7 +27,8 @@ use Rattle.transcript.specs.Source.{supplied}
 use Rattle.stored.specs.Parse.{proofOf}
 use Rattle.stored.specs.Elements.{decoded}
 use Rattle.verifier_round.specs.declared.Verdict.the-variants.{Accepted}
-use Rattle.verifier.specs.Verified.{Asked, Lent, Outcome, needed, verified}
+use Rattle.verifier.specs.Verified.{Asked, Lent, needed, verified}
+use Rattle.sizes.specs.Sizes.{rowCount}
 use Rattle.prover_tree.specs.Nodes.{node}
 use Rattle.evaluation.specs.declared.Evaluation.the-variants.{Done}
 use Rattle.evaluation.specs.Evaluated.{evaluated}
@@ -74,6 +75,16 @@ pub record Checked (a : Asked) (b : Lent) (rows : List ℕ) : Type 0 where
   pub accepted : verified a b .answer ≡ Accepted numer denom
   pub valued : evaluated rows (take (point-words (a .rounds)) (verified a b .buffers .point)) ≡ Done (a .rounds) numer denom
 
--- then its claims match the rows
+-- then there are 2 ^ rounds rows, and the claims are their values
 abbrev pub SheetMatches : Type 0
-SheetMatches = (a : Asked) (b : Lent) (rows : List ℕ) → Checked a b rows → Matches a b (node rows)
+SheetMatches = (a : Asked) (b : Lent) (rows : List ℕ) → Checked a b rows → (rowCount rows ≡ 2 ^ a .rounds) × Matches a b (node rows)
+
+-- and the sum of all rows is zero over q0, or a challenge was bad
+abbrev pub SheetSound : Type 0
+SheetSound = (a : Asked) (b : Lent) (rows : List ℕ) → Checked a b rows → RootIs Extension (node rows) (a .rounds) (stated a .q0) ⊎ Unlucky a (node rows)
+
+-- verified live: no row of the sheet is over zero and its fractions add up to zero, or a challenge was bad
+abbrev pub SheetLive : Type 0
+SheetLive =
+    (a : Asked) (b : Lent) (rows : List ℕ) → a .modes .live ≡ true → Checked a b rows
+    → ((¬ ZeroRow ExtRing (node rows) (rowCount rows)) × SumsToZero ExtRing (node rows) (rowCount rows)) ⊎ Unlucky a (node rows)
