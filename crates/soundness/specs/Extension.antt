@@ -17,7 +17,7 @@ use Rattle.soundness.specs.FewLaws.{onto}
 use Rattle.soundness.specs.Fractions.{Inverts, SumsToZero}
 use Rattle.soundness.specs.FractionLaws.{zero-sum}
 use Rattle.soundness.specs.Steps.{Step, most, bad}
-use Rattle.soundness.specs.StepLaws.{few}
+use Rattle.soundness.specs.StepLaws.{few, few-three}
 use Rattle.soundness.specs.Challenges.{challenges, Accepts, Unlucky, RootIs}
 use Rattle.soundness.specs.Sound.{sound}
 use Rattle.soundness.specs.Slips.{slipped}
@@ -26,6 +26,9 @@ use Rattle.soundness.specs.Unique as Unique
 -- at most 1, 3 or 1 challenges are bad at a step
 pub few-bad : (f : ℕ → Frac Ext) (s : Step Ext) → AtMost (most s) (bad Extension f s)
 few-bad = few Extension ext-domain
+
+pub three-bad : (f : ℕ → Frac Ext) (s : Step Ext) → AtMost 3 (bad Extension f s)
+three-bad = few-three Extension ext-domain
 
 -- ROWS WHOSE ROOT IS (0, q0) with q0 not zero: no row is over zero, and the fractions add up to zero
 

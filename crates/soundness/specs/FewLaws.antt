@@ -68,3 +68,7 @@ doubting d (inr q) = inr (inr q)
 pub onto : {A B N : Type 0} → A ⊎ N → (A → B) → B ⊎ N
 onto (inl a) f = inl (f a)
 onto (inr n) f = inr n
+
+pub onto-right : {A B N : Type 0} → A ⊎ N → (N → B) → A ⊎ B
+onto-right (inl a) f = inl a
+onto-right (inr n) f = inr (f n)

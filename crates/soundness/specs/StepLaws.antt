@@ -3,6 +3,8 @@
 use Prim.Native.Nat.{ℕ, suc}
 use mathlib.Core.Path.{_≡_, sym, _∙_, ap, ap₂}
 use mathlib.Core.List.{List, [], _∷_}
+use native.Mathlib.Nat.{le-trans}
+use native.Mathlib.Omega.{arith}
 use Rattle.ring.specs.Ring.{CommRing, num}
 use Rattle.ring.specs.Field.{Field}
 use Rattle.ring.specs.Quote.{ring, ring-by, quote, _▷_}
@@ -85,3 +87,9 @@ module _ (F : Field) (D : Domain (F .ring)) where
       at-most-when 3 (¬ (claim ≡ true-sum F f h (suc k) xi lambda rhos)) _
       (λ n. few-messages k lambda (bound F (Table.weight K xi) rhos) (bound-claims F (Tree.children K (Tree.tree K f h)) rhos) claim s (λ e. n (e .0)))
   few f (joining h xi c) = at-most-when 1 (¬ (c ≡ true-children F f h xi)) _ (few-joining c (true-children F f h xi))
+
+  -- at most three, at every step
+  pub few-three : (f : ℕ → Frac R) (s : Step R) → AtMost 3 (bad F f s)
+  few-three f (batching h xi v) xs d a = le-trans (few f (batching h xi v) xs d a) (omega arith)
+  few-three f (subround h k xi lambda rhos claim s) xs d a = few f (subround h k xi lambda rhos claim s) xs d a
+  few-three f (joining h xi c) xs d a = le-trans (few f (joining h xi c) xs d a) (omega arith)

@@ -2,9 +2,9 @@
 -- that fixes the few values which are bad there.
 -- Assumes nothing.
 use Prim.Native.Nat.{ℕ, zero, suc, _+_, _%_, _^_, _<_}
-use mathlib.Core.Path.{_≡_, refl, _∙_, ap}
+use mathlib.Core.Path.{_≡_, refl, sym, _∙_, ap}
 use mathlib.Core.Logic.{_⊎_}
-use mathlib.Core.List.{List, [], _∷_, _++_}
+use mathlib.Core.List.{List, [], _∷_, _++_, map, append-nil, append-assoc}
 use native.Mathlib.Omega.{arith}
 use Rattle.field.specs.Base.{P, F, of}
 use Rattle.field.specs.BaseRing.{of-val, val-lt}
@@ -16,6 +16,7 @@ use Rattle.gkr.specs.Run.{Transcript, Frac, Proof}
 use Rattle.gkr.specs.Gkr
 use Rattle.gkr.specs.Transcripts.{mark, Words, empty, Source, drawing}
 use Rattle.domain.specs.Extension.{ext-domain}
+use Rattle.soundness.specs.FewLaws.{onto-right}
 use Rattle.soundness.specs.Steps.{Step, bad}
 use Rattle.soundness.specs.Challenges.{Accepts, RootIs}
 use Rattle.soundness.specs.Kept.{Keeps}
@@ -82,6 +83,10 @@ words-kept source = record {
   read = read;
   observes = λ x t h. (fours-append (t .log) _ _ _ _ h, elements-append (t .log) _ _ _ _ h ∙ ap (λ y. elements (t .log) ++ (y ∷ [])) (observed-element x));
   draws = λ t h. (fours-append (t .log) _ _ _ _ h, elements-append (t .log) _ _ _ _ h ∙ ap (λ y. elements (t .log) ++ (y ∷ [])) (sampled-element (source t)));
+  Past = λ u t. (rest : List ℕ) × (t .log ≡ u .log ++ rest);
+  itself = λ t. ([], sym (append-nil (t .log)));
+  before-observing = λ x u t p. (words x ++ p .0, p .1 ∙ append-assoc (u .log) (words x) (p .0));
+  before-drawing = λ u t p. (map mark (words (source u)) ++ p .0, p .1 ∙ append-assoc (u .log) (map mark (words (source u))) (p .0));
 }
   where
     observed-element : (x : Ext) → element (x .c0 .val) (x .c1 .val) (x .c2 .val) (x .c3 .val) ≡ x
@@ -95,9 +100,16 @@ pub at-log : (n : ℕ) (u : Words) → Step Ext
 at-log zero u = FromLog.table Extension 0 (read u)
 at-log (suc m) u = FromLog.table Extension m (read u)
 
--- CHALLENGES THAT ARE ANY FUNCTION OF THE LOG: the root is (0, q0), or at some log u the function's value is among the few that are bad at what u puts on the table
+-- a log begins with the words of u, and then has the challenge that the source gives at u, its words marked
+abbrev pub DrewAt : (source : Source Ext) (u : Words) (log : List ℕ) → Type 0
+DrewAt source u log = (rest : List ℕ) × (log ≡ u .log ++ (map mark (words (source u)) ++ rest))
+
+-- CHALLENGES THAT ARE ANY FUNCTION OF THE LOG: the root is (0, q0), or at some log u of the run the function's value is among the few that are bad at what u puts on the table
 pub source-sound : (source : Source Ext) (f : ℕ → Frac Ext) (m : ℕ) (π : Proof Ext)
-    → Accepts Extension (drawing words source) f (Gkr.verify-gkr Extension (drawing words source) (suc m) π empty)
-    → RootIs Extension f (suc m) (π .q0) ⊎ ((u : Words) × bad Extension f (at-log (suc m) u) (source u))
+    → let S = drawing words source in
+    let w = Gkr.verify-gkr Extension S (suc m) π empty in
+    Accepts Extension S f w → RootIs Extension f (suc m) (π .q0) ⊎ ((u : Words) × DrewAt source u (Gkr.log-after Extension S empty w .log) × bad Extension f (at-log (suc m) u) (source u))
 unfolding words-kept at-log read elements
-source-sound source f m π a = FromLog.drawn-sound Extension ext-domain same-true (drawing words source) (words-kept source) f m π empty tt refl a
+source-sound source f m π a =
+    onto-right (FromLog.drawn-sound Extension ext-domain same-true (drawing words source) (words-kept source) f m π empty tt refl a)
+    (λ k. (k .0, (k .1 .0, k .1 .1 ∙ append-assoc (k .0 .log) (map mark (words (source (k .0)))) (k .1 .0)), k .2))

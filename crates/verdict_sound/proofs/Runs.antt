@@ -26,7 +26,7 @@ use Rattle.refusal.specs.Fronts.{over}
 use Rattle.refusal.specs.Tests.{Tested, passed, refused, firstOf}
 use Rattle.refusal.specs.declared.Refusal.{Refusal}
 use Rattle.verifier_round.specs.declared.Verdict.the-variants.{Accepted, Refused}
-use Rattle.verifier_round.specs.Verdicts.{Model, answerOf, pointOf}
+use Rattle.verifier_round.specs.Verdicts.{Model, answerOf, pointOf, loggedBy}
 use Rattle.verifier.specs.Verified.{Asked, Lent, tests, fronts, laid, verified}
 use Rattle.verdict_sound.specs.Says.{sourceOf, stated, Matches}
 
@@ -98,6 +98,12 @@ module _ (a : Asked) (b : Lent) where
       go : (w : Tested) → front ≡ w → w ≡ passed
       go passed e = refl
       go (refused r) e = absurd (not-accepted r p q (sym (ap (λ w. fronts a w .answer) e) ∙ h))
+
+  -- the log left has the run's at its front
+  pub log-left : (p q : Ext) → verified a b .answer ≡ Accepted p q
+      → verified a b .buffers .log ≡ over (loggedBy (sourceOf a) (Gkr.verify-gkr Extension (Drawing (sourceOf a)) (a .rounds) (stated a) empty)) (b .log)
+  unfolding verified
+  log-left p q h = ap (λ w. laid (fronts a w) b .buffers .log) (opened p q h)
 
   -- and the run accepts with values of the rows
   pub run-accepts : (f : ℕ → Frac E.Ext) → Matches a b f → Accepts Extension (Drawing (sourceOf a)) f (Gkr.verify-gkr Extension (Drawing (sourceOf a)) (a .rounds) (stated a) empty)

@@ -3,36 +3,39 @@
 use mathlib.Core.Path.{_≡_, refl, sym, _∙_, ap, subst}
 use mathlib.Core.Bool.{Bool, true, false}
 use mathlib.Core.Logic.{_⊎_, inl, inr}
-use mathlib.Core.List.{List, map}
+use mathlib.Core.List.{List, _++_, map, append-assoc}
 use Prim.Native.Nat.{ℕ, zero, suc, _-_, _^_}
 use native.Mathlib.Omega.{arith}
-use lib.ListN.{length, length-map}
+use lib.ListN.{length, drop, length-map}
 use Rattle.field.specs.Ext as E
 use Rattle.field.specs.ExtRing.{ExtRing}
 use Rattle.field.specs.Extension.{Extension}
+use Rattle.field.specs.Element.{words}
 use Rattle.field.specs.declared.Ext.{Ext}
 use Rattle.gkr.specs.Run.{Frac, Proof}
-use Rattle.gkr.specs.Transcripts.{Words, empty, Source}
+use Rattle.gkr.specs.Transcripts.{mark, Words, empty, Source}
 use Rattle.gkr.specs.Gkr as Gkr
 use Rattle.domain.specs.Rows.{ZeroRow}
-use Rattle.soundness.specs.FewLaws.{onto}
+use Rattle.soundness.specs.FewLaws.{onto, onto-right}
 use Rattle.soundness.specs.Fractions.{SumsToZero}
 use Rattle.soundness.specs.Steps.{bad}
 use Rattle.soundness.specs.Challenges as Challenges
 use Rattle.soundness.specs.Challenges.{Accepts, RootIs}
 use Rattle.soundness.specs.Shape.{accepted-lengths}
-use Rattle.soundness.specs.Extension.{accepted-sound as model-sound, live-rows}
-use Rattle.soundness.specs.WordLog.{at-log, source-sound}
+use Rattle.soundness.specs.Extension.{accepted-sound as model-sound, live-rows, three-bad}
+use Rattle.soundness.specs.WordLog.{at-log, DrewAt, source-sound}
 use Rattle.transcript.specs.Log.{Drawing}
+use Rattle.refusal.specs.Fronts.{over}
 use Rattle.refusal.specs.declared.Refusal.the-variants.{ZeroRoot}
 use Rattle.stored.specs.Parse.{layerCount, entryCount, proofOf}
 use Rattle.stored.specs.ParseLaws.{claims-count, entries-count}
 use Rattle.verifier_round.specs.declared.Verdict.the-variants.{Accepted, Refused}
+use Rattle.verifier_round.specs.Verdicts.{loggedBy}
 use Rattle.verifier.specs.Verified.{Asked, Lent, verified}
 use Rattle.verifier.specs.Companions.{in-mode, ZeroRooted}
 use Rattle.verifier.proofs.Modes.{live-verifying}
-use Rattle.verdict_sound.specs.Says.{sourceOf, stated, Matches, Unlucky, AcceptedSound, AcceptedLive, AcceptedDrawn}
-use Rattle.verdict_sound.proofs.Runs.{not-accepted, opened, run-accepts}
+use Rattle.verdict_sound.specs.Says.{sourceOf, stated, Matches, Unlucky, AcceptedSound, AcceptedLive, DrawnSound}
+use Rattle.verdict_sound.proofs.Runs.{not-accepted, opened, log-left, run-accepts}
 
 -- OF n ROUNDS, over any source and proof
 
@@ -45,7 +48,8 @@ module _ (ch : Source E.Ext) (π : Proof E.Ext) (f : ℕ → Frac E.Ext) where
   run-sound zero g = absurd g
   run-sound (suc m) g = model-sound (Drawing ch) f m π empty g
 
-  run-drawn : (n : ℕ) → Run n → RootIs Extension f n (π .q0) ⊎ ((u : Words) × bad Extension f (at-log n u) (ch u))
+  run-drawn : (n : ℕ) → Run n
+      → RootIs Extension f n (π .q0) ⊎ ((u : Words) × DrewAt ch u (loggedBy ch (Gkr.verify-gkr Extension (Drawing ch) n π empty)) × bad Extension f (at-log n u) (ch u))
   unfolding Gkr.verify-gkr
   run-drawn zero g = absurd g
   run-drawn (suc m) g = source-sound ch f m π g
@@ -61,8 +65,21 @@ module _ (ch : Source E.Ext) (π : Proof E.Ext) (f : ℕ → Frac E.Ext) where
 pub accepted-sound : AcceptedSound
 accepted-sound a b f h = run-sound (sourceOf a) (stated a) f (a .rounds) (run-accepts a b f h)
 
-pub accepted-drawn : AcceptedDrawn
-accepted-drawn a b f h = run-drawn (sourceOf a) (stated a) f (a .rounds) (run-accepts a b f h)
+-- the run's log stands at the front of the buffer
+drew-over : (ch : Source E.Ext) (u : Words) (log buffer : List ℕ) → DrewAt ch u log → DrewAt ch u (over log buffer)
+drew-over ch u log buffer d =
+    let c = map mark (words (ch u)) in
+    let r = drop (length log) buffer in
+    (d .0 ++ r, ap (λ l. l ++ r) (d .1) ∙ append-assoc (u .log) (c ++ d .0) r ∙ ap (λ l. u .log ++ l) (append-assoc c (d .0) r))
+
+drawn-says : (a : Asked) (b : Lent) (f : ℕ → Frac E.Ext) → Matches a b f
+    → RootIs Extension f (a .rounds) (stated a .q0) ⊎ ((u : Words) × DrewAt (sourceOf a) u (verified a b .buffers .log) × bad Extension f (at-log (a .rounds) u) (sourceOf a u))
+drawn-says a b f h =
+    onto-right (run-drawn (sourceOf a) (stated a) f (a .rounds) (run-accepts a b f h))
+    (λ k. (k .0, subst (DrewAt (sourceOf a) (k .0)) (sym (log-left a b _ _ h)) (drew-over (sourceOf a) (k .0) _ (b .log) (k .1)), k .2))
+
+pub drawn-sound : DrawnSound
+drawn-sound = record { table = at-log; few = λ f n u. three-bad f (at-log n u); says = drawn-says }
 
 -- LIVE
 

@@ -18,10 +18,11 @@ use Rattle.gkr.specs.Transcripts.{Words, empty, Source}
 use Rattle.gkr.specs.Tree as Tree
 use Rattle.domain.specs.Rows.{ZeroRow}
 use Rattle.soundness.specs.Fractions.{SumsToZero}
-use Rattle.soundness.specs.Steps.{bad}
+use Rattle.soundness.specs.Few.{AtMost}
+use Rattle.soundness.specs.Steps.{Step, bad}
 use Rattle.soundness.specs.Challenges as Challenges
 use Rattle.soundness.specs.Challenges.{RootIs}
-use Rattle.soundness.specs.WordLog.{at-log}
+use Rattle.soundness.specs.WordLog.{DrewAt}
 use Rattle.transcript.specs.Log.{Drawing}
 use Rattle.transcript.specs.Source.{supplied}
 use Rattle.stored.specs.Parse.{proofOf}
@@ -62,11 +63,13 @@ AcceptedLive =
     (a : Asked) (b : Lent) (f : ℕ → Frac E.Ext) → a .modes .live ≡ true → Matches a b f
     → ((¬ ZeroRow ExtRing f (2 ^ a .rounds)) × SumsToZero ExtRing f (2 ^ a .rounds)) ⊎ Unlucky a f
 
--- WHATEVER THE SOURCE: the root is (0, q0), or at some log u the source gave a value that is among the few that are bad at what u puts on the table
-abbrev pub AcceptedDrawn : Type 0
-AcceptedDrawn =
-    (a : Asked) (b : Lent) (f : ℕ → Frac E.Ext) → Matches a b f
-    → RootIs Extension f (a .rounds) (stated a .q0) ⊎ ((u : Words) × bad Extension f (at-log (a .rounds) u) (sourceOf a u))
+-- WHATEVER THE SOURCE of the challenges, and be it a hash of the log: a log fixes at most three values that are bad at it; and where a call accepts with the values of the rows f,
+-- the root is (0, q0), or the log that it left shows a challenge that is bad at the log u before it
+pub record DrawnSound : Type 0 where
+  pub table : (n : ℕ) (u : Words) → Step E.Ext
+  pub few : (f : ℕ → Frac E.Ext) (n : ℕ) (u : Words) → AtMost 3 (bad Extension f (table n u))
+  pub says : (a : Asked) (b : Lent) (f : ℕ → Frac E.Ext) → Matches a b f
+      → RootIs Extension f (a .rounds) (stated a .q0) ⊎ ((u : Words) × DrewAt (sourceOf a) u (verified a b .buffers .log) × bad Extension f (table (a .rounds) u) (sourceOf a u))
 
 -- A SHEET: the call accepts, and evaluating the sheet's rows at the point that it wrote gives its two claims
 pub record Checked (a : Asked) (b : Lent) (rows : List ℕ) : Type 0 where
