@@ -3,9 +3,11 @@
 use mathlib.Core.Path.{_≡_, refl, ap}
 use mathlib.Core.Bool.{cond}
 use mathlib.Core.List.{List, [], _∷_}
-use Prim.Native.Nat.{ℕ, _+_}
+use Prim.Native.Nat.{ℕ, _+_, _*_, _^_, _≤_}
+use native.Mathlib.Bridge.{le-by-compare, IsLe}
 use native.Mathlib.Omega.{arith}
 use lib.ListN.{length}
+use Rattle.field.specs.Base.{P}
 use Rattle.field.specs.Ext.{Ext}
 use Rattle.field.specs.ExtRing.{arithmetic}
 use Rattle.field.specs.Extension.{Extension}
@@ -70,3 +72,8 @@ bound-is-met =
 pub ten : (challenges 10 ≡ 64) × (errors 9 ≡ 154)
 unfolding places layer-places added
 ten = (refl, refl)
+
+-- fewer than one in 10 ^ 35
+pub ten-is-small : errors 9 * 10 ^ 35 ≤ P ^ 4
+unfolding places layer-places added IsLe
+ten-is-small = le-by-compare (errors 9 * 10 ^ 35) (P ^ 4) tt

@@ -1,4 +1,5 @@
--- The verifier is sound.
+-- The verifier is sound. Definitions: Few, Steps, Challenges, Slips, Tally, Errors, Provers, Strategies, Fractions, Kept. The theorems: Sound (every proof, every transcript), StepLaws
+-- (bad challenges are few), Unique, Counted (every prover that does not look ahead), Interactive, FromLog and WordLog (challenges that are any function of the log), Extension and Uniform (over the extension).
 pub mod Few
 pub mod FewLaws
 pub mod Roots

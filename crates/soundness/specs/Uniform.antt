@@ -1,29 +1,52 @@
 -- The soundness error over the extension field: of all sequences of challenges a prover that does not look ahead cheats with at most errors m out of P ^ 4.
 -- Assumes nothing.
 use Prim.Native.Nat.{ℕ, suc, _*_, _^_, _≤_}
-use mathlib.Core.Path.{subst}
-use mathlib.Core.Bool.{Bool}
+use mathlib.Core.Path.{_≡_, subst}
+use mathlib.Core.Bool.{Bool, true}
 use mathlib.Core.List.{List}
 use Rattle.field.specs.Base.{P}
 use Rattle.field.specs.Ext.{Ext}
 use Rattle.field.specs.ExtRing.{same-true}
 use Rattle.field.specs.Extension.{Extension}
+use Rattle.field.specs.Element.{words}
 use Rattle.gkr.specs.Run.{Frac}
+use Rattle.gkr.specs.Gkr
 use Rattle.gkr.specs.Sizes.{challenges}
+use Rattle.gkr.specs.Transcripts.{empty}
 use Rattle.domain.specs.Extension.{ext-domain}
+use Rattle.soundness.specs.Challenges.{Accepts, RootIs}
 use Rattle.soundness.specs.Tally.{tally, test}
 use Rattle.soundness.specs.Errors.{errors}
 use Rattle.soundness.specs.Provers.{Prover, Adaptive}
 use Rattle.soundness.specs.Counted.{decide-cheats, soundness}
+use Rattle.soundness.specs.Strategies.{Strategy, proof}
+use Rattle.soundness.specs.Interactive.{interactive}
+use Rattle.soundness.specs.Supplied.{given, supplied-soundness}
 use Rattle.soundness.specs.Whole.{everything, everything-distinct, everything-length}
 
 -- whether the prover cheats with these challenges
 abbrev pub cheats : (f : ℕ → Frac Ext) (m : ℕ) (σ : Prover Extension) (cs : List Ext) → Bool
 cheats f m σ cs = test (decide-cheats Extension ext-domain f m σ cs)
 
--- THE SOUNDNESS ERROR
-pub uniform-error : (f : ℕ → Frac Ext) (m : ℕ) (σ : Prover Extension) → Adaptive Extension f m σ
-    → let n = challenges (suc m) in tally everything n (cheats f m σ) * P ^ 4 ≤ errors m * (P ^ 4) ^ n
-uniform-error f m σ a =
-    subst (λ k. tally everything (challenges (suc m)) (cheats f m σ) * k ≤ errors m * k ^ challenges (suc m)) everything-length
-    (soundness Extension ext-domain same-true f m σ a everything everything-distinct)
+-- THE SOUNDNESS ERROR: of all sequences of challenges, no more than errors m out of P ^ 4
+abbrev pub Bounded : (m : ℕ) (p : List Ext → Bool) → Type 0
+Bounded m p = let n = challenges (suc m) in tally everything n p * P ^ 4 ≤ errors m * (P ^ 4) ^ n
+
+module _ (f : ℕ → Frac Ext) (m : ℕ) where
+  -- for every prover that does not look ahead
+  pub uniform-error : (σ : Prover Extension) → Adaptive Extension f m σ → Bounded m (cheats f m σ)
+  uniform-error σ a =
+      subst (λ k. tally everything (challenges (suc m)) (cheats f m σ) * k ≤ errors m * k ^ challenges (suc m)) everything-length
+      (soundness Extension ext-domain same-true f m σ a everything everything-distinct)
+
+  -- so for every interactive prover
+  pub interactive-error : (σ : Strategy Extension m) → Bounded m (cheats f m (proof Extension m σ))
+  interactive-error σ = uniform-error (proof Extension m σ) (interactive Extension f m σ)
+
+  -- and against the verifier that keeps a log of words, with the challenges supplied in order
+  pub supplied-error : (σ : Prover Extension) → Adaptive Extension f m σ → (p : List Ext → Bool)
+      → ((cs : List Ext) → p cs ≡ true → let S = given Extension words cs in Accepts Extension S f (Gkr.verify-gkr Extension S (suc m) (σ cs) empty) × ¬ RootIs Extension f (suc m) (σ cs .q0))
+      → Bounded m p
+  supplied-error σ a p h =
+      subst (λ k. tally everything (challenges (suc m)) p * k ≤ errors m * k ^ challenges (suc m)) everything-length
+      (supplied-soundness Extension words ext-domain same-true f m σ a p h everything everything-distinct)
