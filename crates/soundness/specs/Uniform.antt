@@ -32,21 +32,20 @@ cheats f m σ cs = test (decide-cheats Extension ext-domain f m σ cs)
 abbrev pub Bounded : (m : ℕ) (p : List Ext → Bool) → Type 0
 Bounded m p = let n = challenges (suc m) in tally everything n p * P ^ 4 ≤ errors m * (P ^ 4) ^ n
 
-module _ (f : ℕ → Frac Ext) (m : ℕ) where
-  -- for every prover that does not look ahead
-  pub uniform-error : (σ : Prover Extension) → Adaptive Extension f m σ → Bounded m (cheats f m σ)
-  uniform-error σ a =
-      subst (λ k. tally everything (challenges (suc m)) (cheats f m σ) * k ≤ errors m * k ^ challenges (suc m)) everything-length
-      (soundness Extension ext-domain same-true f m σ a everything everything-distinct)
+-- for every prover that does not look ahead
+pub uniform-error : (f : ℕ → Frac Ext) (m : ℕ) (σ : Prover Extension) → Adaptive Extension f m σ → Bounded m (cheats f m σ)
+uniform-error f m σ a =
+    subst (λ k. tally everything (challenges (suc m)) (cheats f m σ) * k ≤ errors m * k ^ challenges (suc m)) everything-length
+    (soundness Extension ext-domain same-true f m σ a everything everything-distinct)
 
-  -- so for every interactive prover
-  pub interactive-error : (σ : Strategy Extension m) → Bounded m (cheats f m (proof Extension m σ))
-  interactive-error σ = uniform-error (proof Extension m σ) (interactive Extension f m σ)
+-- so for every interactive prover
+pub interactive-error : (f : ℕ → Frac Ext) (m : ℕ) (σ : Strategy Extension m) → Bounded m (cheats f m (proof Extension m σ))
+interactive-error f m σ = uniform-error f m (proof Extension m σ) (interactive Extension f m σ)
 
-  -- and against the verifier that keeps a log of words, with the challenges supplied in order
-  pub supplied-error : (σ : Prover Extension) → Adaptive Extension f m σ → (p : List Ext → Bool)
-      → ((cs : List Ext) → p cs ≡ true → let S = given Extension words cs in Accepts Extension S f (Gkr.verify-gkr Extension S (suc m) (σ cs) empty) × ¬ RootIs Extension f (suc m) (σ cs .q0))
-      → Bounded m p
-  supplied-error σ a p h =
-      subst (λ k. tally everything (challenges (suc m)) p * k ≤ errors m * k ^ challenges (suc m)) everything-length
-      (supplied-soundness Extension words ext-domain same-true f m σ a p h everything everything-distinct)
+-- and against the verifier that keeps a log of words, with the challenges supplied in order
+pub supplied-error : (f : ℕ → Frac Ext) (m : ℕ) (σ : Prover Extension) → Adaptive Extension f m σ → (p : List Ext → Bool)
+    → ((cs : List Ext) → p cs ≡ true → let S = given Extension words cs in Accepts Extension S f (Gkr.verify-gkr Extension S (suc m) (σ cs) empty) × ¬ RootIs Extension f (suc m) (σ cs .q0))
+    → Bounded m p
+supplied-error f m σ a p h =
+    subst (λ k. tally everything (challenges (suc m)) p * k ≤ errors m * k ^ challenges (suc m)) everything-length
+    (supplied-soundness Extension words ext-domain same-true f m σ a p h everything everything-distinct)
