@@ -1,6 +1,6 @@
 -- At how many points two lines, or two cubics by their values at 0, 1, 2, 3, can agree.
 -- Assumes nothing.
-use mathlib.Core.Path.{_≡_, ap₂}
+use mathlib.Core.Path.{_≡_}
 use mathlib.Core.List.{List, [], _∷_}
 use native.Mathlib.Omega.{arith}
 use Rattle.ring.specs.Ring.{CommRing, num}

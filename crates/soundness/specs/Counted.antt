@@ -1,7 +1,7 @@
 -- THE SOUNDNESS ERROR: a prover that does not look ahead cheats with at most errors m out of as many challenges as there are, whatever lists it sends.
 -- Assumes nothing.
 use Prim.Native.Nat.{ℕ, suc, _≤_, _*_, _^_}
-use mathlib.Core.Path.{_≡_, sym, _∙_, ap, subst}
+use mathlib.Core.Path.{_≡_, _∙_, subst}
 use mathlib.Core.Bool.{Bool, true}
 use mathlib.Core.Logic.{_⊎_, inl, inr}
 use mathlib.Core.List.{List}
@@ -14,11 +14,11 @@ use Rattle.gkr.specs.Gkr
 use Rattle.gkr.specs.Gkr.{accepted, zero-rounds, layer-count, poly-count, zero-check, root-check, subround-count, layer-check}
 use Rattle.gkr.specs.Sizes as Sizes
 use Rattle.domain.specs.Field.{Domain}
-use Rattle.soundness.specs.Few.{Some, Distinct}
+use Rattle.soundness.specs.Few.{Distinct}
 use Rattle.soundness.specs.Decide.{decide-frac, decide-claims, decide-false-and, decide-both}
 use Rattle.soundness.specs.Steps.{Step, batching, subround, joining, most, true-claims, true-children, true-sum, bad}
 use Rattle.soundness.specs.StepLaws.{few}
-use Rattle.soundness.specs.Challenges.{Accepts, hit, Unlucky, RootIs}
+use Rattle.soundness.specs.Challenges.{Accepts, Unlucky, RootIs}
 use Rattle.soundness.specs.Sound.{sound}
 use Rattle.soundness.specs.Tally.{tally, test}
 use Rattle.soundness.specs.TallyLaws.{tested}

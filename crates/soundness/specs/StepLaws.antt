@@ -1,8 +1,8 @@
 -- Bad challenges are few: 1, 3 or 1 at a step, whatever is on the table.
 -- Assumes nothing.
 use Prim.Native.Nat.{ℕ, suc}
-use mathlib.Core.Path.{_≡_, sym, _∙_, ap, ap₂}
-use mathlib.Core.List.{List, [], _∷_}
+use mathlib.Core.Path.{_≡_, sym, _∙_, ap}
+use mathlib.Core.List.{[], _∷_}
 use native.Mathlib.Nat.{le-trans}
 use native.Mathlib.Omega.{arith}
 use Rattle.ring.specs.Ring.{CommRing, num}

@@ -12,7 +12,7 @@ use Rattle.field.specs.Ext.{Ext}
 use Rattle.field.specs.ExtRing.{same-true, Ext-path}
 use Rattle.field.specs.Extension.{Extension}
 use Rattle.field.specs.Element.{words}
-use Rattle.gkr.specs.Run.{Transcript, Frac, Proof}
+use Rattle.gkr.specs.Run.{Frac, Proof}
 use Rattle.gkr.specs.Gkr
 use Rattle.gkr.specs.Transcripts.{mark, Words, empty, Source, drawing}
 use Rattle.domain.specs.Extension.{ext-domain}

@@ -1,23 +1,20 @@
 -- What an accepted verdict says, from the soundness of the model; live mode by its refusal 27, and the rows by their evaluation.
 -- Assumes nothing.
-use mathlib.Core.Path.{_≡_, refl, sym, _∙_, ap, subst}
-use mathlib.Core.Bool.{Bool, true, false}
-use mathlib.Core.Logic.{_⊎_, inl, inr}
+use mathlib.Core.Path.{_≡_, sym, _∙_, ap, subst}
+use mathlib.Core.Bool.{true, false}
+use mathlib.Core.Logic.{_⊎_}
 use mathlib.Core.List.{List, _++_, map, append-assoc}
-use Prim.Native.Nat.{ℕ, zero, suc, _-_, _^_}
+use Prim.Native.Nat.{ℕ, zero, suc, _-_}
 use native.Mathlib.Omega.{arith}
 use lib.ListN.{length, drop, length-map}
 use Rattle.field.specs.Ext as E
-use Rattle.field.specs.ExtRing.{ExtRing}
 use Rattle.field.specs.Extension.{Extension}
 use Rattle.field.specs.Element.{words}
 use Rattle.field.specs.declared.Ext.{Ext}
 use Rattle.gkr.specs.Run.{Frac, Proof}
 use Rattle.gkr.specs.Transcripts.{mark, Words, empty, Source}
 use Rattle.gkr.specs.Gkr as Gkr
-use Rattle.domain.specs.Rows.{ZeroRow}
 use Rattle.soundness.specs.FewLaws.{onto, onto-right}
-use Rattle.soundness.specs.Fractions.{SumsToZero}
 use Rattle.soundness.specs.Steps.{bad}
 use Rattle.soundness.specs.Challenges as Challenges
 use Rattle.soundness.specs.Challenges.{Accepts, RootIs}
@@ -29,7 +26,7 @@ use Rattle.refusal.specs.Fronts.{over}
 use Rattle.refusal.specs.declared.Refusal.the-variants.{ZeroRoot}
 use Rattle.stored.specs.Parse.{layerCount, entryCount, proofOf}
 use Rattle.stored.specs.ParseLaws.{claims-count, entries-count}
-use Rattle.verifier_round.specs.declared.Verdict.the-variants.{Accepted, Refused}
+use Rattle.verifier_round.specs.declared.Verdict.the-variants.{Accepted}
 use Rattle.verifier_round.specs.Verdicts.{loggedBy}
 use Rattle.verifier.specs.Verified.{Asked, Lent, verified}
 use Rattle.verifier.specs.Companions.{in-mode, ZeroRooted}

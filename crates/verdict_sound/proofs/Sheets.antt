@@ -37,7 +37,7 @@ use Rattle.verifier.specs.Verified.{Asked, Lent, fronts, verified}
 use Rattle.evaluation.specs.declared.Evaluation.the-variants.{Done}
 use Rattle.evaluation.specs.declared.Evaluation.the-variants as Ends
 use Rattle.evaluation.specs.Evaluated.{told, tests, valued, evaluated}
-use Rattle.verdict_sound.specs.Says.{sourceOf, stated, Unlucky, Checked, SheetMatches, SheetSound, SheetLive}
+use Rattle.verdict_sound.specs.Says.{sourceOf, stated, Unlucky, SheetMatches, SheetSound, SheetLive}
 use Rattle.verdict_sound.proofs.Runs.{not-accepted, opened}
 use Rattle.verdict_sound.proofs.Saying.{accepted-sound, accepted-live}
 
@@ -54,10 +54,10 @@ some-rounds a b p q h e = no-rounds (sourceOf a) a p q (a .rounds) e (subst (λ 
 
 -- WHAT AN EVALUATION ANSWERS
 
-not-done : (n : ℕ) (p q : Ext) (r : Refusal) → Ends.Refused r ≡ Done n p q → ⊥
+pub not-done : (n : ℕ) (p q : Ext) (r : Refusal) → Ends.Refused r ≡ Done n p q → ⊥
 not-done n p q r h = let z : _≡_ {A = ℕ} 0 1 = cc in omega arith
 
-rounds-told : (k n : ℕ) (v : Frac E.Ext) (p q : Ext) → told k v ≡ Done n p q → k ≡ n
+pub rounds-told : (k n : ℕ) (v : Frac E.Ext) (p q : Ext) → told k v ≡ Done n p q → k ≡ n
 rounds-told k n v p q h = cc
 
 values-told : (k n : ℕ) (v : Frac E.Ext) (p q : Ext) → told k v ≡ Done n p q → (p ≡ enc (v .p)) × (q ≡ enc (v .q))
