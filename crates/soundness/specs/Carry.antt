@@ -16,7 +16,7 @@ use Rattle.gkr.specs.Tree
 use Rattle.gkr.specs.Sumcheck
 use Rattle.gkr.specs.Gkr
 use Rattle.gkr.specs.Gkr.{accepted, zero-rounds, layer-count, poly-count, zero-check, root-check, subround-count, layer-check}
-use Rattle.soundness.specs.Steps.{next-claim}
+use Rattle.soundness.specs.Steps.{batched, next-claim}
 use Rattle.soundness.specs.Challenges.{Accepts}
 
 -- logs of S become logs of T, with the same challenges
@@ -28,12 +28,21 @@ pub record Carries {A : Type 0} (S T : Transcript A) : Type 0 where
 
 module _ (F : Field) (S T : Transcript (F .ring .carrier)) (M : Carries S T) where
   open Field F using (ring as K, same)
-  open CommRing (F .ring) using (carrier as R, add as _+_, mul as _*_, nil, one)
+  open CommRing (F .ring) using (carrier as R, mul as _*_, nil, one)
 
-  infixl 65 _+_
   infixl 70 _*_
   open Carries M using (to, observes, draws, drawns)
 
+  abbrev reduce : Claims R → R → Frac R
+  reduce = Tree.reduce-to-single-evaluation K
+
+  abbrev sum : Claims R → Frac R
+  sum = Tree.compute-recursive-relations K
+
+  abbrev check : (U : Transcript R) → List (Cubic R) → List R → R → R → U .Log → Sumcheck.Checked F U
+  check U = Sumcheck.verify-gkr-sumcheck F U
+
+  -- a verdict over S as one over T
   abbrev pub carried : Gkr.Verdict F S → Gkr.Verdict F T
   carried (accepted v xi t) = accepted v xi (to t)
   carried zero-rounds = zero-rounds
@@ -59,18 +68,18 @@ module _ (F : Field) (S T : Transcript (F .ring .carrier)) (M : Carries S T) whe
   abbrev checked : Sumcheck.Checked F S → Sumcheck.Checked F T
   checked C = record { claim = C .claim; point = C .point; eq = C .eq; log = to (C .log) }
 
-  check-to : (polys : List (Cubic R)) (left : List R) (claim a : R) (t : S .Log) → Sumcheck.verify-gkr-sumcheck F T polys left claim a (to t) ≡ checked (Sumcheck.verify-gkr-sumcheck F S polys left claim a t)
+  check-to : (polys : List (Cubic R)) (left : List R) (claim a : R) (t : S .Log) → check T polys left claim a (to t) ≡ checked (check S polys left claim a t)
   unfolding Sumcheck.verify-gkr-sumcheck
   check-to [] left claim a t = refl
   check-to (m ∷ polys) [] claim a t = refl
-  check-to (m ∷ polys) (xi ∷ left) claim a t =
+  check-to (m ∷ polys) (x ∷ left) claim a t =
       let t₁ = Sumcheck.observe-cubic F S m t in
-      let r = S .draw t₁ in
-      let go : R → Sumcheck.Checked F T → Sumcheck.Checked F T = λ x C. record { claim = C .claim; point = x ∷ C .point; eq = C .eq; log = C .log } in
-      let run : R → T .Log → Sumcheck.Checked F T = λ x u. Sumcheck.verify-gkr-sumcheck F T polys left (next-claim F claim m x) (a * Forms.agree K xi x) u in
+      let rho = S .draw t₁ in
+      let go : R → Sumcheck.Checked F T → Sumcheck.Checked F T = λ rho C. record { claim = C .claim; point = rho ∷ C .point; eq = C .eq; log = C .log } in
+      let run : R → T .Log → Sumcheck.Checked F T = λ rho u. check T polys left (next-claim F claim m rho) (a * Forms.agree K x rho) u in
       ap (λ u. go (T .draw u) (run (T .draw u) (T .drawn u))) (cubic-to m t)
-      ∙ ap₂ (λ x u. go x (run x u)) (sym (draws t₁)) (sym (drawns t₁))
-      ∙ ap (go r) (check-to polys left (next-claim F claim m r) (a * Forms.agree K xi r) (S .drawn t₁))
+      ∙ ap₂ (λ rho u. go rho (run rho u)) (sym (draws t₁)) (sym (drawns t₁))
+      ∙ ap (go rho) (check-to polys left (next-claim F claim m rho) (a * Forms.agree K x rho) (S .drawn t₁))
 
   rounds-to : (polyss : List (List (Cubic R))) (cs : List (Claims R)) (v : Frac R) (xi : List R) (t : S .Log) → Gkr.rounds F T polyss cs v xi (to t) ≡ carried (Gkr.rounds F S polyss cs v xi t)
   unfolding Gkr.rounds
@@ -78,37 +87,41 @@ module _ (F : Field) (S T : Transcript (F .ring .carrier)) (M : Carries S T) whe
   rounds-to (polys ∷ polyss) [] v xi t = refl
   rounds-to (polys ∷ polyss) (c ∷ cs) v xi t =
       let lambda = S .draw t in
-      let C = Sumcheck.verify-gkr-sumcheck F S polys xi (v .p + lambda * v .q) one (S .drawn t) in
+      let C = check S polys xi (batched F v lambda) one (S .drawn t) in
       let t₁ = Gkr.observe-layer-claims F S c (C .log) in
       let mu = S .draw t₁ in
+      let round = length xi in
+      let counts = eqb (length polys) round in
       let expected = RoundSum.cross K lambda c * C .eq in
-      let after : R → T .Log → Gkr.Verdict F T = λ x u. Gkr.rounds F T polyss cs (Tree.reduce-to-single-evaluation K c x) (x ∷ C .point) u in
+      let holds = same expected (C .claim) in
+      let late = subround-count round round (length polys) (to (S .drawn t)) in
+      let after : R → T .Log → Gkr.Verdict F T = λ x u. Gkr.rounds F T polyss cs (reduce c x) (x ∷ C .point) u in
       let body : R → T .Log → Sumcheck.Checked F T → Gkr.Verdict F T = λ x u D.
       let u₁ = Gkr.observe-layer-claims F T c (D .log) in
-      cond (eqb (length polys) (length xi))
-      (cond (same (RoundSum.cross K x c * D .eq) (D .claim)) (Gkr.rounds F T polyss cs (Tree.reduce-to-single-evaluation K c (T .draw u₁)) (T .draw u₁ ∷ D .point) (T .drawn u₁)) (layer-check (length xi) (RoundSum.cross K x c * D .eq) (D .claim) u₁))
-      (subround-count (length xi) (length xi) (length polys) u) in
+      cond counts
+      (cond (same (RoundSum.cross K x c * D .eq) (D .claim)) (Gkr.rounds F T polyss cs (reduce c (T .draw u₁)) (T .draw u₁ ∷ D .point) (T .drawn u₁)) (layer-check round (RoundSum.cross K x c * D .eq) (D .claim) u₁))
+      (subround-count round round (length polys) u) in
       let around : Gkr.Verdict F T → Gkr.Verdict F T = λ w.
-      cond (eqb (length polys) (length xi)) (cond (same expected (C .claim)) w (layer-check (length xi) expected (C .claim) (to t₁))) (subround-count (length xi) (length xi) (length polys) (to (S .drawn t))) in
-      ap₂ (λ x u. body x u (Sumcheck.verify-gkr-sumcheck F T polys xi (v .p + x * v .q) one u)) (sym (draws t)) (sym (drawns t))
-      ∙ ap (body lambda (to (S .drawn t))) (check-to polys xi (v .p + lambda * v .q) one (S .drawn t))
-      ∙ ap (λ u. cond (eqb (length polys) (length xi)) (cond (same expected (C .claim)) (after (T .draw u) (T .drawn u)) (layer-check (length xi) expected (C .claim) u)) (subround-count (length xi) (length xi) (length polys) (to (S .drawn t)))) (claims-to c (C .log))
+      cond counts (cond holds w (layer-check round expected (C .claim) (to t₁))) late in
+      ap₂ (λ x u. body x u (check T polys xi (batched F v x) one u)) (sym (draws t)) (sym (drawns t))
+      ∙ ap (body lambda (to (S .drawn t))) (check-to polys xi (batched F v lambda) one (S .drawn t))
+      ∙ ap (λ u. cond counts (cond holds (after (T .draw u) (T .drawn u)) (layer-check round expected (C .claim) u)) late) (claims-to c (C .log))
       ∙ ap₂ (λ x u. around (after x u)) (sym (draws t₁)) (sym (drawns t₁))
-      ∙ ap around (rounds-to polyss cs (Tree.reduce-to-single-evaluation K c mu) (mu ∷ C .point) (S .drawn t₁))
-      ∙ carried-tests (eqb (length polys) (length xi)) (same expected (C .claim)) (Gkr.rounds F S polyss cs (Tree.reduce-to-single-evaluation K c mu) (mu ∷ C .point) (S .drawn t₁)) (layer-check (length xi) expected (C .claim) t₁) (subround-count (length xi) (length xi) (length polys) (S .drawn t))
+      ∙ ap around (rounds-to polyss cs (reduce c mu) (mu ∷ C .point) (S .drawn t₁))
+      ∙ carried-tests counts holds (Gkr.rounds F S polyss cs (reduce c mu) (mu ∷ C .point) (S .drawn t₁)) (layer-check round expected (C .claim) t₁) (subround-count round round (length polys) (S .drawn t))
 
   root-to : (q0 : R) (c : Claims R) (cs : List (Claims R)) (polyss : List (List (Cubic R))) (t : S .Log) → Gkr.root F T q0 c cs polyss (to t) ≡ carried (Gkr.root F S q0 c cs polyss t)
   unfolding Gkr.root
   root-to q0 c cs polyss t =
       let t₁ = Gkr.observe-layer-claims F S c (S .observe q0 t) in
       let mu = S .draw t₁ in
-      let after : R → T .Log → Gkr.Verdict F T = λ x u. Gkr.rounds F T polyss cs (Tree.reduce-to-single-evaluation K c x) (x ∷ []) u in
+      let after : R → T .Log → Gkr.Verdict F T = λ x u. Gkr.rounds F T polyss cs (reduce c x) (x ∷ []) u in
       let around : Gkr.Verdict F T → T .Log → Gkr.Verdict F T = λ w u.
-      cond (same (Tree.compute-recursive-relations K c .p) nil) (cond (same (Tree.compute-recursive-relations K c .q) q0) w (root-check q0 (Tree.compute-recursive-relations K c .q) u)) (zero-check (Tree.compute-recursive-relations K c .p) u) in
+      cond (same (sum c .p) nil) (cond (same (sum c .q) q0) w (root-check q0 (sum c .q) u)) (zero-check (sum c .p) u) in
       ap (λ u. around (after (T .draw u) (T .drawn u)) u) (ap (Gkr.observe-layer-claims F T c) (sym (observes q0 t)) ∙ claims-to c (S .observe q0 t))
       ∙ ap₂ (λ x u. around (after x u) (to t₁)) (sym (draws t₁)) (sym (drawns t₁))
-      ∙ ap (λ w. around w (to t₁)) (rounds-to polyss cs (Tree.reduce-to-single-evaluation K c mu) (mu ∷ []) (S .drawn t₁))
-      ∙ carried-tests (same (Tree.compute-recursive-relations K c .p) nil) (same (Tree.compute-recursive-relations K c .q) q0) (Gkr.rounds F S polyss cs (Tree.reduce-to-single-evaluation K c mu) (mu ∷ []) (S .drawn t₁)) (root-check q0 (Tree.compute-recursive-relations K c .q) t₁) (zero-check (Tree.compute-recursive-relations K c .p) t₁)
+      ∙ ap (λ w. around w (to t₁)) (rounds-to polyss cs (reduce c mu) (mu ∷ []) (S .drawn t₁))
+      ∙ carried-tests (same (sum c .p) nil) (same (sum c .q) q0) (Gkr.rounds F S polyss cs (reduce c mu) (mu ∷ []) (S .drawn t₁)) (root-check q0 (sum c .q) t₁) (zero-check (sum c .p) t₁)
 
   counted-to : (m : ℕ) (q0 : R) (cs : List (Claims R)) (polyss : List (List (Cubic R))) (t : S .Log) → Gkr.counted F T m q0 cs polyss (to t) ≡ carried (Gkr.counted F S m q0 cs polyss t)
   unfolding Gkr.counted

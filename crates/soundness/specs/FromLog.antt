@@ -178,7 +178,9 @@ module _ (F : Field) where
         let rest = layers-logged f polyss cs (reduce c mu) (mu ∷ C .point) (drawn t₂) (suc-inj n) (holds .1)
         (subst (λ j. At (drawn t₂) (layers-read h (suc j) (reduce c mu) (mu ∷ C .point))) p (sampled t₂ (on (C .point) c) here)) in
         let subs = sub .1 (before-claims c (C .log) (kept .before-drawing t₂ end (rest .1))) in
-        ((logged (batching h xi v) t _ at refl (subs .1), all-append Logged (subround-challenges F S h xi lambda [] polys xi claim (drawn t)) _ (subs .0) (logged (joining h (C .point) c) t₂ (on (C .point) c) here refl (rest .1), rest .0)), kept .before-drawing t end (subs .1))
+        let last = logged (joining h (C .point) c) t₂ (on (C .point) c) here refl (rest .1) in
+        let subrounds = subround-challenges F S h xi lambda [] polys xi claim (drawn t) in
+        ((logged (batching h xi v) t _ at refl (subs .1), all-append Logged subrounds _ (subs .0) (last, rest .0)), kept .before-drawing t end (subs .1))
 
     root-logged : (f : ℕ → Frac R) (m : ℕ) (q0 : R) (cs : List (Claims R)) (polyss : List (List (Cubic R))) (t : Log) → Ends f (Gkr.counted F S m q0 cs polyss t)
         → At t (table m) → All Logged (root-challenges F S q0 cs polyss t)

@@ -1,5 +1,6 @@
--- The verifier is sound. Definitions: Few, Steps, Challenges, Slips, Tally, Errors, Provers, Strategies, Fractions, Kept. The theorems: Sound (every proof, every transcript), StepLaws
--- (bad challenges are few), Unique, Counted (every prover that does not look ahead), Interactive, FromLog and WordLog (challenges that are any function of the log), Extension and Uniform (over the extension).
+-- The verifier is sound. Definitions: Few, Steps, Challenges, Slips, Tally, Errors, Provers, Strategies, Fractions, Kept.
+-- Theorems: Sound (every proof and transcript), StepLaws (bad challenges are few), Unique, Counted (every prover that does not look ahead), Interactive,
+-- FromLog and WordLog (challenges that are any function of the log), Extension and Uniform (over the extension). The rest is how they are proved.
 pub mod Few
 pub mod FewLaws
 pub mod Roots
