@@ -31,7 +31,7 @@ use Rattle.verifier_round.specs.Verdicts.{loggedBy}
 use Rattle.verifier.specs.Verified.{Asked, Lent, verified}
 use Rattle.verifier.specs.Companions.{in-mode, ZeroRooted}
 use Rattle.verifier.proofs.Modes.{live-verifying}
-use Rattle.verdict_sound.specs.Says.{sourceOf, stated, Matches, Unlucky, AcceptedSound, AcceptedLive, DrawnSound}
+use Rattle.verdict_sound.specs.Says.{sourceOf, stated, Matches, AcceptedSound, AcceptedLive, BadInLog, DrawnSound}
 use Rattle.verdict_sound.proofs.Runs.{not-accepted, opened, log-left, run-accepts}
 
 -- OF n ROUNDS, over any source and proof
@@ -69,14 +69,10 @@ drew-over ch u log buffer d =
     let r = drop (length log) buffer in
     (d .0 ++ r, ap (λ l. l ++ r) (d .1) ∙ append-assoc (u .log) (c ++ d .0) r ∙ ap (λ l. u .log ++ l) (append-assoc c (d .0) r))
 
-drawn-says : (a : Asked) (b : Lent) (f : ℕ → Frac E.Ext) → Matches a b f
-    → RootIs Extension f (a .rounds) (stated a .q0) ⊎ ((u : Words) × DrewAt (sourceOf a) u (verified a b .buffers .log) × bad Extension f (at-log (a .rounds) u) (sourceOf a u))
+drawn-says : (a : Asked) (b : Lent) (f : ℕ → Frac E.Ext) → Matches a b f → RootIs Extension f (a .rounds) (stated a .q0) ⊎ BadInLog at-log a b f
 drawn-says a b f h =
     onto-right (run-drawn (sourceOf a) (stated a) f (a .rounds) (run-accepts a b f h))
     (λ k. (k .0, subst (DrewAt (sourceOf a) (k .0)) (sym (log-left a b _ _ h)) (drew-over (sourceOf a) (k .0) _ (b .log) (k .1)), k .2))
-
-pub drawn-sound : DrawnSound
-drawn-sound = record { table = at-log; few = λ f n u. three-bad f (at-log n u); says = drawn-says }
 
 -- LIVE
 
@@ -101,3 +97,13 @@ q0-not-zero a b f l h z = let c = counts a b f h in not-zero-rooted a b _ _ l h 
 
 pub accepted-live : AcceptedLive
 accepted-live a b f l h = onto (accepted-sound a b f h) (live-rows f (a .rounds) (stated a .q0) (q0-not-zero a b f l h))
+
+-- WHATEVER THE SOURCE
+
+pub drawn-sound : DrawnSound
+drawn-sound = record {
+  table = at-log;
+  few = λ f n u. three-bad f (at-log n u);
+  sound = drawn-says;
+  live = λ a b f l h. onto (drawn-says a b f h) (live-rows f (a .rounds) (stated a .q0) (q0-not-zero a b f l h));
+}

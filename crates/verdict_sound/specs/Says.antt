@@ -63,13 +63,22 @@ AcceptedLive =
     (a : Asked) (b : Lent) (f : ℕ → Frac E.Ext) → a .modes .live ≡ true → Matches a b f
     → ((¬ ZeroRow ExtRing f (2 ^ a .rounds)) × SumsToZero ExtRing f (2 ^ a .rounds)) ⊎ Unlucky a f
 
--- WHATEVER THE SOURCE of the challenges, and be it a hash of the log: a log fixes at most three values that are bad at it; and where a call accepts with the values of the rows f,
--- the root is (0, q0), or the log that it left shows a challenge that is bad at the log u before it
+-- what a log of n rounds puts on the table
+abbrev pub Table : Type 0
+Table = (n : ℕ) (u : Words) → Step E.Ext
+
+-- the log that the call left shows a challenge that is bad at what the log u before it puts on the table
+abbrev pub BadInLog : Table → (a : Asked) (b : Lent) (f : ℕ → Frac E.Ext) → Type 0
+BadInLog table a b f = (u : Words) × DrewAt (sourceOf a) u (verified a b .buffers .log) × bad Extension f (table (a .rounds) u) (sourceOf a u)
+
+-- WHATEVER THE SOURCE of the challenges, and be it a hash of the log: a log fixes at most three values that are bad at it; and a call that accepts with the values
+-- of the rows f says of them what it says above, or shows a bad challenge in its log
 pub record DrawnSound : Type 0 where
-  pub table : (n : ℕ) (u : Words) → Step E.Ext
+  pub table : Table
   pub few : (f : ℕ → Frac E.Ext) (n : ℕ) (u : Words) → AtMost 3 (bad Extension f (table n u))
-  pub says : (a : Asked) (b : Lent) (f : ℕ → Frac E.Ext) → Matches a b f
-      → RootIs Extension f (a .rounds) (stated a .q0) ⊎ ((u : Words) × DrewAt (sourceOf a) u (verified a b .buffers .log) × bad Extension f (table (a .rounds) u) (sourceOf a u))
+  pub sound : (a : Asked) (b : Lent) (f : ℕ → Frac E.Ext) → Matches a b f → RootIs Extension f (a .rounds) (stated a .q0) ⊎ BadInLog table a b f
+  pub live : (a : Asked) (b : Lent) (f : ℕ → Frac E.Ext) → a .modes .live ≡ true → Matches a b f
+      → ((¬ ZeroRow ExtRing f (2 ^ a .rounds)) × SumsToZero ExtRing f (2 ^ a .rounds)) ⊎ BadInLog table a b f
 
 -- A SHEET: the call accepts, and evaluating the sheet's rows at the point that it wrote gives its two claims
 pub record Checked (a : Asked) (b : Lent) (rows : List ℕ) : Type 0 where
