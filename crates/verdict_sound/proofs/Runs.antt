@@ -26,9 +26,9 @@ use Rattle.refusal.specs.Fronts.{over}
 use Rattle.refusal.specs.Tests.{Tested, passed, refused, firstOf}
 use Rattle.refusal.specs.declared.Refusal.{Refusal}
 use Rattle.verifier_round.specs.declared.Verdict.the-variants.{Accepted, Refused}
-use Rattle.verifier_round.specs.Verdicts.{Model, answerOf, pointOf, loggedBy}
-use Rattle.verifier.specs.Verified.{Asked, Lent, tests, fronts, laid, verified}
-use Rattle.verdict_sound.specs.Says.{sourceOf, stated, Matches}
+use Rattle.verifier_round.specs.Verdicts.{Model, loggedBy}
+use Rattle.verifier.specs.Verified.{Asked, Lent, tests, ended, fronts, laid, verified}
+use Rattle.verdict_sound.specs.Says.{sourceOf, stated, Tells, Matches}
 
 -- THE POINT WRITTEN
 
@@ -60,14 +60,14 @@ denom-of p q p' q' h = cc
 
 -- THE MODEL'S RUN
 
-module _ (ch : Source E.Ext) (π : Proof E.Ext) (f : ℕ → Frac E.Ext) (pt : List ℕ) where
+module _ (ch : Source E.Ext) (π : Proof E.Ext) (f : ℕ → Frac E.Ext) (b : Lent) where
   -- the answer and the point are those of a verdict w over n rounds
   abbrev Answers : (n : ℕ) → Model ch → Type 0
-  Answers n w = let v = Tree.value ExtRing f (cells (over (pointOf ch w) pt) 0 n) in answerOf ch w ≡ Accepted (enc (v .p)) (enc (v .q))
+  Answers n w = Tells n (laid (ended ch w) b) f
 
   values : (n : ℕ) (v : Frac E.Ext) (zs : List E.Ext) (t : Drawing ch .Log) → length zs ≡ n → Answers n (accepted v zs t) → v ≡ Tree.value ExtRing f zs
   values n v zs t l h =
-      let at : cells (over (pointWords zs) pt) 0 n ≡ zs = ap (cells (over (pointWords zs) pt) 0) (sym l) ∙ point-front zs _ in
+      let at : cells (over (pointWords zs) (b .point)) 0 n ≡ zs = ap (cells (over (pointWords zs) (b .point)) 0) (sym l) ∙ point-front zs _ in
       let p = encoded-same _ _ (numer-of _ _ _ _ h) in
       let q = encoded-same _ _ (denom-of _ _ _ _ h) in
       (λ i. record { p = p i; q = q i }) ∙ ap (Tree.value ExtRing f) at
@@ -109,5 +109,4 @@ module _ (a : Asked) (b : Lent) where
   pub run-accepts : (f : ℕ → Frac E.Ext) → Matches a b f → Accepts Extension (Drawing (sourceOf a)) f (Gkr.verify-gkr Extension (Drawing (sourceOf a)) (a .rounds) (stated a) empty)
   unfolding verified
   run-accepts f h =
-      accepts (sourceOf a) (stated a) f (b .point) (a .rounds) _ refl
-      (subst (λ w. let o = laid (fronts a w) b in let v = Tree.value ExtRing f (cells (o .buffers .point) 0 (a .rounds)) in o .answer ≡ Accepted (enc (v .p)) (enc (v .q))) (opened _ _ h) h)
+      accepts (sourceOf a) (stated a) f b (a .rounds) _ refl (subst (λ w. Tells (a .rounds) (laid (fronts a w) b) f) (opened _ _ h) h)

@@ -28,7 +28,7 @@ use Rattle.transcript.specs.Source.{supplied}
 use Rattle.stored.specs.Parse.{proofOf}
 use Rattle.stored.specs.Elements.{decoded}
 use Rattle.verifier_round.specs.declared.Verdict.the-variants.{Accepted}
-use Rattle.verifier.specs.Verified.{Asked, Lent, needed, verified}
+use Rattle.verifier.specs.Verified.{Asked, Lent, Outcome, needed, verified}
 use Rattle.sizes.specs.Sizes.{rowCount}
 use Rattle.prover_tree.specs.Nodes.{node}
 use Rattle.evaluation.specs.declared.Evaluation.the-variants.{Done}
@@ -42,12 +42,13 @@ sourceOf a = supplied (needed a)
 abbrev pub stated : Asked → Proof E.Ext
 stated a = decoded (proofOf (a .proof))
 
--- ACCEPTED, and the claims answered are the values of the rows f at the point written
+-- an outcome of n rounds: accepted, and the claims answered are the values of the rows f at the point written
+abbrev pub Tells : (n : ℕ) (o : Outcome) (f : ℕ → Frac E.Ext) → Type 0
+Tells n o f = let v = Tree.value ExtRing f (cells (o .buffers .point) 0 n) in o .answer ≡ Accepted (enc (v .p)) (enc (v .q))
+
+-- THE CALL ACCEPTS with the values of the rows f
 abbrev pub Matches : (a : Asked) (b : Lent) (f : ℕ → Frac E.Ext) → Type 0
-Matches a b f =
-    let o = verified a b in
-    let v = Tree.value ExtRing f (cells (o .buffers .point) 0 (a .rounds)) in
-    o .answer ≡ Accepted (enc (v .p)) (enc (v .q))
+Matches a b f = Tells (a .rounds) (verified a b) f
 
 -- one of the challenges of the run was bad for the rows f
 abbrev pub Unlucky : (a : Asked) (f : ℕ → Frac E.Ext) → Type 0
