@@ -2,6 +2,7 @@
 -- Assumes nothing.
 use Prim.Native.Nat.{ℕ, zero, suc, _+_}
 use mathlib.Core.Path.{_≡_, refl, sym, _∙_, ap, ap₂}
+use mathlib.Core.Logic.{_⊎_, inl, inr}
 use mathlib.Core.List.{List, [], _∷_, _++_}
 use native.Mathlib.Nat.{suc-inj, suc-ne-zero}
 use native.Mathlib.Omega.{arith}
@@ -17,7 +18,8 @@ use Rattle.soundness.specs.Steps.{Step, batching, subround, joining, bat
 use Rattle.soundness.specs.Challenges.{subround-challenges, layer-challenges, root-challenges, challenges}
 use Rattle.soundness.specs.Errors.{layer-places, places}
 use Rattle.soundness.specs.ErrorLaws.{places-length}
-use Rattle.soundness.specs.Provers.{along, coins, Adaptive}
+use Rattle.soundness.specs.Provers.{along, Shaped, coins, Prover, Convinces, Adaptive}
+use Rattle.soundness.specs.Shape.{accepted-shape}
 use Rattle.soundness.specs.Strategies.{Sub, Layers, Strategy, tell, tells, proof}
 
 module _ (F : Field) where
@@ -138,3 +140,17 @@ module _ (F : Field) where
   -- AN INTERACTIVE PROVER DOES NOT LOOK AHEAD
   pub interactive : (f : ℕ → Frac R) (m : ℕ) (σ : Strategy F m) → Adaptive F f m (proof F m σ)
   interactive f m σ = record { table = table m σ; follows = λ cs l a. same-run m σ cs (l ∙ sym (places-length m)) }
+
+  -- nor does one that sends, where it convinces, what an interactive prover sends
+  pub agreeing : (f : ℕ → Frac R) (m : ℕ) (σ : Prover F) (τ : Strategy F m)
+      → ((cs : List R) → Convinces F f m σ cs → σ cs ≡ proof F m τ cs) → Adaptive F f m σ
+  agreeing f m σ τ h = record { table = table m τ; follows = λ cs l a. ap (λ π. challenges F (coins F) π cs) (h cs a) ∙ same-run m τ cs (l ∙ sym (places-length m)) }
+
+  -- LISTS OF WRONG LENGTHS, in place of what an interactive prover sends, whenever the prover likes: they are turned away
+  pub any-lengths : (f : ℕ → Frac R) (m : ℕ) (σ : Prover F) (τ : Strategy F m)
+      → ((cs : List R) → (σ cs ≡ proof F m τ cs) ⊎ (¬ Shaped m (σ cs))) → Adaptive F f m σ
+  any-lengths f m σ τ h = agreeing f m σ τ (λ cs a. right cs a (h cs))
+    where
+      right : (cs : List R) → Convinces F f m σ cs → (σ cs ≡ proof F m τ cs) ⊎ (¬ Shaped m (σ cs)) → σ cs ≡ proof F m τ cs
+      right cs a (inl e) = e
+      right cs a (inr n) = absurd (n (accepted-shape F (coins F) f m (σ cs) cs a))

@@ -2,13 +2,14 @@
 -- Assumes nothing.
 use Prim.Native.Nat.{ℕ, suc}
 use mathlib.Core.Path.{_≡_}
-use mathlib.Core.List.{List, [], _∷_}
+use mathlib.Core.List.{List, [], _∷_, map}
 use lib.ListN.{length, getD, drop}
 use Rattle.ring.specs.Ring.{CommRing}
 use Rattle.ring.specs.Field.{Field}
 use Rattle.gkr.specs.Run.{Transcript, Frac, Proof}
 use Rattle.gkr.specs.Gkr
 use Rattle.gkr.specs.Sizes as Sizes
+use Rattle.gkr.specs.Count.{lengths}
 use Rattle.soundness.specs.Steps.{Step, Drawn}
 use Rattle.soundness.specs.Challenges.{challenges, Accepts, RootIs}
 
@@ -16,6 +17,10 @@ use Rattle.soundness.specs.Challenges.{challenges, Accepts, RootIs}
 abbrev pub along : {Q A : Type 0} (table : (before : List A) → Q) (cs : List A) → List (Drawn Q A)
 along table [] = []
 along table (x ∷ cs) = record { step = table []; challenge = x } ∷ along (λ before. table (x ∷ before)) cs
+
+-- the lists of a proof have the lengths that the verifier of suc m rounds asks for
+abbrev pub Shaped : {A : Type 0} (m : ℕ) (π : Proof A) → Type 0
+Shaped m π = (length (π .claims) ≡ suc m) × (map length (π .polys) ≡ lengths m 1)
 
 module _ (F : Field) where
   open CommRing (F .ring) using (carrier as R, nil)

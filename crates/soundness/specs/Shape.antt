@@ -15,9 +15,11 @@ use Rattle.gkr.specs.Run.{Transcript, Frac, Cubic, Proof}
 use Rattle.gkr.specs.Tree
 use Rattle.gkr.specs.Sumcheck
 use Rattle.gkr.specs.Gkr
+use Rattle.gkr.specs.Count
 use Rattle.soundness.specs.Steps.{Step, Drawn, most, batched}
 use Rattle.soundness.specs.Challenges.{subround-challenges, layer-challenges, root-challenges, challenges, Accepts}
 use Rattle.soundness.specs.Errors.{layer-places, places}
+use Rattle.soundness.specs.Provers.{Shaped}
 use Rattle.soundness.specs.Sound.{passed}
 
 -- how many challenges can be bad at each of these
@@ -97,3 +99,34 @@ module _ (F : Field) (S : Transcript (F .ring .carrier)) where
   pub accepted-lengths : (f : ℕ → Frac R) (m : ℕ) (π : Proof R) (t : Log) → Accepts F S f (Gkr.verify-gkr F S (suc m) π t) → (length (π .claims) ≡ suc m) × (length (π .polys) ≡ m)
   unfolding Gkr.verify-gkr
   accepted-lengths f m π t g = counted-lengths f m (π .q0) (π .claims) (π .polys) t g
+
+  -- each layer after layer 0 has one sub-round more than the one before it
+  layer-lengths : (f : ℕ → Frac R) (polyss : List (List (Cubic R))) (cs : List (Claims R)) (v : Frac R) (xi : List R) (t : Log) → length polyss ≡ length cs
+      → Accepts F S f (Gkr.rounds F S polyss cs v xi t) → map length polyss ≡ Count.lengths (length polyss) (length xi)
+  unfolding Gkr.rounds Count.lengths
+  layer-lengths f [] [] v xi t n g = refl
+  layer-lengths f [] (c ∷ cs) v xi t n g = absurd (suc-ne-zero _ (sym n))
+  layer-lengths f (polys ∷ polyss) [] v xi t n g = absurd (suc-ne-zero _ n)
+  layer-lengths f (polys ∷ polyss) (c ∷ cs) v xi t n g =
+      let claim = batched F v (draw t) in
+      let C = Sumcheck.verify-gkr-sumcheck F S polys xi claim one (drawn t) in
+      let counts = passed F S f (eqb (length polys) (length xi)) _ _ (λ x. x) g in
+      let holds = passed F S f (same (RoundSum.cross K (draw t) c * C .eq) (C .claim)) _ _ (λ x. x) (counts .1) in
+      let k = eqb-true _ _ (counts .0) in
+      ap₂ (λ r l. r ∷ l) k (layer-lengths f polyss cs _ _ _ (suc-inj n) (holds .1) ∙ ap (λ r. Count.lengths (length polyss) (suc r)) (sub-point polys xi claim one (drawn t) k))
+
+  counted-shape : (f : ℕ → Frac R) (m : ℕ) (q0 : R) (cs : List (Claims R)) (polyss : List (List (Cubic R))) (t : Log)
+      → Accepts F S f (Gkr.counted F S m q0 cs polyss t) → map length polyss ≡ Count.lengths m 1
+  unfolding Gkr.counted Gkr.root
+  counted-shape f m q0 [] polyss t g = absurd g
+  counted-shape f m q0 (c ∷ cs) polyss t g =
+      let claims = passed F S f (eqb (length cs) m) _ _ (λ x. x) g in
+      let polys = passed F S f (eqb (length polyss) m) _ _ (λ x. x) (claims .1) in
+      let zero = passed F S f (same (Tree.compute-recursive-relations K c .p) nil) _ _ (λ x. x) (polys .1) in
+      let denominator = passed F S f (same (Tree.compute-recursive-relations K c .q) q0) _ _ (λ x. x) (zero .1) in
+      let k = eqb-true _ _ (polys .0) in
+      layer-lengths f polyss cs _ _ _ (k ∙ sym (eqb-true _ _ (claims .0))) (denominator .1) ∙ ap (λ j. Count.lengths j 1) k
+
+  pub accepted-shape : (f : ℕ → Frac R) (m : ℕ) (π : Proof R) (t : Log) → Accepts F S f (Gkr.verify-gkr F S (suc m) π t) → Shaped m π
+  unfolding Gkr.verify-gkr
+  accepted-shape f m π t g = (counted-lengths f m (π .q0) (π .claims) (π .polys) t g .0, counted-shape f m (π .q0) (π .claims) (π .polys) t g)
