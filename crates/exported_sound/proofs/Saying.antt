@@ -6,12 +6,14 @@ use Prim.Native.Nat.{ℕ}
 use lib.ListN.{take}
 use Rattle.field.specs.Element.{enc}
 use Rattle.gkr.specs.Sizes.{point-words}
+use Rattle.prover_tree.specs.Nodes.{node}
 use Rattle.verifier.specs.Verified.{Lent}
 use Rattle.accudrina.specs.Modes.{LIVE, untaken}
 use Rattle.accudrina.specs.Calls.{verifyingTaken, evaluating}
 use Rattle.verdict_sound.specs.Says as Verdict
-use Rattle.verdict_sound.proofs.Sheets.{sheet-sound, sheet-live}
-use Rattle.exported_sound.specs.Says.{Handed, returned, call, Checked, ExportedSound, ExportedLive}
+use Rattle.verdict_sound.proofs.Saying.{drawn-sound}
+use Rattle.verdict_sound.proofs.Sheets.{sheet-matches, sheet-sound, sheet-live, sheet-drawn}
+use Rattle.exported_sound.specs.Says.{Handed, returned, call, Checked, ExportedSound, ExportedLive, ExportedDrawn}
 use Rattle.exported_sound.proofs.Telling.{taken, accepted-told, evaluated-told}
 
 -- the call took all its modes
@@ -34,3 +36,11 @@ exported-sound h v rows c = sheet-sound (call h) v rows (checked h v rows c)
 
 pub exported-live : ExportedLive
 exported-live h v rows l c = sheet-live (call h) v rows l (checked h v rows c)
+
+pub exported-drawn : ExportedDrawn
+exported-drawn = record {
+  table = drawn-sound .table;
+  few = drawn-sound .few;
+  sound = λ h v rows c. drawn-sound .sound (call h) v (node rows) (sheet-matches (call h) v rows (checked h v rows c) .1);
+  live = λ h v rows l c. sheet-drawn (call h) v rows l (checked h v rows c);
+}

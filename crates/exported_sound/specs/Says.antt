@@ -11,13 +11,16 @@ use Rattle.field.specs.ExtRing.{ExtRing}
 use Rattle.field.specs.Extension.{Extension}
 use Rattle.gkr.specs.Run.{Frac}
 use Rattle.gkr.specs.Sizes.{point-words}
+use Rattle.gkr.specs.Transcripts.{Words}
 use Rattle.domain.specs.Rows.{ZeroRow}
+use Rattle.soundness.specs.Few.{AtMost}
 use Rattle.soundness.specs.Fractions.{SumsToZero}
+use Rattle.soundness.specs.Steps.{bad}
 use Rattle.soundness.specs.Challenges.{RootIs}
 use Rattle.sizes.specs.Sizes.{rowCount}
 use Rattle.prover_tree.specs.Nodes.{node}
 use Rattle.verifier.specs.Verified.{Asked, Lent, asked}
-use Rattle.verdict_sound.specs.Says.{stated, Unlucky}
+use Rattle.verdict_sound.specs.Says.{stated, Unlucky, Table, BadInLog}
 use Rattle.accudrina.specs.Modes.{LIVE, has, verifyingOf}
 use Rattle.accudrina.specs.Calls.{Returned, verifying, evaluating}
 use Rattle.exported.specs.Exported.{done}
@@ -51,3 +54,11 @@ abbrev pub ExportedLive : Type 0
 ExportedLive =
     (h : Handed) (v : Lent) (rows : List ℕ) → has LIVE (h .modes) ≡ true → Checked h v rows
     → ((¬ ZeroRow ExtRing (node rows) (rowCount rows)) × SumsToZero ExtRing (node rows) (rowCount rows)) ⊎ Unlucky (call h) (node rows)
+
+-- WHATEVER THE SOURCE of the challenges: the same, or the log that the call left shows one that is among at most three values which the log before it fixes
+pub record ExportedDrawn : Type 0 where
+  pub table : Table
+  pub few : (f : ℕ → Frac E.Ext) (n : ℕ) (u : Words) → AtMost 3 (bad Extension f (table n u))
+  pub sound : (h : Handed) (v : Lent) (rows : List ℕ) → Checked h v rows → RootIs Extension (node rows) (h .rounds) (stated (call h) .q0) ⊎ BadInLog table (call h) v (node rows)
+  pub live : (h : Handed) (v : Lent) (rows : List ℕ) → has LIVE (h .modes) ≡ true → Checked h v rows
+      → ((¬ ZeroRow ExtRing (node rows) (rowCount rows)) × SumsToZero ExtRing (node rows) (rowCount rows)) ⊎ BadInLog table (call h) v (node rows)

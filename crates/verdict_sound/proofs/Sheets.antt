@@ -37,9 +37,9 @@ use Rattle.verifier.specs.Verified.{Asked, Lent, fronts, verified}
 use Rattle.evaluation.specs.declared.Evaluation.the-variants.{Done}
 use Rattle.evaluation.specs.declared.Evaluation.the-variants as Ends
 use Rattle.evaluation.specs.Evaluated.{told, tests, valued, evaluated}
-use Rattle.verdict_sound.specs.Says.{sourceOf, stated, Unlucky, SheetMatches, SheetSound, SheetLive}
+use Rattle.verdict_sound.specs.Says.{sourceOf, stated, Unlucky, BadInLog, Checked, SheetMatches, SheetSound, SheetLive}
 use Rattle.verdict_sound.proofs.Runs.{not-accepted, opened}
-use Rattle.verdict_sound.proofs.Saying.{accepted-sound, accepted-live}
+use Rattle.verdict_sound.proofs.Saying.{accepted-sound, accepted-live, drawn-sound}
 
 -- THE VERIFIER HAD ROUNDS
 
@@ -109,3 +109,10 @@ pub sheet-live : SheetLive
 sheet-live a b rows l c =
     let m = sheet-matches a b rows c in
     subst (λ k. ((¬ ZeroRow ExtRing (node rows) k) × SumsToZero ExtRing (node rows) k) ⊎ Unlucky a (node rows)) (sym (m .0)) (accepted-live a b (node rows) l (m .1))
+
+-- and whatever the source
+pub sheet-drawn : (a : Asked) (b : Lent) (rows : List ℕ) → a .modes .live ≡ true → Checked a b rows
+    → ((¬ ZeroRow ExtRing (node rows) (rowCount rows)) × SumsToZero ExtRing (node rows) (rowCount rows)) ⊎ BadInLog (drawn-sound .table) a b (node rows)
+sheet-drawn a b rows l c =
+    let m = sheet-matches a b rows c in
+    subst (λ k. ((¬ ZeroRow ExtRing (node rows) k) × SumsToZero ExtRing (node rows) k) ⊎ BadInLog (drawn-sound .table) a b (node rows)) (sym (m .0)) (drawn-sound .live a b (node rows) l (m .1))
