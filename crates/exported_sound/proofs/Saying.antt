@@ -25,6 +25,7 @@ checked : (h : Handed) (v : Lent) (rows : List ℕ) → Checked h v rows → Ver
 checked h v rows c =
     let e = runs h v rows c in
     record {
+      some = c .some;
       numer = enc (c .claims .p);
       denom = enc (c .claims .q);
       accepted = accepted-told _ (c .claims) (sym (ap (λ r. r .told) e) ∙ c .accepted);

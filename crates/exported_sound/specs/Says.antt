@@ -4,7 +4,7 @@ use mathlib.Core.Path.{_≡_}
 use mathlib.Core.Bool.{true}
 use mathlib.Core.List.{List}
 use mathlib.Core.Logic.{_⊎_}
-use Prim.Native.Nat.{ℕ}
+use Prim.Native.Nat.{ℕ, _≤_}
 use lib.ListN.{take}
 use Rattle.field.specs.Ext as E
 use Rattle.field.specs.ExtRing.{ExtRing}
@@ -39,8 +39,9 @@ returned h v = verifying (h .proof) (h .rounds) (h .modes) (h .challenges) v
 abbrev pub call : Handed → Asked
 call h = asked (h .proof) (h .rounds) (verifyingOf (h .modes)) (h .challenges)
 
--- BOTH CALLS RETURN 0 AND TELL THE SAME TWO ELEMENTS: verifying, and evaluating the rows at the front of the point buffer
+-- BOTH CALLS RETURN 0 AND TELL THE SAME TWO ELEMENTS: verifying, of one round or more, and evaluating the rows at the front of the point buffer
 pub record Checked (h : Handed) (v : Lent) (rows : List ℕ) : Type 0 where
+  pub some : 1 ≤ h .rounds
   pub claims : Frac E.Ext
   pub accepted : returned h v .told ≡ done 0 claims
   pub valued : evaluating rows (take (point-words (h .rounds)) (returned h v .buffers .point)) ≡ done (h .rounds) claims

@@ -109,4 +109,4 @@ module _ (a : Asked) (b : Lent) where
   pub run-accepts : (f : ℕ → Frac E.Ext) → Matches a b f → Accepts Extension (Drawing (sourceOf a)) f (Gkr.verify-gkr Extension (Drawing (sourceOf a)) (a .rounds) (stated a) empty)
   unfolding verified
   run-accepts f h =
-      accepts (sourceOf a) (stated a) f b (a .rounds) _ refl (subst (λ w. Tells (a .rounds) (laid (fronts a w) b) f) (opened _ _ h) h)
+      accepts (sourceOf a) (stated a) f b (a .rounds) _ refl (subst (λ w. Tells (a .rounds) (laid (fronts a w) b) f) (opened _ _ (h .1)) (h .1))

@@ -72,7 +72,7 @@ drew-over ch u log buffer d =
 drawn-says : (a : Asked) (b : Lent) (f : ℕ → Frac E.Ext) → Matches a b f → RootIs Extension f (a .rounds) (stated a .q0) ⊎ BadInLog at-log a b f
 drawn-says a b f h =
     onto-right (run-drawn (sourceOf a) (stated a) f (a .rounds) (run-accepts a b f h))
-    (λ k. (k .0, subst (DrewAt (sourceOf a) (k .0)) (sym (log-left a b _ _ h)) (drew-over (sourceOf a) (k .0) _ (b .log) (k .1)), k .2))
+    (λ k. (k .0, subst (DrewAt (sourceOf a) (k .0)) (sym (log-left a b _ _ (h .1))) (drew-over (sourceOf a) (k .0) _ (b .log) (k .1)), k .2))
 
 -- LIVE
 
@@ -93,7 +93,7 @@ not-zero-rooted a b p q l h z =
     not-accepted ZeroRoot p q (sym (live-verifying a b .given .1 (passes, z)) ∙ live)
 
 q0-not-zero : (a : Asked) (b : Lent) (f : ℕ → Frac E.Ext) → a .modes .live ≡ true → Matches a b f → ¬ (stated a .q0 ≡ E.nil)
-q0-not-zero a b f l h z = let c = counts a b f h in not-zero-rooted a b _ _ l h (record { layers = c .0; entries = c .1; q0 = z })
+q0-not-zero a b f l h z = let c = counts a b f h in not-zero-rooted a b _ _ l (h .1) (record { layers = c .0; entries = c .1; q0 = z })
 
 pub accepted-live : AcceptedLive
 accepted-live a b f l h = onto (accepted-sound a b f h) (live-rows f (a .rounds) (stated a .q0) (q0-not-zero a b f l h))

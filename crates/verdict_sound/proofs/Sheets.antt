@@ -4,14 +4,13 @@ use mathlib.Core.Path.{_≡_, refl, sym, _∙_, ap, ap₂, subst}
 use mathlib.Core.Bool.{Bool, true, false, cond}
 use mathlib.Core.List.{List}
 use mathlib.Core.Logic.{_⊎_}
-use Prim.Native.Nat.{ℕ, zero, suc, _*_, _^_}
+use Prim.Native.Nat.{ℕ, _*_, _^_, _≤_}
 use native.Mathlib.Omega.{arith}
 use borrow.Author.Tests.{eqb-false, not-false}
 use lib.Dec.{eqb}
 use lib.ListN.{take}
 use Rattle.field.specs.Ext as E
 use Rattle.field.specs.ExtRing.{ExtRing}
-use Rattle.field.specs.Extension.{Extension}
 use Rattle.field.specs.Element.{enc}
 use Rattle.field.specs.Cells.{cells}
 use Rattle.field.specs.CellLaws.{cell-take}
@@ -19,12 +18,9 @@ use Rattle.field.specs.PointLaws.{cells-kept}
 use Rattle.field.specs.declared.Ext.{Ext}
 use Rattle.gkr.specs.Run.{Frac}
 use Rattle.gkr.specs.Sizes.{point-words}
-use Rattle.gkr.specs.Transcripts.{empty, Source}
 use Rattle.gkr.specs.Tree as Tree
-use Rattle.gkr.specs.Gkr as Gkr
 use Rattle.domain.specs.Rows.{ZeroRow}
 use Rattle.soundness.specs.Fractions.{SumsToZero}
-use Rattle.transcript.specs.Log.{Drawing}
 use Rattle.refusal.specs.declared.Refusal.{Refusal}
 use Rattle.refusal.specs.Tests.{Tested, passed, refused, firstOf}
 use Rattle.refusal.specs.TestLaws.{passed-all}
@@ -32,25 +28,12 @@ use Rattle.sizes.specs.Sizes.{rowCount, roundsOf, isSize}
 use Rattle.sizes.specs.SizeLaws.{some-size}
 use Rattle.prover_tree.specs.Nodes.{node}
 use Rattle.verifier_round.specs.declared.Verdict.the-variants.{Accepted}
-use Rattle.verifier_round.specs.Verdicts.{answerOf}
-use Rattle.verifier.specs.Verified.{Asked, Lent, fronts, verified}
+use Rattle.verifier.specs.Verified.{Asked, Lent, verified}
 use Rattle.evaluation.specs.declared.Evaluation.the-variants.{Done}
 use Rattle.evaluation.specs.declared.Evaluation.the-variants as Ends
 use Rattle.evaluation.specs.Evaluated.{told, tests, valued, evaluated}
-use Rattle.verdict_sound.specs.Says.{sourceOf, stated, Unlucky, BadInLog, Checked, SheetMatches, SheetSound, SheetLive}
-use Rattle.verdict_sound.proofs.Runs.{not-accepted, opened}
+use Rattle.verdict_sound.specs.Says.{Unlucky, BadInLog, Checked, SheetMatches, SheetSound, SheetLive}
 use Rattle.verdict_sound.proofs.Saying.{accepted-sound, accepted-live, drawn-sound}
-
--- THE VERIFIER HAD ROUNDS
-
-no-rounds : (ch : Source E.Ext) (a : Asked) (p q : Ext) (n : ℕ) → n ≡ 0 → answerOf ch (Gkr.verify-gkr Extension (Drawing ch) n (stated a) empty) ≡ Accepted p q → ⊥
-unfolding Gkr.verify-gkr
-no-rounds ch a p q zero e h = not-accepted _ p q h
-no-rounds ch a p q (suc m) e h = absurd (omega (arith, e))
-
-some-rounds : (a : Asked) (b : Lent) (p q : Ext) → verified a b .answer ≡ Accepted p q → ¬ (a .rounds ≡ 0)
-unfolding verified
-some-rounds a b p q h e = no-rounds (sourceOf a) a p q (a .rounds) e (subst (λ w. fronts a w .answer ≡ Accepted p q) (opened a b p q h) h)
 
 -- WHAT AN EVALUATION ANSWERS
 
@@ -89,6 +72,9 @@ module _ (rows point : List ℕ) (n : ℕ) (p q : Ext) (some : ¬ (n ≡ 0)) whe
   unfolding evaluated
   evaluates e = by-tests (firstOf (tests rows point)) refl e
 
+none : (n : ℕ) → n ≡ 0 → 1 ≤ n → ⊥
+none n e h = omega arith
+
 -- the coordinates at the front of a buffer
 front-cells : (ws : List ℕ) (n : ℕ) → cells (take (4 * n) ws) 0 n ≡ cells ws 0 n
 front-cells ws n = cells-kept ws (take (4 * n) ws) 0 n (λ i l h. cell-take (4 * n) ws i (omega arith))
@@ -96,9 +82,9 @@ front-cells ws n = cells-kept ws (take (4 * n) ws) 0 n (λ i l h. cell-take (4 *
 pub sheet-matches : SheetMatches
 sheet-matches a b rows c =
     let pt = verified a b .buffers .point in
-    let v = evaluates rows (take (point-words (a .rounds)) pt) (a .rounds) (c .numer) (c .denom) (some-rounds a b (c .numer) (c .denom) (c .accepted)) (c .valued) in
+    let v = evaluates rows (take (point-words (a .rounds)) pt) (a .rounds) (c .numer) (c .denom) (λ e. none (a .rounds) e (c .some)) (c .valued) in
     let at = ap (Tree.value ExtRing (node rows)) (front-cells pt (a .rounds)) in
-    (v .size, c .accepted ∙ ap₂ Accepted (v .numer ∙ ap (λ x. enc (x .p)) at) (v .denom ∙ ap (λ x. enc (x .q)) at))
+    (v .size, (c .some, c .accepted ∙ ap₂ Accepted (v .numer ∙ ap (λ x. enc (x .p)) at) (v .denom ∙ ap (λ x. enc (x .q)) at)))
 
 -- WHAT IT SAYS OF THE SHEET
 

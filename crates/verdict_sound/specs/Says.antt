@@ -4,7 +4,7 @@ use mathlib.Core.Path.{_≡_}
 use mathlib.Core.Bool.{true}
 use mathlib.Core.List.{List}
 use mathlib.Core.Logic.{_⊎_}
-use Prim.Native.Nat.{ℕ, _^_}
+use Prim.Native.Nat.{ℕ, _^_, _≤_}
 use lib.ListN.{take}
 use Rattle.field.specs.Ext as E
 use Rattle.field.specs.ExtRing.{ExtRing}
@@ -46,9 +46,9 @@ stated a = decoded (proofOf (a .proof))
 abbrev pub Tells : (n : ℕ) (o : Outcome) (f : ℕ → Frac E.Ext) → Type 0
 Tells n o f = let v = Tree.value ExtRing f (cells (o .buffers .point) 0 n) in o .answer ≡ Accepted (enc (v .p)) (enc (v .q))
 
--- THE CALL ACCEPTS with the values of the rows f
+-- THE CALL, of one round or more, ACCEPTS with the values of the rows f
 abbrev pub Matches : (a : Asked) (b : Lent) (f : ℕ → Frac E.Ext) → Type 0
-Matches a b f = Tells (a .rounds) (verified a b) f
+Matches a b f = (1 ≤ a .rounds) × Tells (a .rounds) (verified a b) f
 
 -- one of the challenges of the run was bad for the rows f
 abbrev pub Unlucky : (a : Asked) (f : ℕ → Frac E.Ext) → Type 0
@@ -81,8 +81,9 @@ pub record DrawnSound : Type 0 where
   pub live : (a : Asked) (b : Lent) (f : ℕ → Frac E.Ext) → a .modes .live ≡ true → Matches a b f
       → ((¬ ZeroRow ExtRing f (2 ^ a .rounds)) × SumsToZero ExtRing f (2 ^ a .rounds)) ⊎ BadInLog table a b f
 
--- A SHEET: the call accepts, and evaluating the sheet's rows at the point that it wrote gives its two claims
+-- A SHEET: the call, of one round or more, accepts, and evaluating the sheet's rows at the point that it wrote gives its two claims
 pub record Checked (a : Asked) (b : Lent) (rows : List ℕ) : Type 0 where
+  pub some : 1 ≤ a .rounds
   pub numer : Ext
   pub denom : Ext
   pub accepted : verified a b .answer ≡ Accepted numer denom
