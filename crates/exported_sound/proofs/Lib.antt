@@ -1,0 +1,3 @@
+-- The answers behind the words, and what they say.
+pub mod Telling
+pub mod Saying

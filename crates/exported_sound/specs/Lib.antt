@@ -1,0 +1,2 @@
+-- What the exported calls say of a sheet.
+pub mod Says

@@ -1,0 +1,2 @@
+-- What an accepted verdict says.
+pub mod Says
