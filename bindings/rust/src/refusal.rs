@@ -13,7 +13,9 @@ pub enum Words {
     /// The point of an evaluation.
     Point,
     /// A list that this crate does not know: the archive is newer.
-    Unknown { number: u32 },
+    Unknown {
+        number: u32,
+    },
 }
 
 /// Why a call was refused. `number` has the number that C gets.

@@ -57,7 +57,7 @@ fn the_order() {
     let how = Mode::Live.or_empty();
     assert_eq!(refused(&k2, how), Refusal::IncorrectLayerCount { expected: 0, actual: 1 });
     k2[5] = 0xff;
-    assert_eq!(refused(&k2, how), Refusal::BadWord);
+    assert_eq!(refused(&k2, how), Refusal::BadWord { place: 0, list: Words::Proof });
     let mut entry = [&proof()[..], &[0]].concat();
     assert_eq!(refused(&entry, how), Refusal::BadLength);
     (entry[4], entry[22]) = (19, 1);

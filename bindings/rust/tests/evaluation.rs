@@ -1,7 +1,9 @@
 //! The values of a sheet at a point: against the plain sum over all rows, against the claims of accepted proofs, and refused.
 mod plain;
 
-use accudrina::{evaluate, evaluate_words, prove, row_words, verify, words_of, Claims, Element, Fraction, Mode, Refusal, Sum, Words, PRIME};
+use accudrina::{
+    evaluate, evaluate_words, prove, row_words, verify, words_of, Claims, Element, Fraction, Mode, Refusal, Sum, Words, PRIME,
+};
 use plain::{field::value, make::Source};
 
 /// Both columns, summed up plainly.

@@ -1,7 +1,7 @@
 //! The Rust's recorded answers (oracle/README.md), through the exported functions: every number, field and word of every buffer.
 use accudrina::{
     evaluate_words, prove_into, read_sheet_into, verify_into, Challenges, Claims, Done, Element, Evaluated, Mode, Refusal, Rooms, Sum,
-    Verifying,
+    Verifying, Words,
 };
 use std::{fs, path::PathBuf};
 
@@ -36,9 +36,21 @@ fn told(number: u32, plain: [u32; 3], left: Element, right: Element) -> Told {
     [&[number], &plain[..], &left.0, &right.0].concat().try_into().unwrap()
 }
 
+/// The number of a list, as the header has it.
+fn list_number(list: Words) -> u32 {
+    match list {
+        Words::Rows => 1,
+        Words::Proof => 2,
+        Words::Challenges => 3,
+        Words::Point => 4,
+        Words::Unknown { number } => number,
+    }
+}
+
 fn refused(refusal: Refusal) -> Told {
     let (none, zero) = ([0; 3], Element::ZERO);
     let (plain, left, right) = match refusal {
+        Refusal::BadWord { place, list } => ([place, list_number(list), 0], zero, zero),
         Refusal::ZeroDenominator { row } => ([row, 0, 0], zero, zero),
         Refusal::IncorrectLayerCount { expected, actual } => ([expected, actual, 0], zero, zero),
         Refusal::IncorrectSumcheckPolyCount { expected, actual } => ([expected, actual, 0], zero, zero),
