@@ -1,4 +1,5 @@
 -- The transcript over lent buffers.
 pub mod Source
 pub mod Log
+pub mod Used
 pub mod LogLaws
