@@ -62,8 +62,10 @@ fn call(
     log: &mut [u32],
     work: &mut [u32],
 ) {
-    let answer = prover::fractional_sumcheck(rows, modes, challenges, proof, point, log, work);
-    print::report(prover::number_and_values(answer));
+    let proved = prover::fractional_sumcheck(rows, modes, challenges, proof, point, log, work);
+    print::report(prover::number_and_values(proved.answer));
+    print::next(proved.used.challenges as u64);
+    print::next(proved.used.words as u64);
     print::bytes(proof);
     print::words(point);
     print::words(log);
