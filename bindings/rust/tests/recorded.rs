@@ -1,7 +1,7 @@
 //! The Rust's recorded answers (oracle/README.md), through the exported functions: every number, field and word of every buffer.
 use accudrina::{
-    evaluate_words, prove_into, read_sheet_into, verify_into, Challenges, Done, Element, Evaluated, Mode, Refusal, Refused, Rooms,
-    Sum, Used, Verified, Verifying, Words,
+    evaluate_words, prove_into, read_sheet_into, verify_into, Challenges, Done, Element, Evaluated, Mode, Refusal, Refused, Rooms, Sum,
+    Used, Verified, Verifying, Words,
 };
 use std::{fs, path::PathBuf};
 
