@@ -6,7 +6,8 @@ use mathlib.Core.List.{List, []}
 use Prim.Native.Nat.{ℕ, _*_, _<_}
 use lib.ListN.{length, replicate}
 use Rattle.gkr.specs.Sizes.{challenges}
-use Rattle.transcript.specs.Used.{used, unused, sampledIn}
+use Rattle.gkr.specs.TranscriptLaws.{sampled-words}
+use Rattle.transcript.specs.Used.{used, unused}
 use Rattle.refusal.specs.Tests.{passed, refused}
 use Rattle.refusal.specs.declared.Refusal.{Refusal}
 use Rattle.refusal.specs.declared.Refusal.the-variants.{ShortChallenges, ZeroDenominator, NonZeroRootSum}
@@ -60,7 +61,7 @@ pub record DrawnMode (c : Call) (r : Rooms) : Type 0 where
 -- WHAT WAS USED UP: so many words are logged, and four sampled ones among them for each challenge; those of a whole run where it is done, none for no rows; nothing where it is refused
 pub record UsedUp (c : Call) (f : Outcome) : Type 0 where
   pub words : length (f .buffers .log) ≡ f .used .words
-  pub sampled : sampledIn (f .buffers .log) ≡ 4 * f .used .challenges
+  pub sampled : length (sampled-words (f .buffers .log)) ≡ 4 * f .used .challenges
   pub done : (n : ℕ) (s : Frac) → f .answer ≡ Done n s → f .used ≡ used (challenges n) (logRoom (c .modes .«assert_zero») n)
   pub none : (e : Refusal) → f .answer ≡ Refused e → f .used ≡ unused
 

@@ -2,4 +2,5 @@
 pub mod Source
 pub mod Log
 pub mod Used
+pub mod UsedLaws
 pub mod LogLaws

@@ -9,7 +9,8 @@ use lib.ListN.{length}
 use Rattle.field.specs.Ext as E
 use Rattle.field.specs.declared.Ext.{Ext}
 use Rattle.gkr.specs.Sizes.{challenges, log-words}
-use Rattle.transcript.specs.Used.{used, unused, sampledIn}
+use Rattle.gkr.specs.TranscriptLaws.{sampled-words}
+use Rattle.transcript.specs.Used.{used, unused}
 use Rattle.refusal.specs.declared.Refusal.{Refusal}
 use Rattle.refusal.specs.declared.Refusal.the-variants.{ShortChallenges, ZeroRounds, ZeroRoot}
 use Rattle.refusal.specs.Numbers.{reportOf}
@@ -73,7 +74,7 @@ pub record UsedUp (a : Asked) (b : Lent) : Type 0 where
   pub written : List ℕ
   pub log : verified a b .buffers .log ≡ over written (b .log)
   pub words : length written ≡ verified a b .used .words
-  pub sampled : sampledIn written ≡ 4 * verified a b .used .challenges
+  pub sampled : length (sampled-words written) ≡ 4 * verified a b .used .challenges
   pub most : 1 ≤ a .rounds → (verified a b .used .challenges ≤ challenges (a .rounds)) × (verified a b .used .words ≤ log-words true (a .rounds))
   pub whole : (x y : Ext) → verified a b .answer ≡ Accepted x y → 1 ≤ a .rounds → verified a b .used ≡ used (challenges (a .rounds)) (log-words true (a .rounds))
   pub none : (e : Refusal) → verified a b .answer ≡ Refused e → ¬ ((16 ≤ reportOf e .number) × (reportOf e .number ≤ 19)) → verified a b .used ≡ unused
