@@ -62,8 +62,8 @@ fn call(
     log: &mut [u32],
     work: &mut [u32],
 ) {
-    let answer = prover::fractional_sumcheck(rows, modes, challenges, proof, point, log, work);
-    print::report(prover::number_and_values(answer));
+    let ending = prover::fractional_sumcheck(rows, modes, challenges, proof, point, log, work);
+    print::report(prover::number_and_values(ending.answer));
     print::bytes(proof);
     print::words(point);
     print::words(log);
