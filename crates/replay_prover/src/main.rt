@@ -63,7 +63,8 @@ fn call(
     work: &mut [u32],
 ) {
     let ending = prover::fractional_sumcheck(rows, modes, challenges, proof, point, log, work);
-    print::report(prover::number_and_values(ending.answer));
+    let answer = ending.answer;
+    print::report(prover::number_and_values(answer));
     print::bytes(proof);
     print::words(point);
     print::words(log);
