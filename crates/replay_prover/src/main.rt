@@ -62,10 +62,12 @@ fn call(
     log: &mut [u32],
     work: &mut [u32],
 ) {
-    let proved = prover::fractional_sumcheck(rows, modes, challenges, proof, point, log, work);
-    print::report(prover::number_and_values(proved.answer));
-    print::next(proved.used.challenges as u64);
-    print::next(proved.used.words as u64);
+    let ending = prover::fractional_sumcheck(rows, modes, challenges, proof, point, log, work);
+    let answer = ending.answer;
+    let used = ending.used;
+    print::report(prover::number_and_values(answer));
+    print::next(used.challenges as u64);
+    print::next(used.words as u64);
     print::bytes(proof);
     print::words(point);
     print::words(log);
