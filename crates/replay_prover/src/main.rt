@@ -62,8 +62,12 @@ fn call(
     log: &mut [u32],
     work: &mut [u32],
 ) {
-    let answer = prover::fractional_sumcheck(rows, modes, challenges, proof, point, log, work);
+    let ending = prover::fractional_sumcheck(rows, modes, challenges, proof, point, log, work);
+    let answer = ending.answer;
+    let used = ending.used;
     print::report(prover::number_and_values(answer));
+    print::next(used.challenges as u64);
+    print::next(used.words as u64);
     print::bytes(proof);
     print::words(point);
     print::words(log);

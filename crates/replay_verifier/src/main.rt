@@ -44,8 +44,12 @@ fn call(
     point: &mut [u32],
     log: &mut [u32],
 ) {
-    let verdict = verifier::verify_gkr(proof, rounds, modes, challenges, point, log);
+    let verified = verifier::verify_gkr(proof, rounds, modes, challenges, point, log);
+    let verdict = verified.verdict;
+    let used = verified.used;
     print::report(verifier_round::number_and_values(verdict));
+    print::next(used.challenges as u64);
+    print::next(used.words as u64);
     print::words(point);
     print::words(log);
     print::end();

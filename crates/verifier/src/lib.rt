@@ -1,26 +1,30 @@
 // The verifier over the stored bytes of a proof: refusals in document 01's order, then the run.
 ghost use mathlib.Core.Path.{_≡_};
 ghost use mathlib.Core.Bool.{not, _&&_};
-ghost use mathlib.Core.List.{_++_};
-ghost use Prim.Native.Nat.{_≤_};
 ghost use lib.Dec.{eqb};
-ghost use lib.ListN.{length, take, drop};
+ghost use lib.ListN.{length};
 ghost use Rattle.stored.specs.ParseLaws.{Shaped};
 ghost use Rattle.transcript.specs.Source.{source};
-ghost use Rattle.verifier_round.specs.declared.Verdict.the-variants.{Accepted};
 ghost use Rattle.verifier.specs.Verified.{asked, lent, outcome, verified};
-ghost use Rattle.verifier.specs.Gates.{wordsGate, rootGate, unrooted, sandbox, Gated, Opened, Ready, Starts, Counted, pointLeft, answered};
+ghost use Rattle.verifier.specs.Gates.{wordsGate, rootGate, unrooted, sandbox, Gated, Opened, Ready, Starts, Counted};
 use refusal::Refusal;
 use refusal::Verifying;
 use refusal::Words;
 use stored::Outline;
 use stored::Shape;
 use transcript::Pos;
+use transcript::Used;
 use verifier_round::Advance;
-use verifier_round::Layer;
 use verifier_round::Verdict;
 
 mod empty; // no rounds, where that is valid
+mod end; // how a run ends
+
+// How a call ends: its verdict, and what it used up.
+pub struct Ending {
+    pub verdict: Verdict,
+    pub used: Used,
+}
 
 // What the checks before the run answer.
 pub enum Gate {
@@ -149,17 +153,23 @@ fn verify_counted(
     let layers = outline.layers;
     let entries = outline.entries;
     if layers != rounds {
-        return Advance::Stopped(Refusal::IncorrectLayerCount {
-            expected: rounds,
-            actual: layers,
-        });
+        return Advance::Stopped {
+            refusal: Refusal::IncorrectLayerCount {
+                expected: rounds,
+                actual: layers,
+            },
+            pos,
+        };
     }
     let expected = rounds - 1;
     if entries != expected {
-        return Advance::Stopped(Refusal::IncorrectSumcheckPolyCount {
-            expected,
-            actual: entries,
-        });
+        return Advance::Stopped {
+            refusal: Refusal::IncorrectSumcheckPolyCount {
+                expected,
+                actual: entries,
+            },
+            pos,
+        };
     }
     let mut lanes = [0u64; 25]; // of a sponge that has taken in nothing
     verifier_rounds::verify_all(
@@ -174,46 +184,6 @@ fn verify_counted(
     )
 }
 
-// The first n words of the point found go to the front of the room for it.
-fn copy_point(xi: &[u32], point: &mut [u32], n: usize)
-    requires { ⌜ (n ≤ length (now xi)) × (n ≤ length (now point)) ⌝ }
-    ensures { λ _. ⌜ now (point .exit) ≡ take n (now (xi .entry)) ++ drop n (now (point .entry)) ⌝ }
-{
-    for i in 0..n {
-        point[i] = xi[i];
-    }
-}
-
-// The point is written when the run went through, and not when it stopped.
-fn leave_point(end: Advance, xi: &[u32], point: &mut [u32], n: usize)
-    requires { ⌜ (n ≤ length (now xi)) × (n ≤ length (now point)) ⌝ }
-    ensures { λ _. ⌜ now (point .exit) ≡ pointLeft end n (now (xi .entry)) (now (point .entry)) ⌝ }
-{
-    match end {
-        Advance::Next(s) => copy_point(xi, point, n),
-        Advance::Stopped(refusal) => (),
-    }
-}
-
-// A run that went through answers the claims that it came to.
-fn accept(s: Layer) -> Verdict
-    ensures { λ r. ⌜ r ≡ Accepted (s .numer) (s .denom) ⌝ }
-{
-    let numer = s.numer;
-    let denom = s.denom;
-    Verdict::Accepted { numer, denom }
-}
-
-// What is answered at the end of a run.
-fn answer(end: Advance) -> Verdict
-    ensures { λ r. ⌜ r ≡ answered end ⌝ }
-{
-    match end {
-        Advance::Next(s) => accept(s),
-        Advance::Stopped(refusal) => Verdict::Refused(refusal),
-    }
-}
-
 // The run, once nothing is refused before it.
 fn run(
     proof: &[u8],
@@ -223,9 +193,9 @@ fn run(
     challenges: &[u32],
     point: &mut [u32],
     log: &mut [u32],
-) -> Verdict
+) -> Ending
     requires { ⌜ Opened (asked (now proof) rounds (sandbox drawn) (now challenges)) (length (now point)) (length (now log)) outline ⌝ }
-    ensures { λ r. ⌜ outcome r (now (point .exit)) (now (log .exit))
+    ensures { λ r. ⌜ outcome (r .verdict) (r .used) (now (point .exit)) (now (log .exit))
         ≡ verified (asked (now (proof .entry)) rounds (sandbox drawn) (now (challenges .entry))) (lent (now (point .entry)) (now (log .entry))) ⌝ }
 {
     let pos = transcript::start(drawn);
@@ -240,8 +210,8 @@ fn run(
         &challenges[..needs],
         pos,
     );
-    leave_point(end, &xi, point, 4 * rounds);
-    answer(end)
+    end::leave_point(end, &xi, point, 4 * rounds);
+    end::answer(end)
 }
 
 // What is not refused before: no rounds, or the run.
@@ -253,18 +223,19 @@ fn verify_admitted(
     challenges: &[u32],
     point: &mut [u32],
     log: &mut [u32],
-) -> Verdict
+) -> Ending
     requires { ⌜ Opened (asked (now proof) rounds modes (now challenges)) (length (now point)) (length (now log)) outline ⌝ }
-    ensures { λ r. ⌜ outcome r (now (point .exit)) (now (log .exit))
+    ensures { λ r. ⌜ outcome (r .verdict) (r .used) (now (point .exit)) (now (log .exit))
         ≡ verified (asked (now (proof .entry)) rounds modes (now (challenges .entry))) (lent (now (point .entry)) (now (log .entry))) ⌝ }
 {
     if rounds == 0 {
-        return empty::verify_empty(proof, outline);
+        return end::at_once(empty::verify_empty(proof, outline));
     }
     run(proof, rounds, outline, modes.drawn, challenges, point, log)
 }
 
-// Checks a stored proof of so many rounds: accepted with both claims and the point written, or refused; the log holds what was observed and sampled until then.
+// Checks a stored proof of so many rounds: accepted with both claims and the point written, or refused; the log holds what was observed and sampled until then,
+// and so much is told as used up.
 pub fn verify_gkr(
     proof: &[u8],
     rounds: usize,
@@ -272,12 +243,12 @@ pub fn verify_gkr(
     challenges: &[u32],
     point: &mut [u32],
     log: &mut [u32],
-) -> Verdict
-    ensures { λ r. ⌜ outcome r (now (point .exit)) (now (log .exit))
+) -> Ending
+    ensures { λ r. ⌜ outcome (r .verdict) (r .used) (now (point .exit)) (now (log .exit))
         ≡ verified (asked (now (proof .entry)) rounds modes (now (challenges .entry))) (lent (now (point .entry)) (now (log .entry))) ⌝ }
 {
     match admit(proof, rounds, modes, challenges, point.len(), log.len()) {
-        Gate::Shut(refusal) => Verdict::Refused(refusal),
+        Gate::Shut(refusal) => end::at_once(Verdict::Refused(refusal)),
         Gate::Open(outline) => verify_admitted(
             proof,
             rounds,

@@ -50,10 +50,10 @@ pub struct Opened {
     pub first: Sums,
 }
 
-// What a layer ends in: the claims after it, or the check that failed.
+// What a layer ends in: the claims after it, or the check that failed and where the run stood.
 pub enum Advance {
     Next(Layer),
-    Stopped(Refusal),
+    Stopped { refusal: Refusal, pos: Pos },
 }
 
 // What the verifier answers.
@@ -232,17 +232,20 @@ pub fn close_layer(
     ensures { λ r. ⌜ Closed (now (point .entry)) (now (point .exit)) (now (log .entry)) (now (log .exit)) (now (lanes .entry)) (now (lanes .exit))
         (source (s .pos .drawn) (now (challenges .entry))) (decClaims (claimsIn c)) round lambda s r ⌝ }
 {
-    let p = observe_layer_claims(log, s.pos, c);
+    let end = observe_layer_claims(log, s.pos, c);
     let expected = expected_claim(c, lambda, s.eq);
     let actual = s.claim;
     if !expected.same_words(actual) {
-        return Advance::Stopped(Refusal::LayerConsistencyCheckFailed {
-            round,
-            expected,
-            actual,
-        });
+        return Advance::Stopped {
+            refusal: Refusal::LayerConsistencyCheckFailed {
+                round,
+                expected,
+                actual,
+            },
+            pos: end,
+        };
     }
-    Advance::Next(descend(c, point, log, lanes, challenges, p))
+    Advance::Next(descend(c, point, log, lanes, challenges, end))
 }
 
 // Layer 0: the root's numerator must be zero, and its denominator the one told.
@@ -266,13 +269,19 @@ pub fn verify_root(
     let a = transcript::observe_ext(log, pos, q0);
     let p = observe_layer_claims(log, a, c);
     if !numer.same_words(Ext::ZERO) {
-        return Advance::Stopped(Refusal::ZeroCheckFailed { actual: numer });
+        return Advance::Stopped {
+            refusal: Refusal::ZeroCheckFailed { actual: numer },
+            pos: p,
+        };
     }
     if !denom.same_words(q0) {
-        return Advance::Stopped(Refusal::RootConsistencyCheckFailed {
-            expected: q0,
-            actual: denom,
-        });
+        return Advance::Stopped {
+            refusal: Refusal::RootConsistencyCheckFailed {
+                expected: q0,
+                actual: denom,
+            },
+            pos: p,
+        };
     }
     Advance::Next(descend(c, point, log, lanes, challenges, p))
 }

@@ -90,11 +90,15 @@ pub fn verify_round(
     let lambda = o.lambda;
     let first = o.first;
     if subrounds != round {
-        return Advance::Stopped(Refusal::IncorrectSubroundCount {
-            round,
-            expected: round,
-            actual: subrounds,
-        });
+        let pos = first.pos;
+        return Advance::Stopped {
+            refusal: Refusal::IncorrectSubroundCount {
+                round,
+                expected: round,
+                actual: subrounds,
+            },
+            pos,
+        };
     }
     let last = verify_gkr_sumcheck(
         proof,
@@ -136,8 +140,8 @@ pub fn verify_rounds(
             Advance::Next(t) => {
                 s = t;
             }
-            Advance::Stopped(refusal) => {
-                return Advance::Stopped(refusal);
+            Advance::Stopped { refusal, pos } => {
+                return Advance::Stopped { refusal, pos };
             }
         }
         c += 64;
@@ -177,6 +181,6 @@ pub fn verify_all(
             challenges,
             s,
         ),
-        Advance::Stopped(refusal) => Advance::Stopped(refusal),
+        Advance::Stopped { refusal, pos } => Advance::Stopped { refusal, pos },
     }
 }
