@@ -1,7 +1,7 @@
 -- What an accepted verdict of verify_gkr says of the rows, when its claims are their values at the point that it wrote.
 -- Assumes nothing.
 use mathlib.Core.Path.{_≡_}
-use mathlib.Core.Bool.{true}
+use mathlib.Core.Bool.{Bool, true}
 use mathlib.Core.List.{List}
 use mathlib.Core.Logic.{_⊎_}
 use Prim.Native.Nat.{ℕ, _^_, _≤_}
@@ -24,7 +24,8 @@ use Rattle.soundness.specs.Challenges as Challenges
 use Rattle.soundness.specs.Challenges.{RootIs}
 use Rattle.soundness.specs.WordLog.{DrewAt}
 use Rattle.transcript.specs.Log.{Drawing}
-use Rattle.stored.specs.Parse.{proofOf}
+use Rattle.transcript.specs.Bound.{bound}
+use Rattle.stored.specs.Parse.{sized, proofOf}
 use Rattle.stored.specs.Elements.{decoded}
 use Rattle.verifier_round.specs.declared.Verdict.the-variants.{Accepted}
 use Rattle.verifier.specs.Verified.{Asked, Lent, Outcome, sourceOf, verified}
