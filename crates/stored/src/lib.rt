@@ -64,10 +64,11 @@ pub fn is_known(proof: &[u8]) -> bool
     if proof.len() == 0 {
         return false;
     }
-    if proof[0] == 1 {
+    let version = proof[0];
+    if version == 1 {
         return true;
     }
-    proof[0] == 2
+    version == 2
 }
 
 // Whether a proof binds its size: its version is 2.
