@@ -42,7 +42,8 @@ fn prove_with(rows: &[u32], challenges: &[u32], counted: bool, modes: Proving, p
         &mut log,
         &mut work,
     );
-    match proved.answer {
+    let answer = proved.answer;
+    match answer {
         Answer::Done { rounds, sum } => {
             if keep_proof(path, &proof, rows.len() / 8, rounds, sum) {
                 print_notes(sum.q.is_zero(), counted);

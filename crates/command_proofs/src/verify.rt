@@ -32,7 +32,8 @@ fn verify_with(
     let mut log = [0u32; 964];
     let verified = verifier::verify_gkr(proof, rounds, modes, challenges, &mut point, &mut log);
     let used = verified.used;
-    match verified.verdict {
+    let verdict = verified.verdict;
+    match verdict {
         Verdict::Accepted { numer, denom } => {
             answers::print_accepted(numer, denom, &point, rounds);
             print_used(used);
