@@ -25,11 +25,12 @@ pub fn most_rows() -> usize
     MAX_ROWS
 }
 
-// How a sheet is proved: whether a row over zero is refused, whether the sum's numerator must be zero, and whether challenges are drawn.
+// How a sheet is proved: whether a row over zero is refused, whether the sum's numerator must be zero, whether challenges are drawn, and whether the proof binds its size.
 pub struct Proving {
     pub live: bool,
     pub assert_zero: bool,
     pub drawn: bool,
+    pub sized: bool,
 }
 
 // How a proof is verified: whether a root over zero is refused, whether challenges are drawn, and whether 0 rounds are valid.
