@@ -96,6 +96,15 @@ pub enum Refusal {
     InvalidZeroRoundValue {
         actual: Ext,
     },
+    LogMismatch {
+        place: usize,
+    },
+    LogShort {
+        place: usize,
+    },
+    LogLong {
+        place: usize,
+    },
     ZeroRoot,
 }
 
@@ -198,6 +207,9 @@ pub fn number_and_fields(refusal: Refusal) -> Report
             actual,
         } => element_report(19, round, expected, actual),
         Refusal::InvalidZeroRoundValue { actual } => element_report(22, 0, actual, Ext::ZERO),
+        Refusal::LogMismatch { place } => plain_report(24, place, 0, 0),
+        Refusal::LogShort { place } => plain_report(25, place, 0, 0),
+        Refusal::LogLong { place } => plain_report(26, place, 0, 0),
         Refusal::ZeroRoot => plain_report(27, 0, 0, 0),
     }
 }
