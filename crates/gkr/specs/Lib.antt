@@ -13,6 +13,8 @@ pub mod Honest
 pub mod VerifierCount
 pub mod Keeps
 pub mod TranscriptLaws
+pub mod Reads
+pub mod Samples
 pub mod Compute
 pub mod Pins
 pub mod Order
