@@ -15,6 +15,7 @@ pub mod Keeps
 pub mod TranscriptLaws
 pub mod Reads
 pub mod Samples
+pub mod Replays
 pub mod Compute
 pub mod Pins
 pub mod Order

@@ -3,7 +3,7 @@
 use mathlib.Core.Path.{_≡_, refl, _∙_, ap, ap₂}
 use mathlib.Core.Bool.{Bool, true, false, cond}
 use mathlib.Core.List.{List, [], _∷_, _++_, map, append-nil}
-use Prim.Native.Nat.{ℕ, zero, suc, _<_, _-_, _^_}
+use Prim.Native.Nat.{ℕ, zero, suc, _<_, _^_}
 use native.Mathlib.Omega.{arith}
 use lib.ListN.{getD}
 use lib.Dec.{leb}
@@ -11,12 +11,12 @@ use borrow.Author.Tests.{le-leb, lt-leb}
 use Rattle.ring.specs.Field.{Field}
 use Rattle.gkr.specs.Run.{Proof}
 use Rattle.gkr.specs.Gkr
-use Rattle.gkr.specs.Transcripts.{mark, sampledWords, Words, empty, Source, drawing}
+use Rattle.gkr.specs.Transcripts.{mark, unmark, sampledWords, Words, empty, Source, drawing}
 use Rattle.gkr.specs.Keeps
 
 -- a word w in front of sampled words
 abbrev kept : (w : ℕ) (ws : List ℕ) (marked : Bool) → List ℕ
-kept w ws marked = cond marked ((w - 2 ^ 31) ∷ ws) ws
+kept w ws marked = cond marked (unmark w ∷ ws) ws
 
 sampled-append : (a b : List ℕ) → sampledWords (a ++ b) ≡ sampledWords a ++ sampledWords b
 unfolding sampledWords

@@ -38,10 +38,14 @@ supplied challenges none = logged (λ t. getD challenges (count t) none)
 abbrev pub mark : ℕ → ℕ
 mark w = 2 ^ 31 + w
 
+-- and without it the value
+abbrev pub unmark : ℕ → ℕ
+unmark w = w - 2 ^ 31
+
 -- the values of the sampled words of a log, in its order
 unfoldable pub sampledWords : List ℕ → List ℕ
 sampledWords [] = []
-sampledWords (w ∷ ws) = cond (leb (2 ^ 31) w) ((w - 2 ^ 31) ∷ sampledWords ws) (sampledWords ws)
+sampledWords (w ∷ ws) = cond (leb (2 ^ 31) w) (unmark w ∷ sampledWords ws) (sampledWords ws)
 
 -- the words so far, and how many challenges were sampled
 pub record Words : Type 0 where
