@@ -14,10 +14,10 @@ use Rattle.field.specs.Cells.{cell}
 use Rattle.field.specs.CellLaws.{clean-words, cell-right, cell-words}
 use Rattle.gkr.specs.Run.{Transcript, Proof}
 use Rattle.gkr.specs.Gkr
-use Rattle.gkr.specs.Transcripts.{sampledWords, Words, Source, drawing}
+use Rattle.gkr.specs.Transcripts.{Words, Source, drawing}
 use Rattle.gkr.specs.Keeps
 use Rattle.gkr.specs.Reads
-use Rattle.gkr.specs.Samples.{drawn-sampled, observed-sampled}
+use Rattle.gkr.specs.Samples.{sampledWords, drawn-sampled, observed-sampled}
 
 -- how elements stand in words: four words, none with its top bit set; `at ws k` is the k-th element of ws
 pub record Layout (A : Type 0) : Type 0 where

@@ -3,7 +3,7 @@
 use mathlib.Core.Path.{_≡_, refl, _∙_, ap, ap₂}
 use mathlib.Core.Bool.{Bool, true, false, cond}
 use mathlib.Core.List.{List, [], _∷_, _++_, map, append-nil}
-use Prim.Native.Nat.{ℕ, zero, suc, _<_, _^_}
+use Prim.Native.Nat.{ℕ, zero, suc, _<_, _-_, _^_}
 use native.Mathlib.Omega.{arith}
 use lib.ListN.{getD}
 use lib.Dec.{leb}
@@ -11,8 +11,17 @@ use borrow.Author.Tests.{le-leb, lt-leb}
 use Rattle.ring.specs.Field.{Field}
 use Rattle.gkr.specs.Run.{Proof}
 use Rattle.gkr.specs.Gkr
-use Rattle.gkr.specs.Transcripts.{mark, unmark, sampledWords, Words, empty, Source, drawing}
+use Rattle.gkr.specs.Transcripts.{mark, Words, empty, Source, drawing}
 use Rattle.gkr.specs.Keeps
+
+-- the value of a sampled word
+abbrev pub unmark : ℕ → ℕ
+unmark w = w - 2 ^ 31
+
+-- the values of the sampled words of a log, in its order: those with the top bit set
+unfoldable pub sampledWords : List ℕ → List ℕ
+sampledWords [] = []
+sampledWords (w ∷ ws) = cond (leb (2 ^ 31) w) (unmark w ∷ sampledWords ws) (sampledWords ws)
 
 -- a word w in front of sampled words
 abbrev kept : (w : ℕ) (ws : List ℕ) (marked : Bool) → List ℕ

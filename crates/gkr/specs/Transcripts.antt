@@ -1,10 +1,8 @@
 -- Transcripts: challenges from any source, over a log of events and over a log of words.
 -- Assumes nothing.
-use mathlib.Core.Bool.{cond}
 use mathlib.Core.List.{List, [], _∷_, _++_, map}
-use Prim.Native.Nat.{ℕ, suc, _+_, _-_, _^_}
+use Prim.Native.Nat.{ℕ, suc, _+_, _^_}
 use lib.ListN.{getD}
-use lib.Dec.{leb}
 use Rattle.gkr.specs.Run.{Transcript}
 
 -- A LOG OF EVENTS, the last one first
@@ -37,15 +35,6 @@ supplied challenges none = logged (λ t. getD challenges (count t) none)
 -- a sampled word is the value with its top bit set
 abbrev pub mark : ℕ → ℕ
 mark w = 2 ^ 31 + w
-
--- and without it the value
-abbrev pub unmark : ℕ → ℕ
-unmark w = w - 2 ^ 31
-
--- the values of the sampled words of a log, in its order
-unfoldable pub sampledWords : List ℕ → List ℕ
-sampledWords [] = []
-sampledWords (w ∷ ws) = cond (leb (2 ^ 31) w) (unmark w ∷ sampledWords ws) (sampledWords ws)
 
 -- the words so far, and how many challenges were sampled
 pub record Words : Type 0 where
