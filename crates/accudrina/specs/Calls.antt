@@ -4,6 +4,7 @@ use mathlib.Core.Bool.{cond}
 use mathlib.Core.List.{List, [], _∷_}
 use Prim.Native.Nat.{ℕ}
 use lib.Dec.{eqb}
+use Rattle.transcript.specs.Used.{unused}
 use Rattle.stored_sheet.specs.SheetReads.{sheetRead}
 use Rattle.stored_sheet.specs.Report.{sheetReport}
 use Rattle.prover_gate.specs.Refusals.{Call, call}
@@ -22,15 +23,15 @@ pub record Returned (B : Type 0) : Type 0 where
 
 -- of the sheet's bytes, and the buffer for rows
 abbrev pub reading : List ℕ → List ℕ → Returned (List ℕ)
-reading sheet rows = record { told = tells (sheetReport (sheetRead sheet rows .answer)); buffers = sheetRead sheet rows .buffer }
+reading sheet rows = record { told = tells (sheetReport (sheetRead sheet rows .answer)) unused; buffers = sheetRead sheet rows .buffer }
 
 -- bits that are not taken are refused first of all, and no buffer is written
 abbrev pub taking : {B : Type 0} (bits : ℕ) (lent : B) (run : Returned B) → Returned B
-taking bits lent run = cond (eqb bits 0) run (record { told = tells (unknownMode bits); buffers = lent })
+taking bits lent run = cond (eqb bits 0) run (record { told = tells (unknownMode bits) unused; buffers = lent })
 
 -- of a call of the prover, and the buffers for proof, point, log and work
 abbrev pub provingTaken : Call → Buffers → Returned Buffers
-provingTaken c b = record { told = tells (answerReport (proved c b .answer)); buffers = proved c b .buffers }
+provingTaken c b = record { told = tells (answerReport (proved c b .answer)) (proved c b .used); buffers = proved c b .buffers }
 
 -- of rows, a word of modes and challenges
 abbrev pub proving : (rows : List ℕ) (modes : ℕ) (challenges : List ℕ) → Buffers → Returned Buffers
@@ -39,7 +40,7 @@ proving rows modes challenges b =
 
 -- of a call of the verifier, and the buffers for point and log
 abbrev pub verifyingTaken : Asked → Lent → Returned Lent
-verifyingTaken a v = record { told = tells (verdictReport (verified a v .answer)); buffers = verified a v .buffers }
+verifyingTaken a v = record { told = tells (verdictReport (verified a v .answer)) (verified a v .used); buffers = verified a v .buffers }
 
 -- of a proof's bytes, rounds, a word of modes and challenges
 abbrev pub verifying : (proof : List ℕ) (rounds modes : ℕ) (challenges : List ℕ) → Lent → Returned Lent
@@ -47,4 +48,4 @@ verifying proof rounds modes challenges v = taking (untaken verifyingBits modes)
 
 -- of rows and a point; no buffer is lent
 abbrev pub evaluating : (rows point : List ℕ) → Told
-evaluating rows point = tells (evaluationReport (evaluated rows point))
+evaluating rows point = tells (evaluationReport (evaluated rows point)) unused

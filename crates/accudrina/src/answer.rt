@@ -2,6 +2,7 @@
 ghost use mathlib.Core.Path.{_≡_};
 ghost use Rattle.accudrina.specs.Answer.{fieldWord, tells};
 use refusal::Report;
+use transcript::Used;
 
 fn field_word(x: usize) -> u32
     ensures { λ r. ⌜ r ≡ fieldWord x ⌝ }
@@ -10,13 +11,15 @@ fn field_word(x: usize) -> u32
 }
 
 // Every word of the answer is written; the number comes back.
-pub fn tell(report: Report, answer: &mut [u32; 16]) -> u32
-    ensures { λ r. ⌜ record { number = r; words = now (answer .exit) } ≡ tells report ⌝ }
+pub fn tell(report: Report, used: Used, answer: &mut [u32; 16]) -> u32
+    ensures { λ r. ⌜ record { number = r; words = now (answer .exit) } ≡ tells report used ⌝ }
 {
     let number = report.number;
     let first = field_word(report.first);
     let second = field_word(report.second);
     let third = field_word(report.third);
+    let challenges = field_word(used.challenges);
+    let words = field_word(used.words);
     let left = report.left;
     let right = report.right;
     *answer = [
@@ -32,8 +35,8 @@ pub fn tell(report: Report, answer: &mut [u32; 16]) -> u32
         right.c1,
         right.c2,
         right.c3,
-        0,
-        0,
+        challenges,
+        words,
         0,
         0,
     ];

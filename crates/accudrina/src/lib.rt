@@ -3,6 +3,9 @@ ghost use mathlib.Core.Path.{_≡_};
 ghost use Rattle.prover_gate.specs.Refusals.{call};
 ghost use Rattle.prover.specs.Proved.{lent};
 ghost use Rattle.verifier.specs.Verified.{asked, lent as again};
+ghost use Rattle.transcript.specs.Used.{unused};
+ghost use Rattle.accudrina.specs.Answer.{tells};
+ghost use Rattle.accudrina.specs.Modes.{unknownMode};
 ghost use Rattle.accudrina.specs.Calls.{reading, proving, provingTaken, verifying, verifyingTaken, evaluating};
 use refusal::Proving;
 use refusal::Verifying;
@@ -22,7 +25,16 @@ pub extern "C" fn accudrina_read_sheet(
         ≡ reading (now (sheet .entry)) (now (rows .entry)) ⌝ }
 {
     let read = stored_sheet::read_sheet(sheet, rows);
-    answer::tell(stored_sheet::number_and_values(read), answer)
+    let report = stored_sheet::number_and_values(read);
+    answer::tell(report, transcript::unused(), answer)
+}
+
+// The number 28, with the bits of the modes that are not taken.
+fn refuse_modes(bits: u32, answer: &mut [u32; 16]) -> u32
+    ensures { λ r. ⌜ record { number = r; words = now (answer .exit) } ≡ tells (unknownMode bits) unused ⌝ }
+{
+    let report = modes::unknown_mode(bits);
+    answer::tell(report, transcript::unused(), answer)
 }
 
 // A sheet's proof, point and log, in modes that are taken.
@@ -41,7 +53,8 @@ fn prove_taken(
         (lent (now (proof .entry)) (now (point .entry)) (now (log .entry)) (now (work .entry))) ⌝ }
 {
     let proved = prover::fractional_sumcheck(rows, modes, challenges, proof, point, log, work);
-    answer::tell(prover::number_and_values(proved), answer)
+    let report = prover::number_and_values(proved.answer);
+    answer::tell(report, proved.used, answer)
 }
 
 // A sheet's proof, point and log: the number 0, the rounds and the sum, or the refusal with its fields; first of all 28, the bits of the modes that are not taken.
@@ -62,7 +75,7 @@ pub extern "C" fn accudrina_prove(
 {
     let untaken = modes::untaken_by_prover(modes);
     if untaken != 0 {
-        return answer::tell(modes::unknown_mode(untaken), answer);
+        return refuse_modes(untaken, answer);
     }
     let proving = modes::proving(modes);
     prove_taken(rows, proving, challenges, proof, point, log, work, answer)
@@ -81,8 +94,9 @@ fn verify_taken(
     ensures { λ r. ⌜ record { told = record { number = r; words = now (answer .exit) }; buffers = again (now (point .exit)) (now (log .exit)) }
         ≡ verifyingTaken (asked (now (proof .entry)) rounds modes (now (challenges .entry))) (again (now (point .entry)) (now (log .entry))) ⌝ }
 {
-    let verdict = verifier::verify_gkr(proof, rounds, modes, challenges, point, log);
-    answer::tell(verifier_round::number_and_values(verdict), answer)
+    let verified = verifier::verify_gkr(proof, rounds, modes, challenges, point, log);
+    let report = verifier_round::number_and_values(verified.verdict);
+    answer::tell(report, verified.used, answer)
 }
 
 // What the verifier says of a proof: the number 0 and both claims at the point written, or the refusal with its fields; first of all 28, the bits of the modes that are not taken.
@@ -101,7 +115,7 @@ pub extern "C" fn accudrina_verify(
 {
     let unknown = modes::untaken_by_verifier(modes);
     if unknown != 0 {
-        return answer::tell(modes::unknown_mode(unknown), answer);
+        return refuse_modes(unknown, answer);
     }
     let verifying = modes::verifying(modes);
     verify_taken(proof, rounds, verifying, challenges, point, log, answer)
@@ -113,5 +127,6 @@ pub extern "C" fn accudrina_evaluate(rows: &[u32], point: &[u32], answer: &mut [
     ensures { λ r. ⌜ record { number = r; words = now (answer .exit) } ≡ evaluating (now (rows .entry)) (now (point .entry)) ⌝ }
 {
     let value = evaluation::evaluate(rows, point);
-    answer::tell(evaluation::number_and_values(value), answer)
+    let report = evaluation::number_and_values(value);
+    answer::tell(report, transcript::unused(), answer)
 }

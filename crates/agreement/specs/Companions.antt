@@ -8,6 +8,7 @@ use lib.ListN.{length, take}
 use Rattle.field.specs.Ext as E
 use Rattle.field.specs.Element.{enc}
 use Rattle.gkr.specs.Sizes.{proof-bytes}
+use Rattle.transcript.specs.Used.{unused}
 use Rattle.refusal.specs.declared.Verifying.{Verifying}
 use Rattle.refusal.specs.declared.Refusal.the-variants.{ZeroCheckFailed, ZeroRoot}
 use Rattle.step.specs.declared.Frac.{Frac}
@@ -45,7 +46,7 @@ pub record AgreedOnNone (b : Buffers) (v : Lent) (P : Prover.Outcome) (Q : Verif
   pub done : P .answer ≡ Done 0 (encFrac (record { p = E.nil; q = E.one }))
   pub point : P .buffers .point ≡ b .point
   pub log : P .buffers .log ≡ b .log
-  pub accepted : Q ≡ outcome (Accepted (enc E.nil) (enc E.one)) (v .point) (v .log)
+  pub accepted : Q ≡ outcome (Accepted (enc E.nil) (enc E.one)) unused (v .point) (v .log)
 
 -- in every mode of proving, with room for the proof's 23 bytes, and in every mode of verifying where 0 rounds are valid; both may be lent any challenges, and the verifier any room
 abbrev pub NoRows : Type 0

@@ -11,5 +11,5 @@ use Rattle.agreement.specs.declared.JointReport.{JointReport}
 
 -- where the prover refuses, nothing is verified: the second is all zero, as what an answer does not name
 abbrev pub jointReport : Joint → JointReport
-jointReport (Proved n s w) = record { proving = answerReport (Done n s); verifying = verdictReport w }
+jointReport (Proved n s u w) = record { proving = answerReport (Done n s); verifying = verdictReport (w .verdict) }
 jointReport (Refused e) = record { proving = answerReport (Denied e); verifying = elements 0 0 none none }

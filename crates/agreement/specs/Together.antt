@@ -2,6 +2,7 @@
 -- Assumes nothing.
 use Prim.Native.Nat.{ℕ}
 use Rattle.refusal.specs.declared.Verifying.{Verifying}
+use Rattle.transcript.specs.Used.{unused}
 use Rattle.prover_gate.specs.Refusals.{Call}
 use Rattle.prover.specs.Proved as Prover
 use Rattle.prover.specs.declared.Answer.{Answer}
@@ -26,10 +27,10 @@ follow c how v P (Denied e) = stopped P v
 unfoldable pub together : (c : Call) (how : Verifying) (b : Prover.Buffers) (v : Lent) → Joined
 together c how b v = follow c how v (Prover.proved c b) (Prover.proved c b .answer)
 
--- an answer and the buffers after it
+-- an answer and the buffers after it; a prover that refuses has used up nothing
 abbrev pub joined : Joint → Prover.Buffers → Lent → Joined
-joined (Proved n s w) b v = ended (record { answer = Done n s; buffers = b }) (record { answer = w; buffers = v })
-joined (Refused e) b v = stopped (record { answer = Denied e; buffers = b }) v
+joined (Proved n s u w) b v = ended (record { answer = Done n s; used = u; buffers = b }) (record { answer = w .verdict; used = w .used; buffers = v })
+joined (Refused e) b v = stopped (record { answer = Denied e; used = unused; buffers = b }) v
 
 abbrev pub Agrees : (c : Call) (n : ℕ) (b : Prover.Buffers) (v : Lent) → Joined → Type 0
 Agrees c n b v (ended P Q) = Agreed c n b v P Q

@@ -17,14 +17,16 @@ use refusal::Refusal;
 use refusal::Report;
 use refusal::Verifying;
 use step::Frac;
-use verifier_round::Verdict;
+use transcript::Used;
+use verifier::Ending;
 
-// What the prover is done with and what the verifier makes of its proof; or the prover's refusal.
+// What the prover is done with and has used up, and how the verifier ends with its proof; or the prover's refusal.
 pub enum Joint {
     Proved {
         rounds: usize,
         sum: Frac,
-        verdict: Verdict,
+        used: Used,
+        verified: Ending,
     },
     Refused(Refusal),
 }
@@ -43,10 +45,11 @@ pub fn number_and_values(joint: Joint) -> JointReport
         Joint::Proved {
             rounds,
             sum,
-            verdict,
+            used,
+            verified,
         } => JointReport {
             proving: prover::number_and_values(Answer::Done { rounds, sum }),
-            verifying: verifier_round::number_and_values(verdict),
+            verifying: verifier_round::number_and_values(verified.verdict),
         },
         Joint::Refused(refusal) => JointReport {
             proving: prover::number_and_values(Answer::Refused(refusal)),
@@ -79,10 +82,11 @@ pub fn prove_and_verify(
         (lent (now (proof .entry)) (now (point .entry)) (now (log .entry)) (now (work .entry))) (again (now («point_again» .entry)) (now («log_again» .entry)))
         (joined r (lent (now (proof .exit)) (now (point .exit)) (now (log .exit)) (now (work .exit))) (again (now («point_again» .exit)) (now («log_again» .exit))))) ⌝ }
 {
-    match prover::fractional_sumcheck(rows, modes, challenges, proof, point, log, work) {
+    let proved = prover::fractional_sumcheck(rows, modes, challenges, proof, point, log, work);
+    match proved.answer {
         Answer::Done { rounds, sum } => {
             let size = sizes::proof_bytes(rounds);
-            let verdict = verifier::verify_gkr(
+            let verified = verifier::verify_gkr(
                 &proof[..size],
                 rounds,
                 how,
@@ -93,7 +97,8 @@ pub fn prove_and_verify(
             Joint::Proved {
                 rounds,
                 sum,
-                verdict,
+                used: proved.used,
+                verified,
             }
         }
         Answer::Refused(refusal) => Joint::Refused(refusal),

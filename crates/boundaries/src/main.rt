@@ -14,7 +14,7 @@ fn prove(name: &[u8], rows: &[u32], challenges: &[u32], proof: &mut [u8]) {
     let mut point = [0u32; 40];
     let mut log = [0u32; 964];
     let mut work = [0u32; 32768];
-    let answer = prover::fractional_sumcheck(
+    let proved = prover::fractional_sumcheck(
         rows,
         Proving {
             live: false,
@@ -27,13 +27,13 @@ fn prove(name: &[u8], rows: &[u32], challenges: &[u32], proof: &mut [u8]) {
         &mut log,
         &mut work,
     );
-    print_answer(name, prover::number_and_values(answer).number);
+    print_answer(name, prover::number_and_values(proved.answer).number);
 }
 
 fn verify(name: &[u8], proof: &[u8], rounds: usize, challenges: &[u32]) {
     let mut point = [0u32; 44];
     let mut log = [0u32; 1144];
-    let verdict = verifier::verify_gkr(
+    let verified = verifier::verify_gkr(
         proof,
         rounds,
         Verifying {
@@ -45,7 +45,10 @@ fn verify(name: &[u8], proof: &[u8], rounds: usize, challenges: &[u32]) {
         &mut point,
         &mut log,
     );
-    print_answer(name, verifier_round::number_and_values(verdict).number);
+    print_answer(
+        name,
+        verifier_round::number_and_values(verified.verdict).number,
+    );
 }
 
 fn main() {

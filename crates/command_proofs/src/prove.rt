@@ -33,7 +33,7 @@ fn prove_with(rows: &[u32], challenges: &[u32], counted: bool, modes: Proving, p
     let mut point = [0u32; 40];
     let mut log = [0u32; 964];
     let mut work = [0u32; 32768];
-    match prover::fractional_sumcheck(
+    let proved = prover::fractional_sumcheck(
         rows,
         modes,
         challenges,
@@ -41,7 +41,8 @@ fn prove_with(rows: &[u32], challenges: &[u32], counted: bool, modes: Proving, p
         &mut point,
         &mut log,
         &mut work,
-    ) {
+    );
+    match proved.answer {
         Answer::Done { rounds, sum } => {
             if keep_proof(path, &proof, rows.len() / 8, rounds, sum) {
                 print_notes(sum.q.is_zero(), counted);

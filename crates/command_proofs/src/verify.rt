@@ -8,7 +8,17 @@ use command_files::After;
 use command_text::print;
 use refusal::Verifying;
 use step::Frac;
+use transcript::Used;
 use verifier_round::Verdict;
+
+// What the verdict used up.
+fn print_used(used: Used) {
+    print(b"used ");
+    io::print_decimal(1, used.challenges as u64);
+    print(b" challenges, ");
+    io::print_decimal(1, used.words as u64);
+    print(b" log words\n");
+}
 
 fn verify_with(
     proof: &[u8],
@@ -20,13 +30,19 @@ fn verify_with(
 ) {
     let mut point = [0u32; 40];
     let mut log = [0u32; 960];
-    match verifier::verify_gkr(proof, rounds, modes, challenges, &mut point, &mut log) {
+    let verified = verifier::verify_gkr(proof, rounds, modes, challenges, &mut point, &mut log);
+    let used = verified.used;
+    match verified.verdict {
         Verdict::Accepted { numer, denom } => {
             answers::print_accepted(numer, denom, &point, rounds);
+            print_used(used);
             print_notes(stored::is_over_zero(proof), counted);
             compare_sheet(sheet, &point, rounds, Frac { p: numer, q: denom });
         }
-        Verdict::Refused(refusal) => print_refused(proof, refusal),
+        Verdict::Refused(refusal) => {
+            print_refused(proof, refusal);
+            print_used(used);
+        }
     }
 }
 

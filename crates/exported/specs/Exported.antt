@@ -9,8 +9,10 @@ use Rattle.field.specs.Ext as E
 use Rattle.field.specs.ExtRing.{ExtRing}
 use Rattle.field.specs.Element.{words, pointWords}
 use Rattle.gkr.specs.Run.{Frac}
-use Rattle.gkr.specs.Sizes.{proof-bytes, log-words}
+use Rattle.gkr.specs.Sizes.{proof-bytes, log-words, challenges}
 use Rattle.gkr.specs.Tree as Tree
+use Rattle.transcript.specs.declared.Used.{Used}
+use Rattle.transcript.specs.Used.{used}
 use Rattle.prover_tree.specs.Nodes.{node}
 use Rattle.prover_gate.specs.Refusals.{Call}
 use Rattle.refusal.specs.declared.Proving.{Proving}
@@ -24,9 +26,13 @@ use Rattle.accudrina.specs.Answer.{Told}
 use Rattle.accudrina.specs.Modes.{LIVE, ASSERT-ZERO, DRAWN, EMPTY}
 use Rattle.accudrina.specs.Calls.{Returned, proving, verifying}
 
--- done: the number 0 is returned, and the sixteen words are 0, a plain field, two zeros, two elements, four zeros
-abbrev pub done : (field : ℕ) → Frac E.Ext → Told
-done field f = record { number = 0; words = 0 ∷ field ∷ 0 ∷ 0 ∷ (words (f .p) ++ (words (f .q) ++ (0 ∷ 0 ∷ 0 ∷ 0 ∷ []))) }
+-- done: the number 0 is returned, and the sixteen words are 0, a plain field, two zeros, two elements, what was used up, two zeros
+abbrev pub done : (field : ℕ) → Frac E.Ext → Used → Told
+done field f u = record { number = 0; words = 0 ∷ field ∷ 0 ∷ 0 ∷ (words (f .p) ++ (words (f .q) ++ (u .challenges ∷ u .words ∷ 0 ∷ 0 ∷ []))) }
+
+-- the challenges and log words of a whole run, zero asserted
+abbrev pub whole : (n : ℕ) → Used
+whole n = used (challenges n) (log-words true n)
 
 -- the word of modes of proving, and of verifying
 abbrev pub word : Proving → ℕ
@@ -62,10 +68,10 @@ pub record Premises (c : Call) (how : Verifying) (n : ℕ) (b : Buffers) (v : Le
 pub record Exchanged (c : Call) (n : ℕ) (b : Buffers) (v : Lent) (P : Returned Buffers) (Q : Returned Lent) : Type 0 where
   pub point : List E.Ext
   pub logged : List ℕ
-  -- the prover's call tells n and the sum of all rows
-  pub proved : P .told ≡ done n (root c n)
-  -- the verifier's tells the values of both columns at the point, the plain sums over all rows
-  pub accepted : Q .told ≡ done 0 (Tree.value ExtRing (node (c .rows)) point)
+  -- the prover's call tells n and the sum of all rows, and a whole run used up
+  pub proved : P .told ≡ done n (root c n) (whole n)
+  -- the verifier's tells the values of both columns at the point, the plain sums over all rows, and as much used up
+  pub accepted : Q .told ≡ done 0 (Tree.value ExtRing (node (c .rows)) point) (whole n)
   -- the point is one, and so is the log, at the fronts of the buffers; the rest is as before
   pub coordinates : length point ≡ n
   pub proved-point : P .buffers .point ≡ over (pointWords point) (b .point)

@@ -17,6 +17,8 @@ use Rattle.soundness.specs.Few.{AtMost}
 use Rattle.soundness.specs.Fractions.{SumsToZero}
 use Rattle.soundness.specs.Steps.{bad}
 use Rattle.soundness.specs.Challenges.{RootIs}
+use Rattle.transcript.specs.declared.Used.{Used}
+use Rattle.transcript.specs.Used.{unused}
 use Rattle.sizes.specs.Sizes.{rowCount}
 use Rattle.prover_tree.specs.Nodes.{node}
 use Rattle.verifier.specs.Verified.{Asked, Lent, asked}
@@ -39,12 +41,13 @@ returned h v = verifying (h .proof) (h .rounds) (h .modes) (h .challenges) v
 abbrev pub call : Handed → Asked
 call h = asked (h .proof) (h .rounds) (verifyingOf (h .modes)) (h .challenges)
 
--- BOTH CALLS RETURN 0 AND TELL THE SAME TWO ELEMENTS: verifying, of one round or more, and evaluating the rows at the front of the point buffer
+-- BOTH CALLS RETURN 0 AND TELL THE SAME TWO ELEMENTS: verifying, of one round or more and whatever it used up, and evaluating the rows at the front of the point buffer
 pub record Checked (h : Handed) (v : Lent) (rows : List ℕ) : Type 0 where
   pub some : 1 ≤ h .rounds
   pub claims : Frac E.Ext
-  pub accepted : returned h v .told ≡ done 0 claims
-  pub valued : evaluating rows (take (point-words (h .rounds)) (returned h v .buffers .point)) ≡ done (h .rounds) claims
+  pub spent : Used
+  pub accepted : returned h v .told ≡ done 0 claims spent
+  pub valued : evaluating rows (take (point-words (h .rounds)) (returned h v .buffers .point)) ≡ done (h .rounds) claims unused
 
 -- THEN the sum of all rows is zero over the proof's q0, or a challenge was bad
 abbrev pub ExportedSound : Type 0

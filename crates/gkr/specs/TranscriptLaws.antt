@@ -3,7 +3,7 @@
 use mathlib.Core.Path.{_≡_, refl, _∙_, ap, ap₂, subst}
 use mathlib.Core.Bool.{Bool, true, false, cond}
 use mathlib.Core.List.{List, [], _∷_, _++_, map, append-nil}
-use Prim.Native.Nat.{ℕ, zero, suc, _≤_, _+_, _^_}
+use Prim.Native.Nat.{ℕ, zero, suc, _≤_, _+_, _*_, _^_}
 use native.Mathlib.Nat.{zero-add}
 use native.Mathlib.Omega.{arith}
 use lib.ListN.{length, length-append, length-map, getD}
@@ -109,6 +109,29 @@ module _ (F : Field) (words : F .ring .carrier → List ℕ) (source : Source (F
     left-words (suc m) π t =
         subst (λ k. length (Gkr.log-after F S t (Gkr.verify-gkr F S (suc m) π t) .log) ≤ length (t .log) + k) (Count.words m)
         (VerifierCount.left-size F S (λ u. length (u .log)) 4 4 observe-words drawn-words m π t)
+
+    -- HOW MANY OF THEM ARE SAMPLED, where no word of an element has its top bit set: four for each challenge
+
+    module _ (plain : (x : R) → sampled-words (words x) ≡ []) where
+      abbrev pub Marked : Words → Type 0
+      Marked t = length (sampled-words (t .log)) ≡ 4 * t .used
+
+      observe-marked : (x : R) (t : Words) → Marked t → Marked (S .observe x t)
+      observe-marked x t h = ap length (sampled-append (t .log) (words x) ∙ ap (λ l. sampled-words (t .log) ++ l) (plain x) ∙ append-nil _) ∙ h
+
+      drawn-marked : (t : Words) → Marked t → Marked (S .drawn t)
+      drawn-marked t h =
+          ap length (sampled-append (t .log) _ ∙ ap (λ l. sampled-words (t .log) ++ l) (sampled-mark (words (source t))))
+          ∙ length-append (sampled-words (t .log)) _
+          ∙ ap₂ _+_ h (length-map (words (source t)) mark ∙ four (source t))
+          ∙ omega arith
+
+      pub done-marked : (asserted : Bool) (m : ℕ) (f : ℕ → Frac R) (t : Words) (P : Gkr.Proved F S)
+          → Gkr.fractional-sumcheck F S asserted m f t ≡ done P → Marked t → Marked (P .log)
+      done-marked = Keeps.done-keeps F S Marked observe-marked drawn-marked
+
+      pub left-marked : (n : ℕ) (π : Proof R) (t : Words) → Marked t → Marked (Gkr.log-after F S t (Gkr.verify-gkr F S n π t))
+      left-marked = Keeps.verify-keeps F S Marked observe-marked drawn-marked
 
 -- THE ORDER, where no word of an element has its top bit set
 

@@ -1,16 +1,19 @@
--- What holds of all calls of the prover: isolation, what is left of a run, live mode, drawn challenges. Each speaks of what a call writes: `proved` lays that over the buffers.
+-- What holds of all calls of the prover: isolation, what is left of a run, live mode, drawn challenges, what was used up. Each speaks of what a call writes: `proved` lays that over the buffers.
 -- Assumes nothing.
 use mathlib.Core.Path.{_≡_}
 use mathlib.Core.Bool.{Bool, true, false}
 use mathlib.Core.List.{List, []}
-use Prim.Native.Nat.{ℕ, _<_}
-use lib.ListN.{replicate}
+use Prim.Native.Nat.{ℕ, _*_, _<_}
+use lib.ListN.{length, replicate}
+use Rattle.gkr.specs.Sizes.{challenges}
+use Rattle.gkr.specs.TranscriptLaws.{sampled-words}
+use Rattle.transcript.specs.Used.{used, unused}
 use Rattle.refusal.specs.Tests.{passed, refused}
 use Rattle.refusal.specs.declared.Refusal.{Refusal}
 use Rattle.refusal.specs.declared.Refusal.the-variants.{ShortChallenges, ZeroDenominator, NonZeroRootSum}
 use Rattle.step.specs.declared.Frac.{Frac}
 use Rattle.prover_tree.specs.Nodes.{node}
-use Rattle.sizes.specs.Sizes.{rowCount, roundsOf, workRoom}
+use Rattle.sizes.specs.Sizes.{rowCount, roundsOf, logRoom, workRoom}
 use Rattle.prover_gate.specs.Refusals.{Call, Rooms, call, degenerate, firstRefusal}
 use Rattle.prover.specs.declared.Answer.the-variants.{Done, Refused}
 use Rattle.prover.specs.Proved.{Buffers, Outcome, lent, roomsOf, laid, untouched, fronts, proved}
@@ -54,3 +57,13 @@ pub record LiveMode (c : Call) (r : Rooms) : Type 0 where
 pub record DrawnMode (c : Call) (r : Rooms) : Type 0 where
   pub unread : c .modes .drawn ≡ true → (lent : List ℕ) → fronts (call (c .rows) (c .modes) lent) r ≡ fronts c r
   pub enough : c .modes .drawn ≡ true → fronts c r .answer ≡ Refused ShortChallenges → ⊥
+
+-- WHAT WAS USED UP: so many words are logged, and four sampled ones among them for each challenge; those of a whole run where it is done, none for no rows; nothing where it is refused
+pub record UsedUp (c : Call) (f : Outcome) : Type 0 where
+  pub words : length (f .buffers .log) ≡ f .used .words
+  pub sampled : length (sampled-words (f .buffers .log)) ≡ 4 * f .used .challenges
+  pub done : (n : ℕ) (s : Frac) → f .answer ≡ Done n s → f .used ≡ used (challenges n) (logRoom (c .modes .«assert_zero») n)
+  pub none : (e : Refusal) → f .answer ≡ Refused e → f .used ≡ unused
+
+abbrev pub UsingUp : Type 0
+UsingUp = (c : Call) (r : Rooms) → UsedUp c (fronts c r)

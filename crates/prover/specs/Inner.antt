@@ -16,6 +16,8 @@ use Rattle.gkr.specs.Sizes as Sizes
 use Rattle.gkr.specs.Tree as Tree
 use Rattle.gkr.specs.Gkr as Gkr
 use Rattle.transcript.specs.Log.{Drawing}
+use Rattle.transcript.specs.declared.Used.{Used}
+use Rattle.transcript.specs.Used.{usedUp}
 use Rattle.stored.specs.Layout.{layout}
 use Rattle.stored.specs.Elements.{encoded}
 use Rattle.stored.specs.Lengths.{proofSize}
@@ -26,14 +28,20 @@ use Rattle.refusal.specs.declared.Proving.{Proving}
 use Rattle.sizes.specs.Sizes.{rowCount, roundsOf, neededWords, logRoom, workRoom}
 use Rattle.prover_gate.specs.Refusals.{Rooms}
 use Rattle.refusal.specs.Fronts.{over}
+use Rattle.prover.specs.declared.Answer.{Answer}
+use Rattle.prover.specs.declared.Ending.{Ending}
 use Rattle.prover.specs.Proved.{Buffers}
+
+abbrev pub ending : Answer → Used → Ending
+ending answer used = record { answer = answer; used = used }
 
 -- the model's run over 2 ^ suc m rows f
 abbrev pub runOf : (f : ℕ → Frac E.Ext) (asserted : Bool) (m : ℕ) (ch : Source E.Ext) → Gkr.Proved Extension (Drawing ch)
 runOf f asserted m ch = Gkr.run Extension (Drawing ch) m f (begun asserted (Tree.tree ExtRing f (suc m) 0 .p) empty)
 
--- it is written, and the workspace wiped
-pub record Written (f : ℕ → Frac E.Ext) (asserted : Bool) (m : ℕ) (ch : Source E.Ext) (b b' : Buffers) : Type 0 where
+-- it is written, what it used up is told, and the workspace wiped
+pub record Written (f : ℕ → Frac E.Ext) (asserted : Bool) (m : ℕ) (ch : Source E.Ext) (b b' : Buffers) (u : Used) : Type 0 where
+  pub used : u ≡ usedUp (runOf f asserted m ch .log)
   pub proof : b' .proof ≡ over (layout (encoded (runOf f asserted m ch .proof))) (b .proof)
   pub point : b' .point ≡ over (pointWords (runOf f asserted m ch .point)) (b .point)
   pub log : b' .log ≡ over (runOf f asserted m ch .log .log) (b .log)

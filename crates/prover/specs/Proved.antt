@@ -1,4 +1,4 @@
--- What a call of the prover answers and writes at the front of every buffer, and what these hold after it: the refusals in their order, the model's run, and the stored forms.
+-- What a call of the prover answers, uses up and writes at the front of every buffer, and what these hold after it: the refusals in their order, the model's run, and the stored forms.
 -- Assumes nothing.
 use mathlib.Core.Bool.{Bool, cond, not, _&&_}
 use mathlib.Core.List.{List, []}
@@ -14,6 +14,8 @@ use Rattle.gkr.specs.Gkr as Gkr
 use Rattle.gkr.specs.Gkr.{done, non-zero-root-sum}
 use Rattle.transcript.specs.Source.{supplied, source}
 use Rattle.transcript.specs.Log.{Drawing}
+use Rattle.transcript.specs.declared.Used.{Used}
+use Rattle.transcript.specs.Used.{unused, usedUp}
 use Rattle.step.specs.declared.Frac.{Frac as FracW}
 use Rattle.prover_tree.specs.Nodes.{node}
 use Rattle.stored.specs.Layout.{layout}
@@ -41,33 +43,34 @@ lent proof point log work = record { proof = proof; point = point; log = log; wo
 abbrev pub roomsOf : Buffers → Rooms
 roomsOf b = record { proof = length (b .proof); point = length (b .point); log = length (b .log); work = length (b .work) }
 
--- an answer, and four lists: the words that a call writes, or what the buffers hold after it
+-- an answer, what was used up, and four lists: the words that a call writes, or what the buffers hold after it
 pub record Outcome : Type 0 where
   pub answer : Answer
+  pub used : Used
   pub buffers : Buffers
 
-abbrev pub outcome : Answer → (proof point log work : List ℕ) → Outcome
-outcome answer proof point log work = record { answer = answer; buffers = record { proof = proof; point = point; log = log; work = work } }
+abbrev pub outcome : Answer → Used → (proof point log work : List ℕ) → Outcome
+outcome answer used proof point log work = record { answer = answer; used = used; buffers = record { proof = proof; point = point; log = log; work = work } }
 
 -- the words of a front at the fronts of the buffers, and the rest as before
 abbrev pub laid : (front : Outcome) → Buffers → Outcome
-laid f b = outcome (f .answer) (over (f .buffers .proof) (b .proof)) (over (f .buffers .point) (b .point)) (over (f .buffers .log) (b .log)) (over (f .buffers .work) (b .work))
+laid f b = outcome (f .answer) (f .used) (over (f .buffers .proof) (b .proof)) (over (f .buffers .point) (b .point)) (over (f .buffers .log) (b .log)) (over (f .buffers .work) (b .work))
 
 abbrev pub encFrac : Frac E.Ext → FracW
 encFrac x = record { p = enc (x .p); q = enc (x .q) }
 
 -- a refusal that writes nothing
 abbrev pub untouched : Refusal → Outcome
-untouched e = outcome (Refused e) [] [] [] []
+untouched e = outcome (Refused e) unused [] [] [] []
 
 -- n rounds are done: the workspace that they need is zero
 abbrev pub finished : (ch : Source E.Ext) (n : ℕ) → Gkr.Proved Extension (Drawing ch) → Outcome
-finished ch n P = outcome (Done n (encFrac (P .sum))) (layout (encoded (P .proof))) (pointWords (P .point)) (P .log .log) (replicate (workRoom n) 0)
+finished ch n P = outcome (Done n (encFrac (P .sum))) (usedUp (P .log)) (layout (encoded (P .proof))) (pointWords (P .point)) (P .log .log) (replicate (workRoom n) 0)
 
 -- what the model answers over n rounds, with the challenges ch
 abbrev pub after : (ch : Source E.Ext) (n : ℕ) → Gkr.Answer Extension (Drawing ch) → Outcome
 after ch n (done P) = finished ch n P
-after ch n non-zero-root-sum = outcome (Refused NonZeroRootSum) [] [] [] (replicate (workRoom n) 0)
+after ch n non-zero-root-sum = outcome (Refused NonZeroRootSum) unused [] [] [] (replicate (workRoom n) 0)
 
 -- one row is never proved
 abbrev pub oneRow : (rows : List ℕ) (asserted : Bool) → Refusal

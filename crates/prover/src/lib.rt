@@ -15,8 +15,10 @@ ghost use Rattle.step.specs.Values.{CanonFrac, IsFrac};
 ghost use Rattle.prover_rounds.specs.Layers.{Levels};
 ghost use Rattle.sizes.specs.Sizes.{rowCount};
 ghost use Rattle.prover_gate.specs.Refusals.{call, rooms};
+ghost use Rattle.transcript.specs.Used.{unused};
+ghost use Rattle.prover.specs.declared.Answer.the-variants.{Refused};
 ghost use Rattle.prover.specs.Proved.{lent, outcome, laid, oneRow, modelled, ran, proved};
-ghost use Rattle.prover.specs.Inner.{Written, Room, Opens};
+ghost use Rattle.prover.specs.Inner.{ending, Written, Room, Opens};
 ghost use Rattle.prover.specs.Report.{answerReport};
 use field::Ext;
 use prover_gate::Gate;
@@ -25,6 +27,7 @@ use refusal::Refusal;
 use refusal::Report;
 use sizes::Size;
 use step::Frac;
+use transcript::Used;
 
 // Done tells n and the sum of all rows.
 pub enum Answer {
@@ -32,7 +35,23 @@ pub enum Answer {
     Refused(Refusal),
 }
 
-// The run over the tree in the workspace, its proof from the log, and the wiping of the workspace.
+// How a call ends: its answer, and what it used up.
+pub struct Ending {
+    pub answer: Answer,
+    pub used: Used,
+}
+
+// A refusal, which has used up nothing.
+fn refuse(refusal: Refusal) -> Ending
+    ensures { λ r. ⌜ r ≡ ending (Refused refusal) unused ⌝ }
+{
+    Ending {
+        answer: Answer::Refused(refusal),
+        used: transcript::unused(),
+    }
+}
+
+// The run over the tree in the workspace, its proof from the log, the wiping of the workspace, and what was used up.
 fn write_run(
     n: usize,
     size: usize,
@@ -44,20 +63,21 @@ fn write_run(
     xi: &mut [u32],
     log: &mut [u32],
     work: &mut [u32],
-)
+) -> Used
     requires room { ⌜ Room asserted drawn n size (length (now challenges)) (length (now proof)) (length (now xi)) (length (now log)) (length (now work)) ⌝ }
     requires clean { ⌜ Clean (now work) × Clean (now challenges) × CanonFrac root ⌝ }
-    ensures { λ _. ⌜ ((f : ℕ → Fraction E.Ext) (m : ℕ) → n ≡ suc m → Levels f (now (work .entry)) n 0 → IsFrac root (Tree.tree ExtRing f (suc m) 0)
+    ensures { λ r. ⌜ ((f : ℕ → Fraction E.Ext) (m : ℕ) → n ≡ suc m → Levels f (now (work .entry)) n 0 → IsFrac root (Tree.tree ExtRing f (suc m) 0)
         → Written f asserted m (source drawn (now (challenges .entry))) (lent (now (proof .entry)) (now (xi .entry)) (now (log .entry)) (now (work .entry)))
-        (lent (now (proof .exit)) (now (xi .exit)) (now (log .exit)) (now (work .exit)))) ⌝ }
+        (lent (now (proof .exit)) (now (xi .exit)) (now (log .exit)) (now (work .exit))) r) ⌝ }
 {
     let first = transcript::start(drawn);
     let pos = prover_run::begin(log, first, asserted, root.p);
     let mut lanes = [0u64; 25]; // of a sponge that has taken in nothing
-    prover_run::run_rounds(n, size, root.q, work, xi, log, &mut lanes, challenges, pos);
+    let end = prover_run::run_rounds(n, size, root.q, work, xi, log, &mut lanes, challenges, pos);
     let i = pos.put / 4;
     stored_writer::put_proof(proof, log, i, n);
     prover_tree::clear(work); // nothing of the rows stays
+    transcript::used_up(end)
 }
 
 // Whether zero is asserted of a sum whose numerator is not zero.
@@ -82,19 +102,19 @@ fn prove(
     xi: &mut [u32],
     log: &mut [u32],
     work: &mut [u32],
-) -> Answer
+) -> Ending
     requires room { ⌜ Room asserted drawn n size (length (now challenges)) (length (now proof)) (length (now xi)) (length (now log)) (length (now work)) ⌝ }
     requires clean { ⌜ (8 * size ≤ length (now rows)) × Clean (now rows) × Clean (now challenges) ⌝ }
-    ensures { λ r. ⌜ ((m : ℕ) → n ≡ suc m → outcome r (now (proof .exit)) (now (xi .exit)) (now (log .exit)) (now (work .exit))
+    ensures { λ r. ⌜ ((m : ℕ) → n ≡ suc m → outcome (r .answer) (r .used) (now (proof .exit)) (now (xi .exit)) (now (log .exit)) (now (work .exit))
         ≡ laid (modelled (now (rows .entry)) asserted (source drawn (now (challenges .entry))) m)
         (lent (now (proof .entry)) (now (xi .entry)) (now (log .entry)) (now (work .entry)))) ⌝ }
 {
     let root = prover_run::sum_rows(rows, size, work);
     if contradicts(asserted, root.p) {
         prover_tree::clear(work);
-        return Answer::Refused(Refusal::NonZeroRootSum);
+        return refuse(Refusal::NonZeroRootSum);
     }
-    write_run(
+    let used = write_run(
         n,
         size,
         root,
@@ -106,9 +126,12 @@ fn prove(
         log,
         work,
     );
-    Answer::Done {
-        rounds: n,
-        sum: root,
+    Ending {
+        answer: Answer::Done {
+            rounds: n,
+            sum: root,
+        },
+        used,
     }
 }
 
@@ -124,21 +147,24 @@ fn one_row(rows: &[u32], asserted: bool) -> Refusal
 }
 
 // No rounds: no rows are done, with the 23 bytes of their proof; one row is refused.
-fn no_rounds(rows: &[u32], modes: Proving, proof: &mut [u8]) -> Answer
+fn no_rounds(rows: &[u32], modes: Proving, proof: &mut [u8]) -> Ending
     requires { ⌜ (length (now rows) ≡ 8 * rowCount (now rows)) × (23 ≤ length (now proof)) × Clean (now rows) ⌝ }
-    ensures { λ r. ⌜ ((pt lg ws : List ℕ) → outcome r (now (proof .exit)) pt lg ws ≡ laid (ran (now (rows .entry)) modes [] 0) (lent (now (proof .entry)) pt lg ws)) ⌝ }
+    ensures { λ r. ⌜ ((pt lg ws : List ℕ) → outcome (r .answer) (r .used) (now (proof .exit)) pt lg ws ≡ laid (ran (now (rows .entry)) modes [] 0) (lent (now (proof .entry)) pt lg ws)) ⌝ }
 {
     if rows.len() / 8 == 0 {
         stored_writer::put_no_rows(proof);
-        return Answer::Done {
-            rounds: 0,
-            sum: Frac {
-                p: Ext::ZERO,
-                q: Ext::ONE,
+        return Ending {
+            answer: Answer::Done {
+                rounds: 0,
+                sum: Frac {
+                    p: Ext::ZERO,
+                    q: Ext::ONE,
+                },
             },
+            used: transcript::unused(),
         };
     }
-    Answer::Refused(one_row(rows, modes.assert_zero))
+    refuse(one_row(rows, modes.assert_zero))
 }
 
 // What passed the gate, with its size. A run gets the needed parts of the challenges, the point and the workspace.
@@ -151,9 +177,9 @@ fn admitted(
     point: &mut [u32],
     log: &mut [u32],
     work: &mut [u32],
-) -> Answer
+) -> Ending
     requires { ⌜ Opens (now rows) modes (now challenges) (rooms (length (now proof)) (length (now point)) (length (now log)) (length (now work))) (size .n) (size .rows) ⌝ }
-    ensures { λ r. ⌜ outcome r (now (proof .exit)) (now (point .exit)) (now (log .exit)) (now (work .exit))
+    ensures { λ r. ⌜ outcome (r .answer) (r .used) (now (proof .exit)) (now (point .exit)) (now (log .exit)) (now (work .exit))
         ≡ laid (ran (now (rows .entry)) modes (now (challenges .entry)) (size .n))
         (lent (now (proof .entry)) (now (point .entry)) (now (log .entry)) (now (work .entry))) ⌝ }
 {
@@ -188,8 +214,8 @@ pub fn fractional_sumcheck(
     point: &mut [u32],
     log: &mut [u32],
     work: &mut [u32],
-) -> Answer
-    ensures { λ r. ⌜ outcome r (now (proof .exit)) (now (point .exit)) (now (log .exit)) (now (work .exit))
+) -> Ending
+    ensures { λ r. ⌜ outcome (r .answer) (r .used) (now (proof .exit)) (now (point .exit)) (now (log .exit)) (now (work .exit))
         ≡ proved (call (now (rows .entry)) modes (now (challenges .entry)))
         (lent (now (proof .entry)) (now (point .entry)) (now (log .entry)) (now (work .entry))) ⌝ }
 {
@@ -203,7 +229,7 @@ pub fn fractional_sumcheck(
         work.len(),
     );
     match gate {
-        Gate::Shut(r) => Answer::Refused(r),
+        Gate::Shut(r) => refuse(r),
         Gate::Open(size) => admitted(rows, size, modes, challenges, proof, point, log, work),
     }
 }

@@ -44,8 +44,10 @@ fn call(
     point: &mut [u32],
     log: &mut [u32],
 ) {
-    let verdict = verifier::verify_gkr(proof, rounds, modes, challenges, point, log);
-    print::report(verifier_round::number_and_values(verdict));
+    let verified = verifier::verify_gkr(proof, rounds, modes, challenges, point, log);
+    print::report(verifier_round::number_and_values(verified.verdict));
+    print::next(verified.used.challenges as u64);
+    print::next(verified.used.words as u64);
     print::words(point);
     print::words(log);
     print::end();

@@ -60,12 +60,13 @@ fn show_rows(rows: &[u32], count: usize, work: &mut [u32]) {
         Joint::Proved {
             rounds,
             sum,
-            verdict,
+            used,
+            verified,
         } => {
             print_number(b"rows ", count as u64);
             print_number(b"rounds ", rounds as u64);
             print_sum(sum);
-            print_verdict(verdict, &point_again, rounds);
+            print_verdict(verified.verdict, &point_again, rounds);
         }
         Joint::Refused(refusal) => print_refusal(refusal),
     }

@@ -1,4 +1,6 @@
 -- The transcript over lent buffers.
 pub mod Source
 pub mod Log
+pub mod Used
+pub mod UsedLaws
 pub mod LogLaws

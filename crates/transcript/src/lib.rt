@@ -8,6 +8,7 @@ ghost use Rattle.field.specs.Element.{dec, Canon, Is};
 ghost use Rattle.shake.specs.Drawn.{message, Holds};
 ghost use Rattle.transcript.specs.Source.{supplied, label, drawnSource, source};
 ghost use Rattle.transcript.specs.Log.{Drawing, Enough, Observing, logOf, spongeOf, Steps, WordDrawn};
+ghost use Rattle.transcript.specs.Used.{unused, usedAt};
 use field::Ext;
 use shake::Sponge;
 
@@ -18,6 +19,12 @@ pub struct Pos {
     pub used: usize,
     pub drawn: bool,
     pub blocks: usize,
+}
+
+// What a run used up: the challenges sampled, and the words of the log written.
+pub struct Used {
+    pub challenges: usize,
+    pub words: usize,
 }
 
 // A challenge, and where the run stands after it.
@@ -41,6 +48,26 @@ pub fn start(drawn: bool) -> Pos
         used: 0,
         drawn,
         blocks: 0,
+    }
+}
+
+// Nothing is used up.
+pub fn unused() -> Used
+    ensures { λ r. ⌜ r ≡ unused ⌝ }
+{
+    Used {
+        challenges: 0,
+        words: 0,
+    }
+}
+
+// What is used up at a position.
+pub fn used_up(pos: Pos) -> Used
+    ensures { λ r. ⌜ r ≡ usedAt pos ⌝ }
+{
+    Used {
+        challenges: pos.used,
+        words: pos.put,
     }
 }
 

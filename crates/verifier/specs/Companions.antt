@@ -1,19 +1,24 @@
--- What stands beside `verified`: isolation, what a refusal leaves, live mode, drawn challenges, empty sheets.
+-- What stands beside `verified`: isolation, what a refusal leaves, live mode, drawn challenges, empty sheets, what was used up.
 -- Assumes nothing.
 use mathlib.Core.Path.{_≡_}
 use mathlib.Core.Bool.{Bool, true, false}
 use mathlib.Core.Logic.{_↔_}
 use mathlib.Core.List.{List}
-use Prim.Native.Nat.{ℕ, _-_, _≤_}
+use Prim.Native.Nat.{ℕ, _*_, _-_, _≤_}
 use lib.ListN.{length}
 use Rattle.field.specs.Ext as E
+use Rattle.field.specs.declared.Ext.{Ext}
+use Rattle.gkr.specs.Sizes.{challenges, log-words}
+use Rattle.gkr.specs.TranscriptLaws.{sampled-words}
+use Rattle.transcript.specs.Used.{used, unused}
 use Rattle.refusal.specs.declared.Refusal.{Refusal}
 use Rattle.refusal.specs.declared.Refusal.the-variants.{ShortChallenges, ZeroRounds, ZeroRoot}
 use Rattle.refusal.specs.Numbers.{reportOf}
+use Rattle.refusal.specs.Fronts.{over}
 use Rattle.refusal.specs.Tests.{passed, firstOf}
 use Rattle.stored.specs.Parse.{layerCount, entryCount, proofOf}
 use Rattle.stored.specs.Elements.{decoded}
-use Rattle.verifier_round.specs.declared.Verdict.the-variants.{Refused}
+use Rattle.verifier_round.specs.declared.Verdict.the-variants.{Accepted, Refused}
 use Rattle.verifier.specs.Verified.{Asked, Lent, Outcome, outcome, asked, tests, laid, verified}
 
 -- two outcomes over different buffers: the same answer, and the same words written
@@ -59,6 +64,18 @@ emptied-mode empty a = asked (a .proof) (a .rounds) (record { live = a .modes .l
 
 pub record EmptyVerifying (a : Asked) (b : Lent) : Type 0 where
   pub equal : 1 ≤ a .rounds → verified (emptied-mode true a) b ≡ verified (emptied-mode false a) b
-  pub old : a .rounds ≡ 0 → verified (emptied-mode false a) b ≡ outcome (Refused ZeroRounds) (b .point) (b .log)
+  pub old : a .rounds ≡ 0 → verified (emptied-mode false a) b ≡ outcome (Refused ZeroRounds) unused (b .point) (b .log)
   pub never : ¬ (verified (emptied-mode true a) b .answer ≡ Refused ZeroRounds)
   pub nothing : a .rounds ≡ 0 → verified (emptied-mode true a) b .buffers ≡ b
+
+-- WHAT WAS USED UP: so many words stand at the front of the log, and four sampled ones among them for each challenge; at most those of a run, and those where it accepts;
+-- nothing for no rounds, and for a refusal before the run
+pub record UsedUp (a : Asked) (b : Lent) : Type 0 where
+  pub written : List ℕ
+  pub log : verified a b .buffers .log ≡ over written (b .log)
+  pub words : length written ≡ verified a b .used .words
+  pub sampled : length (sampled-words written) ≡ 4 * verified a b .used .challenges
+  pub most : 1 ≤ a .rounds → (verified a b .used .challenges ≤ challenges (a .rounds)) × (verified a b .used .words ≤ log-words true (a .rounds))
+  pub whole : (x y : Ext) → verified a b .answer ≡ Accepted x y → 1 ≤ a .rounds → verified a b .used ≡ used (challenges (a .rounds)) (log-words true (a .rounds))
+  pub none : (e : Refusal) → verified a b .answer ≡ Refused e → ¬ ((16 ≤ reportOf e .number) × (reportOf e .number ≤ 19)) → verified a b .used ≡ unused
+  pub no-rounds : a .rounds ≡ 0 → verified a b .used ≡ unused

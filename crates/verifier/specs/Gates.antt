@@ -11,7 +11,9 @@ use Rattle.field.specs.Cells.{Clean}
 use Rattle.gkr.specs.Transcripts.{Source, empty}
 use Rattle.gkr.specs.Gkr as Gkr
 use Rattle.transcript.specs.declared.Pos.{Pos}
+use Rattle.transcript.specs.declared.Used.{Used}
 use Rattle.transcript.specs.Log.{Drawing}
+use Rattle.transcript.specs.Used.{usedAt}
 use Rattle.refusal.specs.declared.Verifying.{Verifying}
 use Rattle.refusal.specs.declared.Refusal.the-variants.{BadWord, ZeroRoot}
 use Rattle.refusal.specs.declared.Words.the-variants.{Proof, Challenges}
@@ -29,6 +31,7 @@ use Rattle.verifier_round.specs.declared.Verdict.{Verdict}
 use Rattle.verifier_round.specs.declared.Verdict.the-variants.{Accepted, Refused}
 use Rattle.verifier_round.specs.Verdicts.{Model}
 use Rattle.verifier_rounds.specs.Runs.{Ends}
+use Rattle.verifier.specs.declared.Ending.{Ending}
 use Rattle.verifier.specs.declared.Gate.{Gate}
 use Rattle.verifier.specs.declared.Gate.the-variants.{Open, Shut}
 use Rattle.verifier.specs.Verified.{Asked, rootless, tests}
@@ -92,9 +95,12 @@ Counted bs pt' lg lg' ch n pos r = Ends lg lg' pt' ch pos n (verdict bs n ch) r
 -- what a run's end leaves of the point found, n words of it or none
 abbrev pub pointLeft : Advance → (n : ℕ) (found point : List ℕ) → List ℕ
 pointLeft (Next s) n found point = take n found ++ drop n point
-pointLeft (Stopped e) n found point = point
+pointLeft (Stopped e end) n found point = point
 
--- and what it answers
-abbrev pub answered : Advance → Verdict
-answered (Next s) = Accepted (s .numer) (s .denom)
-answered (Stopped e) = Refused e
+-- and how it ends
+abbrev pub ending : Verdict → Used → Ending
+ending verdict used = record { verdict = verdict; used = used }
+
+abbrev pub answered : Advance → Ending
+answered (Next s) = ending (Accepted (s .numer) (s .denom)) (usedAt (s .pos))
+answered (Stopped e end) = ending (Refused e) (usedAt end)

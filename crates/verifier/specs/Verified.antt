@@ -1,4 +1,4 @@
--- What verify_gkr answers, and what it leaves in point and log, for every proof, rounds, mode, challenges and room.
+-- What verify_gkr answers and uses up, and what it leaves in point and log, for every proof, rounds, mode, challenges and room.
 -- Assumes nothing.
 use mathlib.Core.Bool.{Bool, true, cond, not, _&&_, _||_}
 use mathlib.Core.List.{List, [], _∷_}
@@ -12,6 +12,8 @@ use Rattle.gkr.specs.Gkr as Gkr
 use Rattle.gkr.specs.Transcripts.{empty, Source}
 use Rattle.transcript.specs.Source.{source}
 use Rattle.transcript.specs.Log.{Drawing}
+use Rattle.transcript.specs.declared.Used.{Used}
+use Rattle.transcript.specs.Used.{unused, usedUp}
 use Rattle.refusal.specs.Limits.{maxRounds}
 use Rattle.refusal.specs.declared.Verifying.{Verifying}
 use Rattle.refusal.specs.declared.Refusal.the-variants.{ShortChallenges, ShortRoom, BadWord, ZeroRounds, TooManyRounds, BadVersion, BadLength, IncorrectLayerCount, IncorrectSumcheckPolyCount, InvalidZeroRoundValue, ZeroRoot}
@@ -25,7 +27,7 @@ use Rattle.stored.specs.Parse.{layerCount, entryCount, fits, proofOf}
 use Rattle.stored.specs.Elements.{decoded, overZero}
 use Rattle.verifier_round.specs.declared.Verdict.{Verdict}
 use Rattle.verifier_round.specs.declared.Verdict.the-variants.{Accepted, Refused}
-use Rattle.verifier_round.specs.Verdicts.{Model, answerOf, pointOf, loggedBy}
+use Rattle.verifier_round.specs.Verdicts.{Model, answerOf, pointOf, leftBy, loggedBy}
 
 -- what a call is given: a proof's bytes, the rounds, the modes of verifying, and challenge words, four a challenge
 pub record Asked : Type 0 where
@@ -45,13 +47,14 @@ pub record Lent : Type 0 where
 abbrev pub lent : (point log : List ℕ) → Lent
 lent point log = record { point = point; log = log }
 
--- an answer, and words for both buffers: what they hold after it, or what is written at their fronts
+-- an answer, what was used up, and words for both buffers: what they hold after it, or what is written at their fronts
 pub record Outcome : Type 0 where
   pub answer : Verdict
+  pub used : Used
   pub buffers : Lent
 
-abbrev pub outcome : Verdict → (point log : List ℕ) → Outcome
-outcome answer point log = record { answer = answer; buffers = lent point log }
+abbrev pub outcome : Verdict → Used → (point log : List ℕ) → Outcome
+outcome answer used point log = record { answer = answer; used = used; buffers = lent point log }
 
 -- the needed challenges, and where a run's come from
 abbrev pub needed : Asked → List ℕ
@@ -80,9 +83,9 @@ tests a points logs = test (eqb (a .rounds) 0 && not (a .modes .empty)) ZeroRoun
     ∷ test (not (allCanonical (needed a))) (BadWord (firstBad (needed a)) Challenges)
     ∷ test (a .modes .live && rootless (a .proof) (a .rounds)) ZeroRoot ∷ []
 
--- what a verdict of the model answers and writes
+-- what a verdict of the model answers, has used up and writes
 abbrev pub ended : (ch : Source E.Ext) → Model ch → Outcome
-ended ch v = outcome (answerOf ch v) (pointOf ch v) (loggedBy ch v)
+ended ch v = outcome (answerOf ch v) (usedUp (leftBy ch v)) (pointOf ch v) (loggedBy ch v)
 
 -- 0 rounds, where they are valid: no layer, no entry, and q0 is 1
 abbrev pub emptyTests : (proof : List ℕ) → List Test
@@ -96,15 +99,15 @@ abbrev pub emptied : Tested → Verdict
 emptied passed = Accepted (enc E.nil) (enc E.one)
 emptied (refused e) = Refused e
 
--- what a call answers and writes: nothing where it is refused before the run, or has no rounds; else what the model's verifier does over an empty log
+-- what a call answers, uses up and writes: nothing where it is refused before the run, or has no rounds; else what the model's verifier does over an empty log
 abbrev pub fronts : Asked → Tested → Outcome
-fronts a (refused e) = outcome (Refused e) [] []
-fronts a passed = cond (eqb (a .rounds) 0) (outcome (emptied (firstOf (emptyTests (a .proof)))) [] [])
+fronts a (refused e) = outcome (Refused e) unused [] []
+fronts a passed = cond (eqb (a .rounds) 0) (outcome (emptied (firstOf (emptyTests (a .proof)))) unused [] [])
     (let ch = sourceOf a in ended ch (Gkr.verify-gkr Extension (Drawing ch) (a .rounds) (decoded (proofOf (a .proof))) empty))
 
 -- written at the fronts of the buffers, the rest as before
 abbrev pub laid : Outcome → Lent → Outcome
-laid f b = outcome (f .answer) (over (f .buffers .point) (b .point)) (over (f .buffers .log) (b .log))
+laid f b = outcome (f .answer) (f .used) (over (f .buffers .point) (b .point)) (over (f .buffers .log) (b .log))
 
 unfoldable pub verified : Asked → Lent → Outcome
 verified a b = laid (fronts a (firstOf (tests a (length (b .point)) (length (b .log))))) b

@@ -9,18 +9,26 @@ ghost use Rattle.stored.specs.ParseLaws.{Shaped};
 ghost use Rattle.transcript.specs.Source.{source};
 ghost use Rattle.verifier_round.specs.declared.Verdict.the-variants.{Accepted};
 ghost use Rattle.verifier.specs.Verified.{asked, lent, outcome, verified};
-ghost use Rattle.verifier.specs.Gates.{wordsGate, rootGate, unrooted, sandbox, Gated, Opened, Ready, Starts, Counted, pointLeft, answered};
+ghost use Rattle.transcript.specs.Used.{unused};
+ghost use Rattle.verifier.specs.Gates.{wordsGate, rootGate, unrooted, sandbox, Gated, Opened, Ready, Starts, Counted, pointLeft, ending, answered};
 use refusal::Refusal;
 use refusal::Verifying;
 use refusal::Words;
 use stored::Outline;
 use stored::Shape;
 use transcript::Pos;
+use transcript::Used;
 use verifier_round::Advance;
 use verifier_round::Layer;
 use verifier_round::Verdict;
 
 mod empty; // no rounds, where that is valid
+
+// How a call ends: its verdict, and what it used up.
+pub struct Ending {
+    pub verdict: Verdict,
+    pub used: Used,
+}
 
 // What the checks before the run answer.
 pub enum Gate {
@@ -149,17 +157,23 @@ fn verify_counted(
     let layers = outline.layers;
     let entries = outline.entries;
     if layers != rounds {
-        return Advance::Stopped(Refusal::IncorrectLayerCount {
-            expected: rounds,
-            actual: layers,
-        });
+        return Advance::Stopped {
+            refusal: Refusal::IncorrectLayerCount {
+                expected: rounds,
+                actual: layers,
+            },
+            pos,
+        };
     }
     let expected = rounds - 1;
     if entries != expected {
-        return Advance::Stopped(Refusal::IncorrectSumcheckPolyCount {
-            expected,
-            actual: entries,
-        });
+        return Advance::Stopped {
+            refusal: Refusal::IncorrectSumcheckPolyCount {
+                expected,
+                actual: entries,
+            },
+            pos,
+        };
     }
     let mut lanes = [0u64; 25]; // of a sponge that has taken in nothing
     verifier_rounds::verify_all(
@@ -191,7 +205,7 @@ fn leave_point(end: Advance, xi: &[u32], point: &mut [u32], n: usize)
 {
     match end {
         Advance::Next(s) => copy_point(xi, point, n),
-        Advance::Stopped(refusal) => (),
+        Advance::Stopped { refusal, pos } => (),
     }
 }
 
@@ -204,13 +218,29 @@ fn accept(s: Layer) -> Verdict
     Verdict::Accepted { numer, denom }
 }
 
-// What is answered at the end of a run.
-fn answer(end: Advance) -> Verdict
+// How a run ends.
+fn answer(end: Advance) -> Ending
     ensures { λ r. ⌜ r ≡ answered end ⌝ }
 {
     match end {
-        Advance::Next(s) => accept(s),
-        Advance::Stopped(refusal) => Verdict::Refused(refusal),
+        Advance::Next(s) => Ending {
+            verdict: accept(s),
+            used: transcript::used_up(s.pos),
+        },
+        Advance::Stopped { refusal, pos } => Ending {
+            verdict: Verdict::Refused(refusal),
+            used: transcript::used_up(pos),
+        },
+    }
+}
+
+// A verdict without a run.
+fn at_once(verdict: Verdict) -> Ending
+    ensures { λ r. ⌜ r ≡ ending verdict unused ⌝ }
+{
+    Ending {
+        verdict,
+        used: transcript::unused(),
     }
 }
 
@@ -223,9 +253,9 @@ fn run(
     challenges: &[u32],
     point: &mut [u32],
     log: &mut [u32],
-) -> Verdict
+) -> Ending
     requires { ⌜ Opened (asked (now proof) rounds (sandbox drawn) (now challenges)) (length (now point)) (length (now log)) outline ⌝ }
-    ensures { λ r. ⌜ outcome r (now (point .exit)) (now (log .exit))
+    ensures { λ r. ⌜ outcome (r .verdict) (r .used) (now (point .exit)) (now (log .exit))
         ≡ verified (asked (now (proof .entry)) rounds (sandbox drawn) (now (challenges .entry))) (lent (now (point .entry)) (now (log .entry))) ⌝ }
 {
     let pos = transcript::start(drawn);
@@ -253,18 +283,19 @@ fn verify_admitted(
     challenges: &[u32],
     point: &mut [u32],
     log: &mut [u32],
-) -> Verdict
+) -> Ending
     requires { ⌜ Opened (asked (now proof) rounds modes (now challenges)) (length (now point)) (length (now log)) outline ⌝ }
-    ensures { λ r. ⌜ outcome r (now (point .exit)) (now (log .exit))
+    ensures { λ r. ⌜ outcome (r .verdict) (r .used) (now (point .exit)) (now (log .exit))
         ≡ verified (asked (now (proof .entry)) rounds modes (now (challenges .entry))) (lent (now (point .entry)) (now (log .entry))) ⌝ }
 {
     if rounds == 0 {
-        return empty::verify_empty(proof, outline);
+        return at_once(empty::verify_empty(proof, outline));
     }
     run(proof, rounds, outline, modes.drawn, challenges, point, log)
 }
 
-// Checks a stored proof of so many rounds: accepted with both claims and the point written, or refused; the log holds what was observed and sampled until then.
+// Checks a stored proof of so many rounds: accepted with both claims and the point written, or refused; the log holds what was observed and sampled until then,
+// and so much is told as used up.
 pub fn verify_gkr(
     proof: &[u8],
     rounds: usize,
@@ -272,12 +303,12 @@ pub fn verify_gkr(
     challenges: &[u32],
     point: &mut [u32],
     log: &mut [u32],
-) -> Verdict
-    ensures { λ r. ⌜ outcome r (now (point .exit)) (now (log .exit))
+) -> Ending
+    ensures { λ r. ⌜ outcome (r .verdict) (r .used) (now (point .exit)) (now (log .exit))
         ≡ verified (asked (now (proof .entry)) rounds modes (now (challenges .entry))) (lent (now (point .entry)) (now (log .entry))) ⌝ }
 {
     match admit(proof, rounds, modes, challenges, point.len(), log.len()) {
-        Gate::Shut(refusal) => Verdict::Refused(refusal),
+        Gate::Shut(refusal) => at_once(Verdict::Refused(refusal)),
         Gate::Open(outline) => verify_admitted(
             proof,
             rounds,

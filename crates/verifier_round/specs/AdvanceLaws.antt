@@ -32,9 +32,9 @@ use Rattle.verifier_round.specs.RoundLaws.{SameLayer}
 -- the same, but for the sponge
 abbrev pub SameAdvance : Advance → Advance → Type 0
 SameAdvance (Next a) (Next b) = SameLayer a b
-SameAdvance (Next a) (Stopped y) = ⊥
-SameAdvance (Stopped x) (Next b) = ⊥
-SameAdvance (Stopped x) (Stopped y) = x ≡ y
+SameAdvance (Next a) (Stopped y q) = ⊥
+SameAdvance (Stopped x p) (Next b) = ⊥
+SameAdvance (Stopped x p) (Stopped y q) = (x ≡ y) × SamePos p q
 
 -- canonical words that stand for one element
 pub canon-unique : {r s : Ext} → Canon r → Canon s → dec r ≡ dec s → r ≡ s

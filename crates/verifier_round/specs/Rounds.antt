@@ -3,7 +3,7 @@
 use mathlib.Core.Path.{_≡_}
 use mathlib.Core.List.{List, [], _∷_}
 use Prim.Native.Nat.{ℕ, _+_, _≤_}
-use lib.ListN.{length, take, drop}
+use lib.ListN.{length, drop}
 use Rattle.field.specs.Ext as E
 use Rattle.field.specs.ExtRing.{ExtRing}
 use Rattle.field.specs.Extension.{Extension}
@@ -29,7 +29,7 @@ use Rattle.verifier_round.specs.declared.Advance.{Advance}
 use Rattle.verifier_round.specs.declared.Advance.the-variants.{Next, Stopped}
 use Rattle.verifier_round.specs.declared.Verdict.the-variants.{Refused}
 use Rattle.verifier_round.specs.Values.{columns}
-use Rattle.verifier_round.specs.Verdicts.{Model, answerOf, pointOf, loggedBy}
+use Rattle.verifier_round.specs.Verdicts.{Model, answerOf, pointOf, leftBy}
 
 -- lambda is sampled and batches the claims, eq is one, and the old point's first coordinate is at hand
 pub record Opens (pt lg lg' ls ls' : List ℕ) (ch : Source E.Ext) (s : Layer) (r : Opened) : Type 0 where
@@ -66,20 +66,20 @@ pub record Goes (lg lg' ls ls' pt' : List ℕ) (ch : Source E.Ext) (pos : Pos) (
   pub denom : Canon (s .denom)
   pub clean : Clean pt'
 
--- A run that stops: the verdict v refuses by e, and the log holds what v says up to `end`, past which all is as before.
-pub record Stops (lg lg' : List ℕ) (ch : Source E.Ext) (pos : Pos) (v : Model ch) (e : Refusal) : Type 0 where
+-- A run that stops: the verdict v refuses by e, and the log holds what v says up to the position `end`, past which all is as before.
+pub record Stops (lg lg' : List ℕ) (ch : Source E.Ext) (pos : Pos) (v : Model ch) (e : Refusal) (end : Pos) : Type 0 where
   pub answer : answerOf ch v ≡ Refused e
   pub point : pointOf ch v ≡ []
-  pub end : ℕ
-  pub more : pos .put ≤ end
-  pub room : end ≤ length lg
-  pub log : take end lg' ≡ loggedBy ch v
-  pub rest : drop end lg' ≡ drop end lg
+  pub more : pos .put ≤ end .put
+  pub room : end .put ≤ length lg
+  pub drawn : end .drawn ≡ pos .drawn
+  pub log : logOf lg' end ≡ leftBy ch v
+  pub rest : drop (end .put) lg' ≡ drop (end .put) lg
 
 -- one or the other
 abbrev pub Advances : (lg lg' ls ls' pt' : List ℕ) (ch : Source E.Ext) (pos : Pos) (k n m : ℕ) → (List (List (Cubic E.Ext)) → List (Claims E.Ext) → Model ch) → Advance → Type 0
 Advances lg lg' ls ls' pt' ch pos k n m v (Next s) = Goes lg lg' ls ls' pt' ch pos k n m v s
-Advances lg lg' ls ls' pt' ch pos k n m v (Stopped e) = (mss : List (List (Cubic E.Ext))) (cs : List (Claims E.Ext)) → Stops lg lg' ch pos (v mss cs) e
+Advances lg lg' ls ls' pt' ch pos k n m v (Stopped e end) = (mss : List (List (Cubic E.Ext))) (cs : List (Claims E.Ext)) → Stops lg lg' ch pos (v mss cs) e end
 
 -- The model's sub-rounds over ms, from the claims v at the point z and the log t, end where s stands.
 pub record Came (pt lg : List ℕ) (ch : Source E.Ext) (round : ℕ) (lambda : Ext) (s : Sums) (ms : List (Cubic E.Ext)) (v : Frac E.Ext) (z : List E.Ext) (t : Words) : Type 0 where

@@ -7,7 +7,7 @@ use Rattle.field.specs.Extension.{Extension}
 use Rattle.field.specs.Element.{enc, pointWords}
 use Rattle.gkr.specs.Gkr as Gkr
 use Rattle.gkr.specs.Gkr.{accepted, zero-rounds, layer-count, poly-count, zero-check, root-check, subround-count, layer-check}
-use Rattle.gkr.specs.Transcripts.{Source, empty}
+use Rattle.gkr.specs.Transcripts.{Words, Source, empty}
 use Rattle.transcript.specs.Log.{Drawing}
 use Rattle.refusal.specs.declared.Refusal.the-variants.{ZeroRounds, IncorrectLayerCount, IncorrectSumcheckPolyCount, ZeroCheckFailed, RootConsistencyCheckFailed, IncorrectSubroundCount, LayerConsistencyCheckFailed}
 use Rattle.verifier_round.specs.declared.Verdict.{Verdict}
@@ -38,6 +38,9 @@ pointOf ch (root-check expected actual t) = []
 pointOf ch (subround-count round expected actual t) = []
 pointOf ch (layer-check round expected actual t) = []
 
--- what was observed and sampled until then, from an empty log
+-- what was observed and sampled until then, from an empty log, and its words
+abbrev pub leftBy : (ch : Source E.Ext) → Model ch → Words
+leftBy ch v = Gkr.log-after Extension (Drawing ch) empty v
+
 abbrev pub loggedBy : (ch : Source E.Ext) → Model ch → List ℕ
-loggedBy ch v = Gkr.log-after Extension (Drawing ch) empty v .log
+loggedBy ch v = leftBy ch v .log

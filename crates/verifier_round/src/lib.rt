@@ -50,10 +50,10 @@ pub struct Opened {
     pub first: Sums,
 }
 
-// What a layer ends in: the claims after it, or the check that failed.
+// What a layer ends in: the claims after it, or the check that failed and where the run stood.
 pub enum Advance {
     Next(Layer),
-    Stopped(Refusal),
+    Stopped { refusal: Refusal, pos: Pos },
 }
 
 // What the verifier answers.
@@ -236,11 +236,14 @@ pub fn close_layer(
     let expected = expected_claim(c, lambda, s.eq);
     let actual = s.claim;
     if !expected.same_words(actual) {
-        return Advance::Stopped(Refusal::LayerConsistencyCheckFailed {
-            round,
-            expected,
-            actual,
-        });
+        return Advance::Stopped {
+            refusal: Refusal::LayerConsistencyCheckFailed {
+                round,
+                expected,
+                actual,
+            },
+            pos: p,
+        };
     }
     Advance::Next(descend(c, point, log, lanes, challenges, p))
 }
@@ -266,13 +269,19 @@ pub fn verify_root(
     let a = transcript::observe_ext(log, pos, q0);
     let p = observe_layer_claims(log, a, c);
     if !numer.same_words(Ext::ZERO) {
-        return Advance::Stopped(Refusal::ZeroCheckFailed { actual: numer });
+        return Advance::Stopped {
+            refusal: Refusal::ZeroCheckFailed { actual: numer },
+            pos: p,
+        };
     }
     if !denom.same_words(q0) {
-        return Advance::Stopped(Refusal::RootConsistencyCheckFailed {
-            expected: q0,
-            actual: denom,
-        });
+        return Advance::Stopped {
+            refusal: Refusal::RootConsistencyCheckFailed {
+                expected: q0,
+                actual: denom,
+            },
+            pos: p,
+        };
     }
     Advance::Next(descend(c, point, log, lanes, challenges, p))
 }

@@ -115,7 +115,7 @@ pub record Accepts (lg lg' pt' : List ℕ) (ch : Source E.Ext) (pos : Pos) (n : 
 -- one or the other
 abbrev pub Ends : (lg lg' pt' : List ℕ) (ch : Source E.Ext) (pos : Pos) (n : ℕ) → Model ch → Advance → Type 0
 Ends lg lg' pt' ch pos n v (Next s) = Accepts lg lg' pt' ch pos n v s
-Ends lg lg' pt' ch pos n v (Stopped e) = Stops lg lg' ch pos v e
+Ends lg lg' pt' ch pos n v (Stopped e end) = Stops lg lg' ch pos v e end
 
 abbrev pub LayersEnd : (bs pt pt' lg lg' : List ℕ) (ch : Source E.Ext) (claims polys n : ℕ) (s : Layer) (r : Advance) → Type 0
 LayersEnd bs pt pt' lg lg' ch claims polys n s r = Ends lg lg' pt' ch (s .pos) n (going bs pt lg ch claims polys (n - 1) 1 s) r

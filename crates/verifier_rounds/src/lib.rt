@@ -90,11 +90,14 @@ pub fn verify_round(
     let lambda = o.lambda;
     let first = o.first;
     if subrounds != round {
-        return Advance::Stopped(Refusal::IncorrectSubroundCount {
-            round,
-            expected: round,
-            actual: subrounds,
-        });
+        return Advance::Stopped {
+            refusal: Refusal::IncorrectSubroundCount {
+                round,
+                expected: round,
+                actual: subrounds,
+            },
+            pos: first.pos,
+        };
     }
     let last = verify_gkr_sumcheck(
         proof,
@@ -136,8 +139,8 @@ pub fn verify_rounds(
             Advance::Next(t) => {
                 s = t;
             }
-            Advance::Stopped(refusal) => {
-                return Advance::Stopped(refusal);
+            Advance::Stopped { refusal, pos } => {
+                return Advance::Stopped { refusal, pos };
             }
         }
         c += 64;
@@ -177,6 +180,6 @@ pub fn verify_all(
             challenges,
             s,
         ),
-        Advance::Stopped(refusal) => Advance::Stopped(refusal),
+        Advance::Stopped { refusal, pos } => Advance::Stopped { refusal, pos },
     }
 }
