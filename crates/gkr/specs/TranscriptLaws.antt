@@ -117,7 +117,7 @@ module _ (F : Field) (words : F .ring .carrier → List ℕ) (source : Source (F
       Marked t = length (sampled-words (t .log)) ≡ 4 * t .used
 
       observe-marked : (x : R) (t : Words) → Marked t → Marked (S .observe x t)
-      observe-marked x t h = ap length (sampled-append (t .log) (words x) ∙ ap (λ l. sampled-words (t .log) ++ l) (plain x) ∙ append-nil _) ∙ h
+      observe-marked x t h = ap length (sampled-append (t .log) (words x) ∙ ap (λ l. sampled-words (t .log) ++ l) (plain x) ∙ append-nil (sampled-words (t .log))) ∙ h
 
       drawn-marked : (t : Words) → Marked t → Marked (S .drawn t)
       drawn-marked t h =

@@ -19,6 +19,8 @@ use Rattle.gkr.specs.Tree as Tree
 use Rattle.gkr.specs.Gkr as Gkr
 use Rattle.gkr.specs.Gkr.{done, non-zero-root-sum}
 use Rattle.transcript.specs.Log.{Drawing}
+use Rattle.transcript.specs.declared.Used.{Used}
+use Rattle.transcript.specs.Used.{unused}
 use Rattle.step.specs.declared.Frac.{Frac as FracW}
 use Rattle.step.specs.Values.{IsFrac}
 use Rattle.prover_tree.specs.Nodes.{node}
@@ -35,10 +37,10 @@ use Rattle.sizes.specs.Sizes.{rowCount, roundsOf, workRoom}
 use Rattle.prover_gate.specs.Refusals.{Call, Rooms, firstRefusal, asGate}
 use Rattle.stored.specs.Layout.{layout}
 use Rattle.stored_writer.specs.Messages.{noRows}
-use Rattle.prover.specs.declared.Answer.{Answer}
+use Rattle.prover.specs.declared.Ending.{Ending}
 use Rattle.prover.specs.declared.Answer.the-variants.{Done, Refused}
 use Rattle.prover.specs.Proved.{Buffers, Outcome, lent, outcome, laid, encFrac, untouched, after, oneRow, modelled, ran, entered, fronts, proved, roomsOf}
-use Rattle.prover.specs.Inner.{runOf, Written, Opens}
+use Rattle.prover.specs.Inner.{ending, runOf, Written, Opens}
 use Rattle.prover.proofs.Writing.{drop-all, whole-proof}
 use Rattle.prover.proofs.Opening.{gate-opens}
 
@@ -71,9 +73,9 @@ pub zeros-length : (n : ℕ) → length (replicate {A = ℕ} n 0) ≡ n
 zeros-length n = let z : ℕ = 0 in length-replicate n z
 
 -- the same workspace room, and the same tree, under the other number
-pub rewritten : {f : ℕ → Frac E.Ext} {asserted : Bool} {m : ℕ} {ch : Source E.Ext} {pf pt lg ws ws₁ : List ℕ} {b' : Buffers} → length ws₁ ≡ length ws
-    → Written f asserted m ch (lent pf pt lg ws₁) b' → Written f asserted m ch (lent pf pt lg ws) b'
-rewritten e w = record { proof = w .proof; point = w .point; log = w .log; work = w .work ∙ ap (λ k. replicate k 0) e }
+pub rewritten : {f : ℕ → Frac E.Ext} {asserted : Bool} {m : ℕ} {ch : Source E.Ext} {pf pt lg ws ws₁ : List ℕ} {b' : Buffers} {u : Used} → length ws₁ ≡ length ws
+    → Written f asserted m ch (lent pf pt lg ws₁) b' u → Written f asserted m ch (lent pf pt lg ws) b' u
+rewritten e w = record { used = w .used; proof = w .proof; point = w .point; log = w .log; work = w .work ∙ ap (λ k. replicate k 0) e }
 
 pub levels-at : {f : ℕ → Frac E.Ext} {ws : List ℕ} {m n : ℕ} → n ≡ suc m → Levels f ws (suc m) 0 → Levels f ws n 0
 levels-at {f} {ws} e L = subst (λ n. Levels f ws n 0) (sym e) L
@@ -95,19 +97,20 @@ module _ (rows : List ℕ) (ch : Source E.Ext) (pf pt lg ws : List ℕ) (asserte
   tested : t ≡ (asserted && not (E.same (Tree.tree ExtRing f (suc m) 0 .p) E.nil))
   tested = te ∙ ap (λ x. asserted && not (E.same x E.nil)) (R .p .value)
 
-  pub prove-refused : (ws₁ ws' : List ℕ) → t ≡ true → length ws₁ ≡ length ws → ws' ≡ replicate (length ws₁) 0
-      → outcome (Refused NonZeroRootSum) pf pt lg ws' ≡ laid (modelled rows asserted ch m) before
-  prove-refused ws₁ ws' h l w =
+  pub prove-refused : (ws₁ ws' : List ℕ) {r : Ending} → t ≡ true → length ws₁ ≡ length ws → ws' ≡ replicate (length ws₁) 0 → r ≡ ending (Refused NonZeroRootSum) unused
+      → outcome (r .answer) (r .used) pf pt lg ws' ≡ laid (modelled rows asserted ch m) before
+  prove-refused ws₁ ws' h l w q =
       let W = whole-work ws ws' (suc m) (lw ∙ ap workRoom e) (w ∙ ap (λ k. replicate k 0) l) in
-      (λ i. outcome (Refused NonZeroRootSum) pf pt lg (W i))
+      (λ i. outcome (q i .answer) (q i .used) pf pt lg (W i))
       ∙ ap (λ a. laid (after ch (suc m) a) before) (sym (sumcheck-refused ch f m asserted (sym tested ∙ h)))
 
-  pub prove-done : (b' : Buffers) → t ≡ false → Written f asserted m ch before b' → _≡_ {A = Outcome} (record { answer = Done n root; buffers = b' }) (laid (modelled rows asserted ch m) before)
+  pub prove-done : (b' : Buffers) (u : Used) → t ≡ false → Written f asserted m ch before b' u
+      → _≡_ {A = Outcome} (record { answer = Done n root; used = u; buffers = b' }) (laid (modelled rows asserted ch m) before)
   unfolding Gkr.run
-  prove-done b' h w =
+  prove-done b' u h w =
       let S : root ≡ encFrac (runOf f asserted m ch .sum) = (λ i. record { p = enc-of-is (R .p) i; q = enc-of-is (R .q) i }) in
       let W = whole-work ws (b' .work) (suc m) (lw ∙ ap workRoom e) (w .work) in
-      (λ i. outcome (Done (e i) (S i)) (w .proof i) (w .point i) (w .log i) (W i))
+      (λ i. outcome (Done (e i) (S i)) (w .used i) (w .proof i) (w .point i) (w .log i) (W i))
       ∙ ap (λ a. laid (after ch (suc m) a) before) (sym (sumcheck-done ch f m asserted (sym tested ∙ h)))
 
 -- NO ROUNDS
@@ -126,17 +129,18 @@ one-words : enc E.one ≡ record { c0 = 1; c1 = 0; c2 = 0; c3 = 0 }
 unfolding E.one E.emb B.nil B.one B.of
 one-words = refl
 
-pub none-done : (rows pf pf' : List ℕ) (modes : Proving) → rowCount rows ≡ 0 → 23 ≤ length pf → length pf' ≡ length pf → pf' ≡ layout noRows ++ drop 23 pf → (pt lg ws : List ℕ)
-    → outcome (Done 0 (record { p = record { c0 = 0; c1 = 0; c2 = 0; c3 = 0 }; q = record { c0 = 1; c1 = 0; c2 = 0; c3 = 0 } })) pf' pt lg ws ≡ laid (ran rows modes [] 0) (lent pf pt lg ws)
+pub none-done : (rows pf pf' : List ℕ) (modes : Proving) {u : Used} → u ≡ unused → rowCount rows ≡ 0 → 23 ≤ length pf → length pf' ≡ length pf → pf' ≡ layout noRows ++ drop 23 pf → (pt lg ws : List ℕ)
+    → outcome (Done 0 (record { p = record { c0 = 0; c1 = 0; c2 = 0; c3 = 0 }; q = record { c0 = 1; c1 = 0; c2 = 0; c3 = 0 } })) u pf' pt lg ws ≡ laid (ran rows modes [] 0) (lent pf pt lg ws)
 unfolding pointWords
-none-done rows pf pf' modes h l k e pt lg ws =
+none-done rows pf pf' modes q h l k e pt lg ws =
     let P = whole-proof pf pf' (layout noRows) 23 l k e in
-    (λ i. outcome (Done 0 (record { p = sym zero-words i; q = sym one-words i })) (P i) pt lg ws)
+    (λ i. outcome (Done 0 (record { p = sym zero-words i; q = sym one-words i })) (q i) (P i) pt lg ws)
     ∙ sym (rw (eq-eqb (rowCount rows) 0 h))
 
-pub one-done : (rows pf : List ℕ) (modes : Proving) {r : Refusal} → (rowCount rows ≡ 0 → ⊥) → r ≡ oneRow rows (modes .«assert_zero») → (pt lg ws : List ℕ)
-    → outcome (Refused r) pf pt lg ws ≡ laid (ran rows modes [] 0) (lent pf pt lg ws)
-one-done rows pf modes h e pt lg ws = ap (λ r. outcome (Refused r) pf pt lg ws) e ∙ sym (rw (ne-eqb (rowCount rows) 0 h))
+pub one-done : (rows pf : List ℕ) (modes : Proving) {e : Refusal} {r : Ending} → (rowCount rows ≡ 0 → ⊥) → e ≡ oneRow rows (modes .«assert_zero») → r ≡ ending (Refused e) unused → (pt lg ws : List ℕ)
+    → outcome (r .answer) (r .used) pf pt lg ws ≡ laid (ran rows modes [] 0) (lent pf pt lg ws)
+one-done rows pf modes h k q pt lg ws =
+    (λ i. outcome (q i .answer) (q i .used) pf pt lg ws) ∙ ap (λ e. outcome (Refused e) unused pf pt lg ws) k ∙ sym (rw (ne-eqb (rowCount rows) 0 h))
 
 -- THE WHOLE CALL
 
@@ -156,9 +160,12 @@ module _ (c : Call) (r : Rooms) {g : Gate} {s : Size} (h : g ≡ asGate (rowCoun
   pub gate-told : Opens (c .rows) (c .modes) (c .challenges) r (s .n) (s .rows)
   gate-told = subst (λ z. Opens (c .rows) (c .modes) (c .challenges) r (z .n) (z .rows)) (sym (opened .1)) (gate-opens c r (opened .0))
 
-pub proved-shut : (c : Call) (b : Buffers) {g : Gate} {e : Refusal} → g ≡ asGate (rowCount (c .rows)) (firstRefusal c (roomsOf b)) → g ≡ Shut e → laid (untouched e) b ≡ proved c b
+pub proved-shut : (c : Call) (b : Buffers) {g : Gate} {e : Refusal} {r : Ending} → g ≡ asGate (rowCount (c .rows)) (firstRefusal c (roomsOf b)) → g ≡ Shut e → r ≡ ending (Refused e) unused
+    → _≡_ {A = Outcome} (record { answer = r .answer; used = r .used; buffers = b }) (proved c b)
 unfolding proved fronts
-proved-shut c b {e = e} h s = ap (λ t. laid (entered c t) b) (sym (told-shut _ (firstRefusal c (roomsOf b)) e (sym s ∙ h)))
+proved-shut c b {e = e} h s q =
+    (λ i. outcome (q i .answer) (q i .used) (b .proof) (b .point) (b .log) (b .work))
+    ∙ ap (λ t. laid (entered c t) b) (sym (told-shut _ (firstRefusal c (roomsOf b)) e (sym s ∙ h)))
 
 pub proved-open : (c : Call) (b : Buffers) {g : Gate} {s : Size} {o : Outcome} → g ≡ asGate (rowCount (c .rows)) (firstRefusal c (roomsOf b)) → g ≡ Open s
     → o ≡ laid (ran (c .rows) (c .modes) (c .challenges) (s .n)) b → o ≡ proved c b

@@ -7,3 +7,4 @@ pub mod Opening
 pub mod Theorems
 pub mod Modes
 pub mod Drawn
+pub mod UsedUp

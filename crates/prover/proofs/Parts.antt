@@ -19,7 +19,7 @@ use Rattle.transcript.specs.Log.{Drawing}
 use Rattle.prover_tree.specs.Nodes.{node}
 use Rattle.sizes.specs.Sizes.{neededWords, workRoom}
 use Rattle.refusal.specs.declared.Proving.{Proving}
-use Rattle.prover.specs.declared.Answer.{Answer}
+use Rattle.prover.specs.declared.Ending.{Ending}
 use Rattle.refusal.specs.Fronts.{over}
 use Rattle.prover.specs.Proved.{Buffers, Outcome, lent, outcome, laid, after, modelled, ran}
 use Rattle.prover.proofs.Writing.{drop-all}
@@ -39,7 +39,7 @@ module _ (ch : Source E.Ext) (n k w : ℕ) (pf pt lg ws : List ℕ) (ke : k ≡ 
 
   -- what a run leaves in the parts, with what is behind them
   abbrev glue : Outcome → Outcome
-  glue o = outcome (o .answer) (o .buffers .proof) (o .buffers .point ++ drop k pt) (o .buffers .log) (o .buffers .work ++ drop w ws)
+  glue o = outcome (o .answer) (o .used) (o .buffers .proof) (o .buffers .point ++ drop k pt) (o .buffers .log) (o .buffers .work ++ drop w ws)
 
   wipes : over (replicate (workRoom n) 0) (take w ws) ++ drop w ws ≡ over (replicate (workRoom n) 0) ws
   wipes = over-part (replicate (workRoom n) 0) ws w (zeros-length (workRoom n) ∙ sym we) wl
@@ -48,15 +48,15 @@ module _ (ch : Source E.Ext) (n k w : ℕ) (pf pt lg ws : List ℕ) (ke : k ≡ 
   glued (done P) h =
       let p = over-part (pointWords (P .point)) pt k (point-length (P .point) ∙ ap (λ j. 4 * j) (h P refl) ∙ sym ke) kl in
       let o = laid (after ch n (done P)) whole in
-      λ i. outcome (o .answer) (o .buffers .proof) (p i) (o .buffers .log) (wipes i)
+      λ i. outcome (o .answer) (o .used) (o .buffers .proof) (p i) (o .buffers .log) (wipes i)
   glued non-zero-root-sum h =
       let o = laid (after ch n non-zero-root-sum) whole in
-      λ i. outcome (o .answer) (o .buffers .proof) (take-append-drop k pt i) (o .buffers .log) (wipes i)
+      λ i. outcome (o .answer) (o .used) (o .buffers .proof) (take-append-drop k pt i) (o .buffers .log) (wipes i)
 
-pub run-parts : (rows ch pf pt lg ws : List ℕ) (modes : Proving) (n need k w : ℕ) (r : Answer) (pf' xi' lg' ws' : List ℕ)
+pub run-parts : (rows ch pf pt lg ws : List ℕ) (modes : Proving) (n need k w : ℕ) (r : Ending) (pf' xi' lg' ws' : List ℕ)
     → (n ≡ 0 → ⊥) → need ≡ neededWords (modes .drawn) n → k ≡ 4 * n → w ≡ workRoom n → k ≤ length pt → w ≤ length ws
-    → ((m : ℕ) → n ≡ suc m → outcome r pf' xi' lg' ws' ≡ laid (modelled rows (modes .«assert_zero») (source (modes .drawn) (take need ch)) m) (lent pf (take k pt) lg (take w ws)))
-    → outcome r pf' (xi' ++ drop k pt) lg' (ws' ++ drop w ws) ≡ laid (ran rows modes ch n) (lent pf pt lg ws)
+    → ((m : ℕ) → n ≡ suc m → outcome (r .answer) (r .used) pf' xi' lg' ws' ≡ laid (modelled rows (modes .«assert_zero») (source (modes .drawn) (take need ch)) m) (lent pf (take k pt) lg (take w ws)))
+    → outcome (r .answer) (r .used) pf' (xi' ++ drop k pt) lg' (ws' ++ drop w ws) ≡ laid (ran rows modes ch n) (lent pf pt lg ws)
 run-parts rows ch pf pt lg ws modes n need k w r pf' xi' lg' ws' nz de ke we kl wl h =
     let m = n - 1 in
     let e : n ≡ suc m = omega arith in

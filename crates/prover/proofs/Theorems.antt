@@ -15,6 +15,7 @@ use Rattle.gkr.specs.Gkr as Gkr
 use Rattle.gkr.specs.Gkr.{done, non-zero-root-sum}
 use Rattle.transcript.specs.Source.{supplied, source}
 use Rattle.transcript.specs.Log.{Drawing, Observing}
+use Rattle.transcript.specs.Used.{unused}
 use Rattle.step.specs.declared.Frac.{Frac}
 use Rattle.prover_tree.specs.Nodes.{node}
 use Rattle.refusal.specs.TestWays.{Ways, both, each-way}
@@ -48,7 +49,7 @@ isolation c b b′ e = (laid-over c b, laid-over c b′ ∙ ap (λ r. laid (fron
 -- Q of each end of a run over n rounds
 pub record Ends (Q : Outcome → Type 0) (n : ℕ) : Type 0 where
   pub finishes : (ch : Source E.Ext) (P : Gkr.Proved Extension (Drawing ch)) → Q (finished ch n P)
-  pub eight : Q (outcome (Refused NonZeroRootSum) [] [] [] (replicate (workRoom n) 0))
+  pub eight : Q (outcome (Refused NonZeroRootSum) unused [] [] [] (replicate (workRoom n) 0))
   pub nine : Q (untouched SingleRow)
 
 pub each-end : (Q : Outcome → Type 0) (rows : List ℕ) (modes : Proving) (ch : List ℕ) (n : ℕ) → Ends Q n → Q (ran rows modes ch n)

@@ -62,7 +62,8 @@ fn call(
     log: &mut [u32],
     work: &mut [u32],
 ) {
-    let answer = prover::fractional_sumcheck(rows, modes, challenges, proof, point, log, work);
+    let ending = prover::fractional_sumcheck(rows, modes, challenges, proof, point, log, work);
+    let answer = ending.answer;
     print::report(prover::number_and_values(answer));
     print::bytes(proof);
     print::words(point);

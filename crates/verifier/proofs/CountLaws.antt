@@ -36,7 +36,7 @@ use Rattle.verifier_round.specs.declared.Advance.{Advance}
 use Rattle.verifier_round.specs.declared.Advance.the-variants.{Stopped}
 use Rattle.verifier_round.specs.declared.Verdict.the-variants.{Refused}
 use Rattle.verifier_round.specs.Values.{decClaims, decCubic, CanonClaims}
-use Rattle.verifier_round.specs.Verdicts.{Model, answerOf, pointOf, loggedBy}
+use Rattle.verifier_round.specs.Verdicts.{Model, answerOf, pointOf, leftBy}
 use Rattle.verifier_round.specs.Rounds.{Stops}
 use Rattle.verifier_rounds.specs.Runs.{Readable, RootSpace, Ends, RootEnd}
 use Rattle.verifier_rounds.proofs.Messages.{claim-first, claims-rest}
@@ -69,16 +69,20 @@ both-right : (ch : Source E.Ext) (m : ℕ) (q0 : E.Ext) (c : Claims E.Ext) (cs :
 unfolding Gkr.counted
 both-right ch m q0 c cs mss t a e = rw (eq-eqb (length cs) m a, eq-eqb (length mss) m e)
 
+-- at a start
+log-empty : (lg : List ℕ) (pos : Pos) → Starts pos → logOf lg pos ≡ empty
+log-empty lg pos st = λ i. record { log = take (st .put i) lg; used = st .used i }
+
 -- a refusal that leaves all as it was
-stops-first : (lg : List ℕ) (ch : Source E.Ext) (pos : Pos) (v w : Model ch) (e : Refusal) → Starts pos → v ≡ w → answerOf ch w ≡ Refused e → pointOf ch w ≡ [] → loggedBy ch w ≡ [] → Stops lg lg ch pos v e
+stops-first : (lg : List ℕ) (ch : Source E.Ext) (pos : Pos) (v w : Model ch) (e : Refusal) → Starts pos → v ≡ w → answerOf ch w ≡ Refused e → pointOf ch w ≡ [] → leftBy ch w ≡ empty → Stops lg lg ch pos v e pos
 stops-first lg ch pos v w e st q a b c =
     record {
       answer = ap (answerOf ch) q ∙ a;
       point = ap (pointOf ch) q ∙ b;
-      end = 0;
-      more = omega (arith, st .put);
-      room = omega arith;
-      log = sym c ∙ ap (loggedBy ch) (sym q);
+      more = omega arith;
+      room = omega (arith, st .put);
+      drawn = refl;
+      log = log-empty lg pos st ∙ sym c ∙ ap (leftBy ch) (sym q);
       rest = refl;
     }
 
@@ -95,7 +99,7 @@ module _ (bs lg : List ℕ) (ch : Source E.Ext) (n : ℕ) (o : Outline) (some : 
   polys-long : length (map (map decCubic) (entriesFrom (entryCount bs) (drop (polysAt bs) bs))) ≡ o .entries
   polys-long = map-length (map decCubic) (entriesFrom (entryCount bs) (drop (polysAt bs) bs)) ∙ entries-count (entryCount bs) (drop (polysAt bs) bs) ∙ sym (s .entries)
 
-  pub layers-stop : (pt' : List ℕ) → (o .layers ≡ n → ⊥) → Counted bs pt' lg lg ch n pos (Stopped (IncorrectLayerCount n (o .layers)))
+  pub layers-stop : (pt' : List ℕ) → (o .layers ≡ n → ⊥) → Counted bs pt' lg lg ch n pos (Stopped (IncorrectLayerCount n (o .layers)) pos)
   layers-stop pt' h =
       stops-first lg ch pos _ (layer-count n (o .layers)) _ st
       (verify-counted ch n m (decoded (proofOf bs)) empty n-is ∙ layers-differ ch m (o .layers) _ _ _ empty claims-long (λ q. h (q ∙ sym n-is)) ∙ ap (λ k. layer-count k (o .layers)) (sym n-is)) refl refl refl
@@ -111,7 +115,7 @@ module _ (bs lg : List ℕ) (ch : Source E.Ext) (n : ℕ) (o : Outline) (some : 
         (map (map decCubic) (entriesFrom (entryCount bs) (drop (polysAt bs) bs))) empty
     counted-is = verify-counted ch n m (decoded (proofOf bs)) empty n-is ∙ ap (λ cs. Gkr.counted Extension (Drawing ch) m (dec (elem (drop 5 bs))) cs (map (map decCubic) (entriesFrom (entryCount bs) (drop (polysAt bs) bs))) empty) first-claims
 
-    pub polys-stop : (pt' : List ℕ) (x : ℕ) → x ≡ m → (o .entries ≡ x → ⊥) → Counted bs pt' lg lg ch n pos (Stopped (IncorrectSumcheckPolyCount x (o .entries)))
+    pub polys-stop : (pt' : List ℕ) (x : ℕ) → x ≡ m → (o .entries ≡ x → ⊥) → Counted bs pt' lg lg ch n pos (Stopped (IncorrectSumcheckPolyCount x (o .entries)) pos)
     polys-stop pt' x e h =
         stops-first lg ch pos _ (poly-count x (o .entries)) _ st
         (counted-is ∙ polys-differ ch m (o .entries) _ _ _ _ empty others-long polys-long (λ q. h (q ∙ sym e)) ∙ ap (λ k. poly-count k (o .entries)) (sym e)) refl refl refl
@@ -126,11 +130,8 @@ module _ (bs lg : List ℕ) (ch : Source E.Ext) (n : ℕ) (o : Outline) (some : 
           ∙ ap₂ (λ k p. Gkr.root Extension (Drawing ch) (dec (elem (drop 5 bs))) (decClaims (claimsOf (drop 22 bs))) (map decClaims (claimsFrom m (drop 86 bs))) (map (map decCubic) (entriesFrom k (drop p bs))) empty)
           (sym (s .entries) ∙ b) (sym (s .polys))
 
-      log-empty : logOf lg pos ≡ empty
-      log-empty = λ i. record { log = take (st .put i) lg; used = st .used i }
-
       pub root-counted : (pt' lg' : List ℕ) (r : Advance) → RootEnd bs pt' lg lg' ch (o .polys) n pos r → Counted bs pt' lg lg' ch n pos r
-      root-counted pt' lg' r h = subst (λ v. Ends lg lg' pt' ch pos n v r) (ap rooted log-empty ∙ sym root-is) h
+      root-counted pt' lg' r h = subst (λ v. Ends lg lg' pt' ch pos n v r) (ap rooted (log-empty lg pos st) ∙ sym root-is) h
 
 -- ---- what the run asks
 module _ (bs pt lg ch : List ℕ) (drawn : Bool) (n : ℕ) (o : Outline) (r : Ready bs pt lg ch drawn n o) where

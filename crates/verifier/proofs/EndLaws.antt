@@ -16,10 +16,11 @@ use Rattle.field.specs.Cells.{Clean, cells}
 use Rattle.field.specs.PointLaws.{point-is}
 use Rattle.gkr.specs.Gkr.{accepted}
 use Rattle.gkr.specs.Tests.{fail}
-use Rattle.gkr.specs.Transcripts.{Source}
+use Rattle.gkr.specs.Transcripts.{Words, Source}
 use Rattle.transcript.specs.declared.Pos.{Pos}
 use Rattle.transcript.specs.Source.{source}
 use Rattle.transcript.specs.Log.{logOf}
+use Rattle.transcript.specs.Used.{used, unused, usedUp, usedAt}
 use Rattle.refusal.specs.Limits.{maxRounds}
 use Rattle.refusal.specs.declared.Refusal.{Refusal}
 use Rattle.refusal.specs.Tests.{refused, firstOf}
@@ -30,15 +31,15 @@ use Rattle.wire.specs.WordLaws.{canonical-below}
 use Rattle.stored.specs.declared.Outline.{Outline}
 use Rattle.verifier_round.specs.declared.Advance.{Advance}
 use Rattle.verifier_round.specs.declared.Advance.the-variants.{Next, Stopped}
-use Rattle.verifier_round.specs.declared.Verdict.{Verdict}
 use Rattle.verifier_round.specs.declared.Verdict.the-variants.{Accepted, Refused}
 use Rattle.verifier_round.specs.Values.{columns}
-use Rattle.verifier_round.specs.Verdicts.{Model, answerOf, pointOf, loggedBy}
+use Rattle.verifier_round.specs.Verdicts.{Model, answerOf, pointOf, leftBy, loggedBy}
 use Rattle.verifier_rounds.specs.Runs.{Ends}
 use Rattle.verifier.specs.Verified.{Asked, Lent, Outcome, outcome, lent, tests, ended, fronts, laid, verified}
+use Rattle.verifier.specs.declared.Ending.{Ending}
 use Rattle.verifier.specs.declared.Gate.{Gate}
 use Rattle.verifier.specs.declared.Gate.the-variants.{Open, Shut}
-use Rattle.verifier.specs.Gates.{Opened, Gated, Ready, verdict, pointLeft, answered}
+use Rattle.verifier.specs.Gates.{Opened, Gated, Ready, verdict, pointLeft, ending, answered}
 use Rattle.verifier.proofs.GateLaws.{passes}
 
 -- what is written up to a place, and as before past it
@@ -47,23 +48,30 @@ front l l' n ws h e d =
     let len : n ≡ length ws = sym (length-take-le n l' h) ∙ ap length e in
     sym (take-append-drop n l') ∙ ap₂ _++_ e (d ∙ ap (λ k. drop k l) len)
 
+-- what is used up at a place is what the log there says
+used-there : (l : List ℕ) (p : Pos) → p .put ≤ length l → usedAt p ≡ usedUp (logOf l p)
+used-there l p h = λ i. used (p .used) (sym (length-take-le (p .put) l h) i)
+
 module _ (p lg lg' : List ℕ) (ch : Source E.Ext) (pos : Pos) (v : Model ch) (l : length lg' ≡ length lg) where
   -- what a run's end leaves and answers is the definition's
-  pub ended-is : (n : ℕ) (pt' p' : List ℕ) (r : Advance) (x : Verdict) → Ends lg lg' pt' ch pos n v r → 4 * n ≤ length pt' → p' ≡ pointLeft r (4 * n) pt' p → x ≡ answered r
-      → outcome x p' lg' ≡ laid (ended ch v) (lent p lg)
-  ended-is n pt' p' (Stopped e) x s h q y =
-      let a : x ≡ answerOf ch v = y ∙ sym (s .answer) in
+  pub ended-is : (n : ℕ) (pt' p' : List ℕ) (r : Advance) (x : Ending) → Ends lg lg' pt' ch pos n v r → 4 * n ≤ length pt' → p' ≡ pointLeft r (4 * n) pt' p → x ≡ answered r
+      → outcome (x .verdict) (x .used) p' lg' ≡ laid (ended ch v) (lent p lg)
+  ended-is n pt' p' (Stopped e end) x s h q y =
+      let a : x .verdict ≡ answerOf ch v = ap (λ (z : Ending). z .verdict) y ∙ sym (s .answer) in
+      let u : x .used ≡ usedUp (leftBy ch v) = ap (λ (z : Ending). z .used) y ∙ used-there lg' end (omega (arith, s .room, l)) ∙ ap usedUp (s .log) in
       let b : p' ≡ over (pointOf ch v) p = q ∙ ap (λ w. over w p) (sym (s .point)) in
-      let c : lg' ≡ over (loggedBy ch v) lg = front lg lg' (s .end) (loggedBy ch v) (omega (arith, s .room, l)) (s .log) (s .rest) in
-      λ i. outcome (a i) (b i) (c i)
+      let c : lg' ≡ over (loggedBy ch v) lg = front lg lg' (end .put) (loggedBy ch v) (omega (arith, s .room, l)) (ap (λ (t : Words). t .log) (s .log)) (s .rest) in
+      λ i. outcome (a i) (u i) (b i) (c i)
   ended-is n pt' p' (Next s) x a h q y =
       let w : take (4 * n) pt' ≡ pointWords (cells pt' 0 n) = sym (point-is pt' 0 n (a .clean) (omega arith)) in
       let len : 4 * n ≡ length (pointWords (cells pt' 0 n)) = sym (length-take-le (4 * n) pt' h) ∙ ap length w in
       let e : p' ≡ over (pointWords (cells pt' 0 n)) p = q ∙ ap₂ _++_ w (ap (λ k. drop k p) len) in
       let f : lg' ≡ over (take (s .pos .put) lg') lg = front lg lg' (s .pos .put) _ (omega (arith, a .room, l)) refl (a .rest) in
-      let g : x ≡ Accepted (enc (dec (s .numer))) (enc (dec (s .denom))) = y ∙ (λ i. Accepted (sym (enc-dec (a .numer)) i) (sym (enc-dec (a .denom)) i)) in
-      let z : outcome x p' lg' ≡ laid (ended ch (accepted (columns s) (cells pt' 0 n) (logOf lg' (s .pos)))) (lent p lg) = (λ i. outcome (g i) (e i) (f i)) in
-      z ∙ ap (λ u. laid (ended ch u) (lent p lg)) (sym (a .verdict))
+      let g : x .verdict ≡ Accepted (enc (dec (s .numer))) (enc (dec (s .denom))) =
+      ap (λ (z : Ending). z .verdict) y ∙ (λ i. Accepted (sym (enc-dec (a .numer)) i) (sym (enc-dec (a .denom)) i)) in
+      let u : x .used ≡ usedUp (logOf lg' (s .pos)) = ap (λ (z : Ending). z .used) y ∙ used-there lg' (s .pos) (omega (arith, a .room, l)) in
+      let z : outcome (x .verdict) (x .used) p' lg' ≡ laid (ended ch (accepted (columns s) (cells pt' 0 n) (logOf lg' (s .pos)))) (lent p lg) = (λ i. outcome (g i) (u i) (e i) (f i)) in
+      z ∙ ap (λ m. laid (ended ch m) (lent p lg)) (sym (a .verdict))
 
 -- ---- the checks, and what the run asks
 some-rounds : (n : ℕ) (empty : Bool) → empty ≡ false → (eqb n 0 && not empty) ≡ false → 1 ≤ n
@@ -98,11 +106,11 @@ point-fits n k h e = omega arith
 
 -- ---- the whole
 module _ (a : Asked) (b : Lent) where
-  pub shut-is : (g : Gate) (e : Refusal) → g ≡ Shut e → Gated a (length (b .point)) (length (b .log)) g → outcome (Refused e) (b .point) (b .log) ≡ verified a b
+  pub shut-is : (g : Gate) (e : Refusal) (x : Ending) → g ≡ Shut e → Gated a (length (b .point)) (length (b .log)) g → x ≡ ending (Refused e) unused → outcome (x .verdict) (x .used) (b .point) (b .log) ≡ verified a b
   unfolding verified
-  shut-is g e q h =
+  shut-is g e x q h y =
       let w : firstOf (tests a (length (b .point)) (length (b .log))) ≡ refused e = subst (Gated a (length (b .point)) (length (b .log))) q h in
-      ap (λ t. laid (fronts a t) b) (sym w)
+      ap (λ (z : Ending). outcome (z .verdict) (z .used) (b .point) (b .log)) y ∙ ap (λ t. laid (fronts a t) b) (sym w)
 
   -- over the needed challenges
   abbrev over-source : (drawn : Bool) (k : ℕ) → Outcome

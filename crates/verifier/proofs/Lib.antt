@@ -8,3 +8,4 @@ pub mod Answers
 pub mod Modes
 pub mod Unread
 pub mod NoRounds
+pub mod UsedUp

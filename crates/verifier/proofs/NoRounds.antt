@@ -13,6 +13,7 @@ use Rattle.field.specs.declared.Ext.{Ext}
 use Rattle.field.specs.Element.{dec, enc}
 use Rattle.field.specs.ElementLaws.{enc-dec}
 use Rattle.gkr.specs.Tests.{pass}
+use Rattle.transcript.specs.Used.{unused}
 use Rattle.refusal.specs.declared.Refusal.the-variants.{IncorrectLayerCount, IncorrectSumcheckPolyCount, InvalidZeroRoundValue, ZeroRounds}
 use Rattle.refusal.specs.Tests.{Tested, passed, refused, firstOf}
 use Rattle.refusal.specs.TestLaws.{all-passed}
@@ -24,7 +25,8 @@ use Rattle.stored.specs.Parse.{layerCount, entryCount, proofOf}
 use Rattle.verifier_round.specs.declared.Verdict.{Verdict}
 use Rattle.verifier_round.specs.declared.Verdict.the-variants.{Accepted, Refused}
 use Rattle.verifier.specs.Verified.{Asked, Lent, outcome, tests, emptyTests, emptied, fronts, laid, verified}
-use Rattle.verifier.specs.Gates.{Opened, ReadyEmpty}
+use Rattle.verifier.specs.declared.Ending.{Ending}
+use Rattle.verifier.specs.Gates.{Opened, ReadyEmpty, ending}
 use Rattle.verifier.specs.Companions.{in-mode, emptied-mode, EmptyVerifying}
 use Rattle.verifier.proofs.GateLaws.{passes}
 use Rattle.verifier.proofs.RootLaws.{and-right, also-sandbox, run-alike}
@@ -73,11 +75,12 @@ pub ready-empty : (a : Asked) (points logs : ℕ) (o : Outline) → Opened a poi
 ready-empty a points logs o h = record { shaped = h .shaped; canon = passes h .canon }
 
 -- nothing is written
-pub empty-is : (a : Asked) (b : Lent) (o : Outline) → Opened a (length (b .point)) (length (b .log)) o → a .rounds ≡ 0 → (x : Verdict) → x ≡ emptied (firstOf (emptyTests (a .proof)))
-    → outcome x (b .point) (b .log) ≡ verified a b
+pub empty-is : (a : Asked) (b : Lent) (o : Outline) → Opened a (length (b .point)) (length (b .log)) o → a .rounds ≡ 0 → (v : Verdict) (x : Ending) → v ≡ emptied (firstOf (emptyTests (a .proof))) → x ≡ ending v unused
+    → outcome (x .verdict) (x .used) (b .point) (b .log) ≡ verified a b
 unfolding verified
-empty-is a b o h z x e =
-    ap (λ w. outcome w (b .point) (b .log)) e ∙ ap (λ f. laid f b) (sym (pass (eqb (a .rounds) 0) _ _ (eq-eqb (a .rounds) 0 z))) ∙ ap (λ t. laid (fronts a t) b) (sym (h .passes))
+empty-is a b o h z v x e y =
+    ap (λ (w : Ending). outcome (w .verdict) (w .used) (b .point) (b .log)) (y ∙ ap (λ w. ending w unused) e) ∙ ap (λ f. laid f b) (sym (pass (eqb (a .rounds) 0) _ _ (eq-eqb (a .rounds) 0 z)))
+    ∙ ap (λ t. laid (fronts a t) b) (sym (h .passes))
 
 -- ONE ROUND OR MORE
 
@@ -109,7 +112,7 @@ module _ (a : Asked) (b : Lent) (o : Outline) (some : a .rounds ≡ 0 → ⊥) (
 -- THE MODE
 
 module _ (a : Asked) (b : Lent) where
-  old-refuses : a .rounds ≡ 0 → verified (emptied-mode false a) b ≡ outcome (Refused ZeroRounds) (b .point) (b .log)
+  old-refuses : a .rounds ≡ 0 → verified (emptied-mode false a) b ≡ outcome (Refused ZeroRounds) unused (b .point) (b .log)
   unfolding verified firstOf
   old-refuses h = rw (eq-eqb (a .rounds) 0 h)
 

@@ -1,16 +1,12 @@
 // The verifier over the stored bytes of a proof: refusals in document 01's order, then the run.
 ghost use mathlib.Core.Path.{_≡_};
 ghost use mathlib.Core.Bool.{not, _&&_};
-ghost use mathlib.Core.List.{_++_};
-ghost use Prim.Native.Nat.{_≤_};
 ghost use lib.Dec.{eqb};
-ghost use lib.ListN.{length, take, drop};
+ghost use lib.ListN.{length};
 ghost use Rattle.stored.specs.ParseLaws.{Shaped};
 ghost use Rattle.transcript.specs.Source.{source};
-ghost use Rattle.verifier_round.specs.declared.Verdict.the-variants.{Accepted};
 ghost use Rattle.verifier.specs.Verified.{asked, lent, outcome, verified};
-ghost use Rattle.transcript.specs.Used.{unused};
-ghost use Rattle.verifier.specs.Gates.{wordsGate, rootGate, unrooted, sandbox, Gated, Opened, Ready, Starts, Counted, pointLeft, ending, answered};
+ghost use Rattle.verifier.specs.Gates.{wordsGate, rootGate, unrooted, sandbox, Gated, Opened, Ready, Starts, Counted};
 use refusal::Refusal;
 use refusal::Verifying;
 use refusal::Words;
@@ -19,10 +15,10 @@ use stored::Shape;
 use transcript::Pos;
 use transcript::Used;
 use verifier_round::Advance;
-use verifier_round::Layer;
 use verifier_round::Verdict;
 
 mod empty; // no rounds, where that is valid
+mod end; // how a run ends
 
 // How a call ends: its verdict, and what it used up.
 pub struct Ending {
@@ -188,62 +184,6 @@ fn verify_counted(
     )
 }
 
-// The first n words of the point found go to the front of the room for it.
-fn copy_point(xi: &[u32], point: &mut [u32], n: usize)
-    requires { ⌜ (n ≤ length (now xi)) × (n ≤ length (now point)) ⌝ }
-    ensures { λ _. ⌜ now (point .exit) ≡ take n (now (xi .entry)) ++ drop n (now (point .entry)) ⌝ }
-{
-    for i in 0..n {
-        point[i] = xi[i];
-    }
-}
-
-// The point is written when the run went through, and not when it stopped.
-fn leave_point(end: Advance, xi: &[u32], point: &mut [u32], n: usize)
-    requires { ⌜ (n ≤ length (now xi)) × (n ≤ length (now point)) ⌝ }
-    ensures { λ _. ⌜ now (point .exit) ≡ pointLeft end n (now (xi .entry)) (now (point .entry)) ⌝ }
-{
-    match end {
-        Advance::Next(s) => copy_point(xi, point, n),
-        Advance::Stopped { refusal, pos } => (),
-    }
-}
-
-// A run that went through answers the claims that it came to.
-fn accept(s: Layer) -> Verdict
-    ensures { λ r. ⌜ r ≡ Accepted (s .numer) (s .denom) ⌝ }
-{
-    let numer = s.numer;
-    let denom = s.denom;
-    Verdict::Accepted { numer, denom }
-}
-
-// How a run ends.
-fn answer(end: Advance) -> Ending
-    ensures { λ r. ⌜ r ≡ answered end ⌝ }
-{
-    match end {
-        Advance::Next(s) => Ending {
-            verdict: accept(s),
-            used: transcript::used_up(s.pos),
-        },
-        Advance::Stopped { refusal, pos } => Ending {
-            verdict: Verdict::Refused(refusal),
-            used: transcript::used_up(pos),
-        },
-    }
-}
-
-// A verdict without a run.
-fn at_once(verdict: Verdict) -> Ending
-    ensures { λ r. ⌜ r ≡ ending verdict unused ⌝ }
-{
-    Ending {
-        verdict,
-        used: transcript::unused(),
-    }
-}
-
 // The run, once nothing is refused before it.
 fn run(
     proof: &[u8],
@@ -270,8 +210,8 @@ fn run(
         &challenges[..needs],
         pos,
     );
-    leave_point(end, &xi, point, 4 * rounds);
-    answer(end)
+    end::leave_point(end, &xi, point, 4 * rounds);
+    end::answer(end)
 }
 
 // What is not refused before: no rounds, or the run.
@@ -289,7 +229,7 @@ fn verify_admitted(
         ≡ verified (asked (now (proof .entry)) rounds modes (now (challenges .entry))) (lent (now (point .entry)) (now (log .entry))) ⌝ }
 {
     if rounds == 0 {
-        return at_once(empty::verify_empty(proof, outline));
+        return end::at_once(empty::verify_empty(proof, outline));
     }
     run(proof, rounds, outline, modes.drawn, challenges, point, log)
 }
@@ -308,7 +248,7 @@ pub fn verify_gkr(
         ≡ verified (asked (now (proof .entry)) rounds modes (now (challenges .entry))) (lent (now (point .entry)) (now (log .entry))) ⌝ }
 {
     match admit(proof, rounds, modes, challenges, point.len(), log.len()) {
-        Gate::Shut(refusal) => at_once(Verdict::Refused(refusal)),
+        Gate::Shut(refusal) => end::at_once(Verdict::Refused(refusal)),
         Gate::Open(outline) => verify_admitted(
             proof,
             rounds,

@@ -35,7 +35,7 @@ use Rattle.verifier_round.specs.declared.Sums.{Sums}
 use Rattle.verifier_round.specs.declared.Advance.the-variants.{Next, Stopped}
 use Rattle.verifier_round.specs.declared.Verdict.the-variants.{Refused}
 use Rattle.verifier_round.specs.Values.{columns}
-use Rattle.verifier_round.specs.Verdicts.{Model, answerOf, pointOf, loggedBy}
+use Rattle.verifier_round.specs.Verdicts.{Model, answerOf, pointOf, leftBy}
 use Rattle.verifier_round.specs.Rounds.{Descended, Goes, Stops, Came, Closed, Rooted}
 use Rattle.verifier_round.proofs.Points.{headed}
 
@@ -68,15 +68,15 @@ goes-on lg lg₁ lg₂ pt pt' ch k n m c pos₀ p r t v e a d =
 
 -- a check that fails, with the log so far
 pub stops-there : (lg lg' : List ℕ) {ls ls' : List ℕ} (ch : Source E.Ext) (pos p : Pos) (n m : ℕ) (t : Words) (v w : Model ch) (e : Refusal) → Steps lg lg' ls ls' pos p n m t → p .put ≤ length lg → v ≡ w → answerOf ch w ≡ Refused e
-    → pointOf ch w ≡ [] → loggedBy ch w ≡ t .log → Stops lg lg' ch pos v e
+    → pointOf ch w ≡ [] → leftBy ch w ≡ t → Stops lg lg' ch pos v e p
 stops-there lg lg' ch pos p n m t v w e a h q x y z =
     record {
       answer = ap (answerOf ch) q ∙ x;
       point = ap (pointOf ch) q ∙ y;
-      end = p .put;
       more = omega (arith, a .put);
       room = h;
-      log = ap (λ u. u .log) (a .log) ∙ sym z ∙ ap (loggedBy ch) (sym q);
+      drawn = a .drawn;
+      log = a .log ∙ sym z ∙ ap (leftBy ch) (sym q);
       rest = a .rest;
     }
 
@@ -120,7 +120,7 @@ closed-go pt pt' lg lg₁ lg₂ ch c round lambda s expected p r b x k e h a d =
 
 pub closed-stop : (pt lg lg₁ : List ℕ) {ls ls₁ : List ℕ} (ch : Source E.Ext) (c : Claims E.Ext) (round : ℕ) (lambda : Ext) (s : Sums) (expected : Ext) (p : Pos) (b : Bool)
     → Is expected (E.mul (RoundSum.cross ExtRing (dec lambda) c) (dec (s .eq))) → Canon (s .claim) → b ≡ sameWords expected (s .claim) → not b ≡ true
-    → Steps lg lg₁ ls ls₁ (s .pos) p 16 0 (after c (logOf lg (s .pos))) → s .pos .put + 20 ≤ length lg → Closed pt pt lg lg₁ ls ls₁ ch c round lambda s (Stopped (LayerConsistencyCheckFailed round expected (s .claim)))
+    → Steps lg lg₁ ls ls₁ (s .pos) p 16 0 (after c (logOf lg (s .pos))) → s .pos .put + 20 ≤ length lg → Closed pt pt lg lg₁ ls ls₁ ch c round lambda s (Stopped (LayerConsistencyCheckFailed round expected (s .claim)) p)
 closed-stop pt lg lg₁ ch c round lambda s expected p b x k e h a room = λ ms v z t came mss cs.
     stops-there lg lg₁ ch (s .pos) p 16 0 _ _ _ _ a (omega (arith, a .put)) (layer-fails pt lg ch c round lambda s expected x k ms v z t came mss cs e (not-true b h))
     (ap Refused (layer-answer pt lg ch c round lambda s expected x k ms v z t came mss cs)) refl refl
@@ -169,14 +169,14 @@ both-observed lg lg₁ lg₂ q c pos a p x y = then lg lg₁ lg₂ pos a p 4 0 1
 
 module _ (pt lg lg₁ lg₂ : List ℕ) {ls ls₁ ls₂ : List ℕ} (ch : Source E.Ext) (q0 : Ext) (c : Claims E.Ext) (pos a p : Pos) (f : FracW) (b : Bool) (x : IsFrac f (Tree.compute-recursive-relations ExtRing c)) (k : Canon q0)
     (e : b ≡ sameWords (f .p) (record { c0 = 0; c1 = 0; c2 = 0; c3 = 0 })) (s : Steps lg lg₁ ls ls₁ pos a 4 0 (Observing .observe (dec q0) (logOf lg pos))) (s′ : Steps lg₁ lg₂ ls₁ ls₂ a p 16 0 (after c (logOf lg₁ a))) where
-  pub root-zero : not b ≡ true → pos .put + 24 ≤ length lg → Rooted pt lg lg₂ ls ls₂ ch (dec q0) c pos (Stopped (ZeroCheckFailed (f .p)))
+  pub root-zero : not b ≡ true → pos .put + 24 ≤ length lg → Rooted pt lg lg₂ ls ls₂ ch (dec q0) c pos (Stopped (ZeroCheckFailed (f .p)) p)
   root-zero h room = λ mss cs.
       let o = both-observed lg lg₁ lg₂ (dec q0) c pos a p s s′ in
       stops-there lg lg₂ ch pos p 20 0 _ _ _ _ o (omega (arith, o .put)) (zero-fails ch lg q0 c pos (f .p) (f .q) (x .p) (x .q) k mss cs e (not-true b h))
       (λ i. Refused (ZeroCheckFailed (sym (enc-of-is (x .p)) i))) refl refl
 
   module _ (b′ : Bool) (h : not b ≡ false) (e′ : b′ ≡ sameWords (f .q) q0) where
-    pub root-differs : not b′ ≡ true → pos .put + 24 ≤ length lg → Rooted pt lg lg₂ ls ls₂ ch (dec q0) c pos (Stopped (RootConsistencyCheckFailed q0 (f .q)))
+    pub root-differs : not b′ ≡ true → pos .put + 24 ≤ length lg → Rooted pt lg lg₂ ls ls₂ ch (dec q0) c pos (Stopped (RootConsistencyCheckFailed q0 (f .q)) p)
     root-differs h′ room = λ mss cs.
         let o = both-observed lg lg₁ lg₂ (dec q0) c pos a p s s′ in
         stops-there lg lg₂ ch pos p 20 0 _ _ _ _ o (omega (arith, o .put)) (root-fails ch lg q0 c pos (f .p) (f .q) (x .p) (x .q) k mss cs e (not-false b h) e′ (not-true b′ h′))

@@ -19,7 +19,7 @@ use Rattle.gkr.specs.Gkr.{accepted}
 use Rattle.refusal.specs.declared.Refusal.{Refusal}
 use Rattle.transcript.specs.declared.Pos.{Pos}
 use Rattle.transcript.specs.Log.{logOf}
-use Rattle.transcript.specs.LogLaws.{log-unique}
+use Rattle.transcript.specs.LogLaws.{SamePos, log-unique}
 use Rattle.verifier_round.specs.declared.Layer.{Layer}
 use Rattle.verifier_round.specs.declared.Advance.{Advance}
 use Rattle.verifier_round.specs.declared.Advance.the-variants.{Next, Stopped}
@@ -47,15 +47,20 @@ accepted-parts ch e = (cc, cc, cc)
 pub accepted-or-refused : {a b : Ext} {e : Refusal} → Accepted a b ≡ Refused e → ⊥
 accepted-or-refused h = let z : _≡_ {A = ℕ} 0 1 = cc in omega arith
 
-pub stops-buffer : {lg lg' : List ℕ} {ch : Source E.Ext} {pos : Pos} {w : Model ch} {e : Refusal} → length lg' ≡ length lg → Stops lg lg' ch pos w e → lg' ≡ loggedBy ch w ++ drop (length (loggedBy ch w)) lg
-stops-buffer {lg} {lg'} {ch} {pos} {w} q h =
-    let n : h .end ≡ length (loggedBy ch w) = sym (length-take-le (h .end) lg' (omega (arith, h .room, q))) ∙ ap length (h .log) in
-    sym (take-append-drop (h .end) lg') ∙ ap₂ _++_ (h .log) (h .rest ∙ ap (λ (a : ℕ). drop a lg) n)
+pub stops-put : {lg lg' : List ℕ} {ch : Source E.Ext} {pos : Pos} {w : Model ch} {e : Refusal} {end : Pos} → length lg' ≡ length lg → Stops lg lg' ch pos w e end → end .put ≡ length (loggedBy ch w)
+stops-put {lg' = lg'} {end = end} q h = sym (length-take-le (end .put) lg' (omega (arith, h .room, q))) ∙ ap (λ (u : Words). length (u .log)) (h .log)
 
-pub stops-unique : {lg lg' lg″ : List ℕ} {ch : Source E.Ext} {pos : Pos} {w : Model ch} {e e' : Refusal} → length lg' ≡ length lg → length lg″ ≡ length lg → Stops lg lg' ch pos w e → Stops lg lg″ ch pos w e' → (e ≡ e') × (lg' ≡ lg″)
-stops-unique {e = e} {e' = e'} q q' h k =
+pub stops-buffer : {lg lg' : List ℕ} {ch : Source E.Ext} {pos : Pos} {w : Model ch} {e : Refusal} {end : Pos} → length lg' ≡ length lg → Stops lg lg' ch pos w e end → lg' ≡ loggedBy ch w ++ drop (length (loggedBy ch w)) lg
+stops-buffer {lg} {lg'} {end = end} q h =
+    sym (take-append-drop (end .put) lg') ∙ ap₂ _++_ (ap (λ (u : Words). u .log) (h .log)) (h .rest ∙ ap (λ (a : ℕ). drop a lg) (stops-put q h))
+
+pub stops-unique : {lg lg' lg″ : List ℕ} {ch : Source E.Ext} {pos : Pos} {w : Model ch} {e e' : Refusal} {end end' : Pos} → length lg' ≡ length lg → length lg″ ≡ length lg → Stops lg lg' ch pos w e end → Stops lg lg″ ch pos w e' end'
+    → ((e ≡ e') × SamePos end end') × (lg' ≡ lg″)
+stops-unique {lg} {e = e} {e' = e'} q q' h k =
     let r : Refused e ≡ Refused e' = sym (h .answer) ∙ k .answer in
-    (cc, stops-buffer q h ∙ sym (stops-buffer q' k))
+    let a : e ≡ e' = cc in
+    let l = log-unique lg (stops-put q h ∙ sym (stops-put q' k)) (h .drawn ∙ sym (k .drawn)) (h .log ∙ sym (k .log)) (h .rest) (k .rest) in
+    ((a, l .0), l .1)
 
 module _ (lg : List ℕ) (ch : Source E.Ext) (pos : Pos) (k n m : ℕ) (v : List (List (Cubic E.Ext)) → List (Claims E.Ext) → Model ch) where
   ends-in : {p l ls ls' : List ℕ} {s : Layer} → Goes lg l ls ls' p ch pos k n m v s → v [] [] ≡ accepted (columns s) (cells p 0 k) (logOf l (s .pos))
@@ -75,11 +80,11 @@ module _ (lg : List ℕ) (ch : Source E.Ext) (pos : Pos) (k n m : ℕ) (v : List
         l .1,
       )
 
-  one-way : {p l l' ls ls' : List ℕ} {a : Layer} {e : Refusal} → Goes lg l ls ls' p ch pos k n m v a → Stops lg l' ch pos (v [] []) e → ⊥
+  one-way : {p l l' ls ls' : List ℕ} {a : Layer} {e : Refusal} {end : Pos} → Goes lg l ls ls' p ch pos k n m v a → Stops lg l' ch pos (v [] []) e end → ⊥
   one-way h s = accepted-or-refused (ap (answerOf ch) (sym (ends-in h)) ∙ s .answer)
 
   pub advances-unique : (lg' lg″ ls ls' ls″ pt' pt″ : List ℕ) (r s : Advance) → length lg' ≡ length lg → length lg″ ≡ length lg → Advances lg lg' ls ls' pt' ch pos k n m v r → Advances lg lg″ ls ls″ pt″ ch pos k n m v s → SameAdvance r s × (lg' ≡ lg″)
   advances-unique lg' lg″ ls ls' ls″ pt' pt″ (Next a) (Next b) q q' h h' = let e = goes-unique h h' in (e .0, e .2)
-  advances-unique lg' lg″ ls ls' ls″ pt' pt″ (Next a) (Stopped x) q q' h h' = absurd (one-way h (h' [] []))
-  advances-unique lg' lg″ ls ls' ls″ pt' pt″ (Stopped x) (Next b) q q' h h' = absurd (one-way h' (h [] []))
-  advances-unique lg' lg″ ls ls' ls″ pt' pt″ (Stopped x) (Stopped y) q q' h h' = stops-unique q q' (h [] []) (h' [] [])
+  advances-unique lg' lg″ ls ls' ls″ pt' pt″ (Next a) (Stopped x e) q q' h h' = absurd (one-way h (h' [] []))
+  advances-unique lg' lg″ ls ls' ls″ pt' pt″ (Stopped x e) (Next b) q q' h h' = absurd (one-way h' (h [] []))
+  advances-unique lg' lg″ ls ls' ls″ pt' pt″ (Stopped x e) (Stopped y f) q q' h h' = stops-unique q q' (h [] []) (h' [] [])

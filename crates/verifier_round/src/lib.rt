@@ -232,7 +232,7 @@ pub fn close_layer(
     ensures { λ r. ⌜ Closed (now (point .entry)) (now (point .exit)) (now (log .entry)) (now (log .exit)) (now (lanes .entry)) (now (lanes .exit))
         (source (s .pos .drawn) (now (challenges .entry))) (decClaims (claimsIn c)) round lambda s r ⌝ }
 {
-    let p = observe_layer_claims(log, s.pos, c);
+    let end = observe_layer_claims(log, s.pos, c);
     let expected = expected_claim(c, lambda, s.eq);
     let actual = s.claim;
     if !expected.same_words(actual) {
@@ -242,10 +242,10 @@ pub fn close_layer(
                 expected,
                 actual,
             },
-            pos: p,
+            pos: end,
         };
     }
-    Advance::Next(descend(c, point, log, lanes, challenges, p))
+    Advance::Next(descend(c, point, log, lanes, challenges, end))
 }
 
 // Layer 0: the root's numerator must be zero, and its denominator the one told.

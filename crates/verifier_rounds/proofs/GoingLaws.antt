@@ -125,10 +125,10 @@ module _ (bs pt₀ pt lg₀ lg : List ℕ) (ch : Source E.Ext) (claims₀ claims
   unfolded b = i .verdict ∙ ap (λ k. going bs pt lg ch claims polys k r s) (left b) ∙ next-round bs pt lg ch claims polys h r s
 
   module _ (pt' lg' : List ℕ) {ls ls' : List ℕ} (a : Advance) (b : r < n) (d : RoundDone bs pt pt' lg lg' ls ls' ch claims polys r s a) where
-    pub going-stop : (e : Refusal) → a ≡ Stopped e → LayersEnd bs pt₀ pt' lg₀ lg' ch claims₀ polys₀ n s₀ (Stopped e)
-    going-stop e q =
+    pub going-stop : (e : Refusal) (end : Pos) → a ≡ Stopped e end → LayersEnd bs pt₀ pt' lg₀ lg' ch claims₀ polys₀ n s₀ (Stopped e end)
+    going-stop e end q =
         let st = subst (Advances lg lg' ls ls' pt' ch (s .pos) (r + 1) (16 * r + 24) (r + 2) _) q (d .run) in
-        stopped-before lg₀ lg lg' ch (s₀ .pos) (s .pos) (i .more) (i .rest) (i .logs) _ _ e (unfolded b) (st _ _)
+        stopped-before lg₀ lg lg' ch (s₀ .pos) (s .pos) (i .more) (i .rest) (i .logs) _ _ e end (i .drawn) (unfolded b) (st _ _)
 
     pub going-next : (t : Layer) → a ≡ Next t → length pt' ≡ length pt → length lg' ≡ length lg → Going bs pt₀ pt' lg₀ lg' ch claims₀ (claims + 64) polys₀ (polys + (1 + 48 * r)) n (r + 1) s₀ t
     going-next t q x y =
@@ -178,8 +178,8 @@ module _ (bs lg lg₁ ls ls₁ : List ℕ) (ch : Source E.Ext) (polys n : ℕ) (
   there : Rooted pt₁ lg lg₁ ls ls₁ ch (dec (elem (drop 5 bs))) (decClaims (claimsOf (drop 22 bs))) pos a
   there = subst (λ e. Rooted pt₁ lg lg₁ ls ls₁ ch (dec e) (decClaims (claimsOf (drop 22 bs))) pos a) x (subst (λ e. Rooted pt₁ lg lg₁ ls ls₁ ch (dec q0) (decClaims e) pos a) y d)
 
-  pub root-stop : (pt' : List ℕ) (e : Refusal) → a ≡ Stopped e → RootEnd bs pt' lg lg₁ ch polys n pos (Stopped e)
-  root-stop pt' e q = subst (Advances lg lg₁ ls ls₁ pt₁ ch pos 1 24 1 _) q there _ _
+  pub root-stop : (pt' : List ℕ) (e : Refusal) (end : Pos) → a ≡ Stopped e end → RootEnd bs pt' lg lg₁ ch polys n pos (Stopped e end)
+  root-stop pt' e end q = subst (Advances lg lg₁ ls ls₁ pt₁ ch pos 1 24 1 _) q there _ _
 
   pub root-goes : (s : Layer) → a ≡ Next s → Goes lg lg₁ ls ls₁ pt₁ ch pos 1 24 1 (λ mss cs. Gkr.root Extension (Drawing ch) (dec (elem (drop 5 bs))) (decClaims (claimsOf (drop 22 bs))) cs mss (logOf lg pos)) s
   root-goes s q = subst (Advances lg lg₁ ls ls₁ pt₁ ch pos 1 24 1 _) q there

@@ -26,6 +26,7 @@ use Rattle.gkr.specs.Transcripts.{Words, Source}
 use Rattle.gkr.specs.Sumcheck as Sumcheck
 use Rattle.gkr.specs.Gkr as Gkr
 use Rattle.gkr.specs.Gkr.{subround-count}
+use Rattle.transcript.specs.declared.Pos.{Pos}
 use Rattle.transcript.specs.Log.{Drawing, logOf}
 use Rattle.transcript.proofs.Logs.{then}
 use Rattle.refusal.specs.declared.Refusal.the-variants.{IncorrectSubroundCount}
@@ -94,15 +95,15 @@ count-fails ch ms c v z t mss cs k r a b h =
     let f : eqb (length ms) (length z) ≡ false = ne-eqb (length ms) (length z) (λ q. h (sym a ∙ q ∙ b)) in
     rw f (λ i. subround-count (b i) (b i) (a i) (Drawing ch .drawn t))
 
-never : (e : _) (t : Layer) → Stopped e ≡ Next t → ⊥
-never e t q = let z : _≡_ {A = ℕ} 0 1 = cc in omega arith
+never : (e : _) (end : Pos) (t : Layer) → Stopped e end ≡ Next t → ⊥
+never e end t q = let z : _≡_ {A = ℕ} 0 1 = cc in omega arith
 
 pub round-stopped : (bs pt lg lg₁ : List ℕ) {ls ls₁ : List ℕ} (ch : Source E.Ext) (claims polys round count : ℕ) (s : Layer) (o : Opened) → count ≡ getD bs polys 0 → (count ≡ round → ⊥)
-    → s .pos .put + (16 * round + 24) ≤ length lg → Opens pt lg lg₁ ls ls₁ ch s o → RoundDone bs pt pt lg lg₁ ls ls₁ ch claims polys round s (Stopped (IncorrectSubroundCount round round count))
+    → s .pos .put + (16 * round + 24) ≤ length lg → Opens pt lg lg₁ ls ls₁ ch s o → RoundDone bs pt pt lg lg₁ ls ls₁ ch claims polys round s (Stopped (IncorrectSubroundCount round round count) (o .first .pos))
 round-stopped bs pt lg lg₁ ch claims polys round count s o e h room a =
     record {
       run = λ mss cs.
           stops-there lg lg₁ ch (s .pos) (o .first .pos) 4 1 _ _ _ _ (a .steps) (omega (arith, a .steps .put))
           (count-fails ch (entryAt bs polys) (decClaims (claimsOf (drop claims bs))) (columns s) (cells pt 0 round) (logOf lg (s .pos)) mss cs count round (entry-count bs polys ∙ sym e) (cells-length pt 0 round) h) refl refl refl;
-      counted = λ t q. absurd (never (IncorrectSubroundCount round round count) t q);
+      counted = λ t q. absurd (never (IncorrectSubroundCount round round count) (o .first .pos) t q);
     }

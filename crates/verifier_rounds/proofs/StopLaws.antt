@@ -16,7 +16,7 @@ use Rattle.transcript.proofs.Logs.{then, retold}
 use Rattle.refusal.specs.declared.Refusal.{Refusal}
 use Rattle.verifier_round.specs.declared.Advance.{Advance}
 use Rattle.verifier_round.specs.declared.Advance.the-variants.{Next, Stopped}
-use Rattle.verifier_round.specs.Verdicts.{Model, answerOf, pointOf, loggedBy}
+use Rattle.verifier_round.specs.Verdicts.{Model, answerOf, pointOf, leftBy}
 use Rattle.verifier_round.specs.Rounds.{Stops, Advances}
 use Rattle.verifier_rounds.specs.Runs.{Ends}
 
@@ -27,16 +27,16 @@ further l m p q h e =
     ap (λ k. drop k l) (sym n) ∙ sym (drop-drop (q - p) p l) ∙ ap (drop (q - p)) e ∙ drop-drop (q - p) p m ∙ ap (λ k. drop k m) n
 
 module _ (lg₀ lg lg' : List ℕ) (ch : Source E.Ext) (pos₀ pos : Pos) (m : pos₀ .put ≤ pos .put) (d : drop (pos .put) lg ≡ drop (pos .put) lg₀) (l : length lg ≡ length lg₀) where
-  pub stopped-before : (v₀ v : Model ch) (e : Refusal) → v₀ ≡ v → Stops lg lg' ch pos v e → Stops lg₀ lg' ch pos₀ v₀ e
-  stopped-before v₀ v e q s =
+  pub stopped-before : (v₀ v : Model ch) (e : Refusal) (end : Pos) → pos .drawn ≡ pos₀ .drawn → v₀ ≡ v → Stops lg lg' ch pos v e end → Stops lg₀ lg' ch pos₀ v₀ e end
+  stopped-before v₀ v e end w q s =
       record {
         answer = ap (answerOf ch) q ∙ s .answer;
         point = ap (pointOf ch) q ∙ s .point;
-        end = s .end;
         more = omega (arith, s .more);
         room = omega (arith, s .room);
-        log = s .log ∙ ap (loggedBy ch) (sym q);
-        rest = s .rest ∙ further lg lg₀ (pos .put) (s .end) (s .more) d;
+        drawn = s .drawn ∙ w;
+        log = s .log ∙ ap (leftBy ch) (sym q);
+        rest = s .rest ∙ further lg lg₀ (pos .put) (end .put) (s .more) d;
       }
 
   pub ended-before : (pt' : List ℕ) (n : ℕ) (v₀ v : Model ch) (r : Advance) → pos .drawn ≡ pos₀ .drawn → v₀ ≡ v → Ends lg lg' pt' ch pos n v r → Ends lg₀ lg' pt' ch pos₀ n v₀ r
@@ -51,7 +51,7 @@ module _ (lg₀ lg lg' : List ℕ) (ch : Source E.Ext) (pos₀ pos : Pos) (m : p
         denom = a .denom;
         clean = a .clean;
       }
-  ended-before pt' n v₀ v (Stopped e) w q a = stopped-before v₀ v e q a
+  ended-before pt' n v₀ v (Stopped e end) w q a = stopped-before v₀ v e end w q a
 
 pub advanced-before : (lg₀ lg lg' ls₀ ls ls' pt' : List ℕ) (ch : Source E.Ext) (pos₀ pos : Pos) (k n m n' m' N M : ℕ) (t : Words) (v : List (List (Cubic E.Ext)) → List (Claims E.Ext) → Model ch) (r : Advance)
     → Steps lg₀ lg ls₀ ls pos₀ pos n m t → length lg ≡ length lg₀ → n + n' ≡ N → m + m' ≡ M → Advances lg lg' ls ls' pt' ch pos k n' m' v r → Advances lg₀ lg' ls₀ ls' pt' ch pos₀ k N M v r
@@ -63,5 +63,5 @@ advanced-before lg₀ lg lg' ls₀ ls ls' pt' ch pos₀ pos k n m n' m' N M t v 
       denom = g .denom;
       clean = g .clean;
     }
-advanced-before lg₀ lg lg' ls₀ ls ls' pt' ch pos₀ pos k n m n' m' N M t v (Stopped e) a l x y g =
-    λ mss cs. stopped-before lg₀ lg lg' ch pos₀ pos (omega (arith, a .put)) (a .rest) l (v mss cs) (v mss cs) e refl (g mss cs)
+advanced-before lg₀ lg lg' ls₀ ls ls' pt' ch pos₀ pos k n m n' m' N M t v (Stopped e end) a l x y g =
+    λ mss cs. stopped-before lg₀ lg lg' ch pos₀ pos (omega (arith, a .put)) (a .rest) l (v mss cs) (v mss cs) e end (a .drawn) refl (g mss cs)

@@ -47,11 +47,11 @@ module _ (lg : List ℕ) (ch : Source E.Ext) (pos : Pos) (n : ℕ) (v : Model ch
         l .1,
       )
 
-  one-way : {l l' p : List ℕ} {a : Layer} {e : Refusal} → Accepts lg l p ch pos n v a → Stops lg l' ch pos v e → ⊥
+  one-way : {l l' p : List ℕ} {a : Layer} {e : Refusal} {end : Pos} → Accepts lg l p ch pos n v a → Stops lg l' ch pos v e end → ⊥
   one-way h s = accepted-or-refused (ap (answerOf ch) (sym (h .verdict)) ∙ s .answer)
 
   pub ends-unique : (lg' lg″ pt' pt″ : List ℕ) (r s : Advance) → length lg' ≡ length lg → length lg″ ≡ length lg → Ends lg lg' pt' ch pos n v r → Ends lg lg″ pt″ ch pos n v s → SameAdvance r s × (lg' ≡ lg″)
   ends-unique lg' lg″ pt' pt″ (Next a) (Next b) q q' h h' = accepts-unique q q' h h'
-  ends-unique lg' lg″ pt' pt″ (Next a) (Stopped x) q q' h h' = absurd (one-way h h')
-  ends-unique lg' lg″ pt' pt″ (Stopped x) (Next b) q q' h h' = absurd (one-way h' h)
-  ends-unique lg' lg″ pt' pt″ (Stopped x) (Stopped y) q q' h h' = stops-unique q q' h h'
+  ends-unique lg' lg″ pt' pt″ (Next a) (Stopped x e) q q' h h' = absurd (one-way h h')
+  ends-unique lg' lg″ pt' pt″ (Stopped x e) (Next b) q q' h h' = absurd (one-way h' h)
+  ends-unique lg' lg″ pt' pt″ (Stopped x e) (Stopped y f) q q' h h' = stops-unique q q' h h'

@@ -90,13 +90,14 @@ pub fn verify_round(
     let lambda = o.lambda;
     let first = o.first;
     if subrounds != round {
+        let pos = first.pos;
         return Advance::Stopped {
             refusal: Refusal::IncorrectSubroundCount {
                 round,
                 expected: round,
                 actual: subrounds,
             },
-            pos: first.pos,
+            pos,
         };
     }
     let last = verify_gkr_sumcheck(

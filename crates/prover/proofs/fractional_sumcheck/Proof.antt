@@ -9,6 +9,9 @@ first-refusal-requires c κs = search needs
 enum-known-gate : tie.Need-enum-known-gate
 enum-known-gate c = search needs
 
+refuse-requires : tie.Need-refuse-requires
+refuse-requires c κs = search needs
+
 enum-known-gate-2 : tie.Need-enum-known-gate-2
 enum-known-gate-2 c = search needs
 
@@ -16,7 +19,7 @@ admitted-requires : tie.Need-admitted-requires
 admitted-requires c κs = gate-told _ _ (c .before .before .before .before .before .before .before .first-refusal .ensures) (c .before .before .before .before .before .gate2 .given .1)
 
 returns : tie.Need-returns
-returns c = proved-shut _ _ (c .before .before .before .first-refusal .ensures) (c .before .gate .given .1)
+returns c = proved-shut _ _ (c .before .before .before .before .first-refusal .ensures) (c .before .before .gate .given .1) (c .refuse .ensures)
 
 same-length : tie.Need-same-length
 same-length c = search needs
@@ -42,6 +45,7 @@ fractional-sumcheck-spec =
     (tie.spec
     first-refusal-requires
     enum-known-gate
+    refuse-requires
     enum-known-gate-2
     admitted-requires
     returns

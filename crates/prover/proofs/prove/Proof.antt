@@ -27,14 +27,21 @@ contradicts-requires c κs = search needs
 clear-requires : tie.Need-clear-requires
 clear-requires c κs = search needs
 
+refuse-requires : tie.Need-refuse-requires
+refuse-requires c κs = search needs
+
 same-length : tie.Need-same-length
 same-length c = search needs
 
 returns : tie.Need-returns
 returns c =
-    let p = c .before .before .before .before .before .before .before .before .before .before .before .before .before .before .before .before .pre .0 in
-    let s = c .before .before .before .before .before .before .before .before .sum-rows .ensures in
-    λ m e. prove-refused (c .before .before .before .before .before .before .before .before .before .before .before .before .before .before .before .before .args .rows .now) _ _ _ _ (c .before .before .before .before .before .before .before .before .before .before .before .before .before .before .before .before .args .work .now) _ m _ _ e (p .work) (s .sum m (p .pow ∙ ap (λ k. 2 ^ k) e)) (c .before .before .before .before .before .contradicts .ensures) (c .before .before .before .before .before .before .before .before .sum-rows .last .1 .1 .0) _ (c .before .before .before .before .if1 .taken) (omega (arith, c .before .before .before .before .before .before .before .before .sum-rows .kept)) (c .before .before .clear .ensures)
+    let l = c .before .before .before in
+    let k = l .before .before in
+    let r = k .before .before .before .before in
+    let a = r .before .before .before .before .before .before .before .before in
+    let p = a .pre .0 in
+    let s = r .sum-rows .ensures in
+    λ m e. prove-refused (a .args .rows .now) _ _ _ _ (a .args .work .now) _ m _ _ e (p .work) (s .sum m (p .pow ∙ ap (λ k. 2 ^ k) e)) (k .before .contradicts .ensures) (r .sum-rows .last .1 .1 .0) _ (k .if1 .taken) (omega (arith, r .sum-rows .kept)) (l .clear .ensures) (c .refuse .ensures)
 
 write-run-requires : tie.Need-write-run-requires
 write-run-requires c κs =
@@ -58,11 +65,15 @@ same-length-5 c = search needs
 
 returns-2 : tie.Need-returns-2
 returns-2 c =
-    let p = c .before .before .before .before .before .before .before .before .before .before .before .before .before .before .before .before .before .before .before .before .before .before .before .before .before .pre .0 in
-    let s = c .before .before .before .before .before .before .before .before .before .before .before .before .before .before .before .before .before .sum-rows .ensures in
+    let w = c .before .before .before .before .before .before .before .before in
+    let l = w .before .before .before .before .before in
+    let r = l .before .before .before .before in
+    let a = r .before .before .before .before .before .before .before .before in
+    let p = a .pre .0 in
+    let s = r .sum-rows .ensures in
     λ m e.
     let z = p .pow ∙ ap (λ k. 2 ^ k) e in
-    prove-done (c .before .before .before .before .before .before .before .before .before .before .before .before .before .before .before .before .before .before .before .before .before .before .before .before .before .args .rows .now) _ _ _ _ (c .before .before .before .before .before .before .before .before .before .before .before .before .before .before .before .before .before .before .before .before .before .before .before .before .before .args .work .now) _ m _ _ e (p .work) (s .sum m z) (c .before .before .before .before .before .before .before .before .before .before .before .before .before .before .contradicts .ensures) _ (c .before .before .before .before .before .before .before .before .before .before .before .before .before .if1 .left) (rewritten {ws = c .before .before .before .before .before .before .before .before .before .before .before .before .before .before .before .before .before .before .before .before .before .before .before .before .before .args .work .now} {ws₁ = c .before .before .before .before .before .before .before .before .before .before .before .before .before .before .before .before .before .sum-rows .last .1 .1 .0} (omega (arith, c .before .before .before .before .before .before .before .before .before .before .before .before .before .before .before .before .before .sum-rows .kept)) (c .before .before .before .before .before .before .before .before .write-run .ensures (node (c .before .before .before .before .before .before .before .before .before .before .before .before .before .before .before .before .before .before .before .before .before .before .before .before .before .args .rows .now)) m e (levels-at e (s .levels m z)) (s .sum m z)))
+    prove-done (a .args .rows .now) _ _ _ _ (a .args .work .now) _ m _ _ e (p .work) (s .sum m z) (l .before .contradicts .ensures) _ _ (l .if1 .left) (rewritten {ws = a .args .work .now} {ws₁ = r .sum-rows .last .1 .1 .0} (omega (arith, r .sum-rows .kept)) (w .write-run .ensures (node (a .args .rows .now)) m e (levels-at e (s .levels m z)) (s .sum m z)))
 
 pub prove-spec : {M : Type 1} → statement M
 prove-spec =
@@ -71,6 +82,7 @@ prove-spec =
     sum-rows-requires
     contradicts-requires
     clear-requires
+    refuse-requires
     same-length
     returns
     write-run-requires

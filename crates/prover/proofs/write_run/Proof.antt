@@ -43,6 +43,9 @@ put-proof-requires c κs =
 clear-requires : tie.Need-clear-requires
 clear-requires c κs = search needs
 
+used-up-requires : tie.Need-used-up-requires
+used-up-requires c κs = search needs
+
 same-length : tie.Need-same-length
 same-length c = search needs
 
@@ -57,15 +60,21 @@ same-length-4 c = search needs
 
 returns : tie.Need-returns
 returns c =
-    let p = c .before .before .before .before .before .before .before .before .before .before .before .before .before .before .before .before .before .before .before .before .before .before .before .before .before .before .before .before .before .before .before .pre .0 in
-    let s = c .before .before .before .before .before .before .before .before .before .before .before .before .before .before .before .before .before .before .before .before .before .before .before .begin .ensures (replicate 25 0) in
-    let k = c .before .before .before .before .before .before .before .before .before .before .before .before .before .before .before .before .before .before .before .before .before .before .before .begin .kept in
-    let j = c .before .before .before .before .before .before .before .before .before .before .before .before .before .before .before .before .run-rounds .kept in
-    let r = c .before .before .before .before .before .before .before .before .before .before .before .before .before .before .before .before .run-rounds .ensures in
-    let o = c .before .before .before .before .before .before .put-proof .ensures in
-    let z = c .before .before .before .before .before .before .before .before .before .before .before .before .before .before .before .before .before .before .before .before .before .before .before .before .before .start .ensures in
+    let x = c .before .before .before in
+    let y = x .before .before .before .before in
+    let h = y .before .before .before .before .before .before .before .before .before .before in
+    let g = h .before .before .before .before .before .before .before in
+    let b = g .before .before in
+    let a = b .before .before .before .before .before .before in
+    let p = a .pre .0 in
+    let s = g .begin .ensures (replicate 25 0) in
+    let k = g .begin .kept in
+    let j = h .run-rounds .kept in
+    let r = h .run-rounds .ensures in
+    let o = y .put-proof .ensures in
+    let z = b .start .ensures in
     λ f m e L R.
-    written f (c .before .before .before .before .before .before .before .before .before .before .before .before .before .before .before .before .before .before .before .before .before .before .before .before .before .before .before .before .before .before .before .args .asserted) m (c .before .before .before .before .before .before .before .before .before .before .before .before .before .before .before .before .before .before .before .before .before .before .before .before .before .before .before .before .before .before .before .args .n) _ (c .before .before .before .before .before .before .before .before .before .before .before .before .before .before .before .before .before .before .before .before .before .before .before .before .before .before .before .before .before .before .before .args .proof .now) (c .before .before .before .before .before .before .put-proof .last .0) (c .before .before .before .before .before .before .before .before .before .before .before .before .before .before .before .before .before .before .before .before .before .before .before .before .before .before .before .before .before .before .before .args .xi .now) _ _ (c .before .before .before .before .before .before .before .before .before .before .before .before .before .before .before .before .before .before .before .before .before .before .before .begin .last .0) (c .before .before .before .before .before .before .before .before .before .before .before .before .before .before .before .before .run-rounds .last .1 .1 .1 .1 .1 .0) (c .before .before .before .before .before .before .before .before .before .before .before .before .before .before .before .before .before .before .before .before .before .before .before .before .before .before .before .before .before .before .before .args .work .now) (c .before .before .before .before .before .before .before .before .before .before .before .before .before .before .before .before .run-rounds .last .1 .1 .1 .0) _ _ _ _ (c .before .before .before .before .before .before .before .before .before .before .before .before .before .before .before .before .before .before .before .before .before .before .before .before .before .before .before .before .before .before .before .args .root) (z .0) (z .1) e R s (omega (arith, p .log, s .put, z .0, k)) (run-alike (c .before .before .before .before .before .before .before .before .before .before .before .before .before .before .before .before .before .before .before .before .before .before .before .before .before .before .before .before .before .before .before .args .challenges .now) (s .drawn ∙ z .2) (r .0 f m e L (R .q .value))) (omega (arith, r .1 .0)) (omega (arith, p .log, s .put, z .0, r .1 .0, k, j)) (r .1 .1) (p .point) (omega (arith, p .point, j)) (p .proof) (omega (arith, c .before .before .before .before .before .before .put-proof .kept)) (o .1) (c .before .before .clear .ensures) (omega (arith, j))
+    written f (a .args .asserted) m (a .args .n) _ (a .args .proof .now) (y .put-proof .last .0) (a .args .xi .now) _ _ (g .begin .last .0) (h .run-rounds .last .1 .1 .1 .1 .1 .0) (a .args .work .now) (h .run-rounds .last .1 .1 .1 .0) _ _ _ _ (a .args .root) (z .0) (z .1) e R s (omega (arith, p .log, s .put, z .0, k)) (run-alike (a .args .challenges .now) (s .drawn ∙ z .2) (r .0 f m e L (R .q .value))) (omega (arith, r .1 .0)) (omega (arith, p .log, s .put, z .0, r .1 .0, k, j)) (r .1 .1) (p .point) (omega (arith, p .point, j)) (p .proof) (omega (arith, y .put-proof .kept)) (o .1) (x .clear .ensures) (omega (arith, j)) (c .used-up .ensures)
 
 pub write-run-spec : {M : Type 1} → statement M
 write-run-spec =
@@ -76,6 +85,7 @@ write-run-spec =
     run-rounds-requires
     put-proof-requires
     clear-requires
+    used-up-requires
     same-length
     same-length-2
     same-length-3

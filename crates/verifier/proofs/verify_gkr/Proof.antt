@@ -15,6 +15,9 @@ admit-requires c κs = search needs
 enum-known-refusal : tie.Need-enum-known-refusal
 enum-known-refusal c = search needs
 
+at-once-requires : tie.Need-at-once-requires
+at-once-requires c κs = search needs
+
 enum-known-outline : tie.Need-enum-known-outline
 enum-known-outline c = search needs
 
@@ -22,7 +25,7 @@ verify-admitted-requires : tie.Need-verify-admitted-requires
 verify-admitted-requires c κs = opened-of (asked (c .before .before .before .before .before .before .before .before .before .before .args .proof .now) (c .before .before .before .before .before .before .before .before .before .before .args .rounds) (c .before .before .before .before .before .before .before .before .before .before .args .modes) (c .before .before .before .before .before .before .before .before .before .before .args .challenges .now)) (length (c .before .before .before .before .before .before .before .before .before .before .args .point .now)) (length (c .before .before .before .before .before .before .before .before .before .before .args .log .now)) (c .before .before .before .before .before .admit .result) _ (c .before .before .before .outline .given .1) (c .before .before .before .before .before .admit .ensures)
 
 returns : tie.Need-returns
-returns c = shut-is (asked (c .before .before .before .before .before .before .before .before .args .proof .now) (c .before .before .before .before .before .before .before .before .args .rounds) (c .before .before .before .before .before .before .before .before .args .modes) (c .before .before .before .before .before .before .before .before .args .challenges .now)) (lent (c .before .before .before .before .before .before .before .before .args .point .now) (c .before .before .before .before .before .before .before .before .args .log .now)) (c .before .before .before .admit .result) _ (c .before .refusal .given .1) (c .before .before .before .admit .ensures)
+returns c = shut-is (asked (c .before .before .before .before .before .before .before .before .before .args .proof .now) (c .before .before .before .before .before .before .before .before .before .args .rounds) (c .before .before .before .before .before .before .before .before .before .args .modes) (c .before .before .before .before .before .before .before .before .before .args .challenges .now)) (lent (c .before .before .before .before .before .before .before .before .before .args .point .now) (c .before .before .before .before .before .before .before .before .before .args .log .now)) (c .before .before .before .before .admit .result) _ _ (c .before .before .refusal .given .1) (c .before .before .before .before .admit .ensures) (c .at-once .ensures)
 
 same-length : tie.Need-same-length
 same-length c = search needs
@@ -39,6 +42,7 @@ verify-gkr-spec =
     (tie.spec
     admit-requires
     enum-known-refusal
+    at-once-requires
     enum-known-outline
     verify-admitted-requires
     returns

@@ -58,7 +58,7 @@ same-length-4 : tie.Need-same-length-4
 same-length-4 c = search needs
 
 returns-2 : tie.Need-returns-2
-returns-2 c = root-stop (c .before .before .before .before .before .before .before .before .before .before .before .before .before .before .before .before .before .args .proof .now) _ _ _ _ _ (c .before .before .before .before .before .before .before .before .before .before .before .before .before .before .before .before .before .args .polys) (c .before .before .before .before .before .before .before .before .before .before .before .before .before .before .before .before .before .args .rounds) (c .before .before .before .before .before .before .before .before .before .before .before .before .before .before .before .before .before .args .pos) _ _ _ _ (c .before .before .before .before .before .before .before .before .before .before .before .before .element-at .ensures) (c .before .before .before .before .before .before .before .before .before .before .before .read-claims .ensures) (c .before .before .before .before .before .before .before .verify-root .ensures) (c .before .before .before .before .before .before .before .verify-root .last .1 .1 .0) _ (c .before .refusal .given .1)
+returns-2 c = root-stop (c .before .before .before .before .before .before .before .before .before .before .before .before .before .before .before .before .before .args .proof .now) _ _ _ _ _ (c .before .before .before .before .before .before .before .before .before .before .before .before .before .before .before .before .before .args .polys) (c .before .before .before .before .before .before .before .before .before .before .before .before .before .before .before .before .before .args .rounds) (c .before .before .before .before .before .before .before .before .before .before .before .before .before .before .before .before .before .args .pos) _ _ _ _ (c .before .before .before .before .before .before .before .before .before .before .before .before .element-at .ensures) (c .before .before .before .before .before .before .before .before .before .before .before .read-claims .ensures) (c .before .before .before .before .before .before .before .verify-root .ensures) (c .before .before .before .before .before .before .before .verify-root .last .1 .1 .0) _ _ (c .before .refusal .given .1)
 
 pub verify-all-spec : {M : Type 1} → statement M
 verify-all-spec =

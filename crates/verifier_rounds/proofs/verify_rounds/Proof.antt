@@ -42,7 +42,7 @@ same-length-2 : tie.Need-same-length-2 Inv-loop μ-loop
 same-length-2 c = omega (arith, c .before .before .before .before .before .before .before .verify-round .kept, c .before .before .before .before .before .before .before .before .before .before .before .before .loop .inv .0 .logs)
 
 returns : tie.Need-returns Inv-loop μ-loop
-returns c = going-stop _ _ _ _ _ _ _ _ _ _ _ _ _ _ (c .before .before .before .before .before .before .before .before .before .before .before .before .loop .inv .0) _ _ _ (c .before .before .before .before .before .before .before .before .before .before .before .loop-test .taken) (round-done-alike (c .before .before .before .before .before .before .before .before .before .before .before .before .before .before .before .before .before .args .challenges .now) (c .before .before .before .before .before .before .before .before .before .before .before .before .loop .inv .0 .drawn) (c .before .before .before .before .before .before .before .verify-round .ensures)) _ (c .before .refusal .given .1)
+returns c = going-stop _ _ _ _ _ _ _ _ _ _ _ _ _ _ (c .before .before .before .before .before .before .before .before .before .before .before .before .loop .inv .0) _ _ _ (c .before .before .before .before .before .before .before .before .before .before .before .loop-test .taken) (round-done-alike (c .before .before .before .before .before .before .before .before .before .before .before .before .before .before .before .before .before .args .challenges .now) (c .before .before .before .before .before .before .before .before .before .before .before .before .loop .inv .0 .drawn) (c .before .before .before .before .before .before .before .verify-round .ensures)) _ _ (c .before .refusal .given .1)
 
 add-c : tie.Need-add-c Inv-loop μ-loop
 add-c c =

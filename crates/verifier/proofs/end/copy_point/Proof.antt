@@ -5,10 +5,10 @@ use mathlib.Core.List.{_++_}
 use lib.ListN.{length, getD, set, take, drop, length-set}
 use borrow.Author.Needs.{needs}
 use native.Mathlib.Omega.{arith}
-use Rattle.verifier.proofs.copy_point.Statement.{statement}
-use Rattle.verifier.proofs.copy_point.Tie as tie
-use Rattle.verifier.proofs.copy_point.Reads as reads
-use Rattle.verifier.proofs.copy_point.Lts as lts
+use Rattle.verifier.proofs.end.copy_point.Statement.{statement}
+use Rattle.verifier.proofs.end.copy_point.Tie as tie
+use Rattle.verifier.proofs.end.copy_point.Reads as reads
+use Rattle.verifier.proofs.end.copy_point.Lts as lts
 
 abbrev Inv-loop : tie.InvT-loop
 Inv-loop xi point₀ n i₀ point i = (i ≤ n) × (length point ≡ length point₀) × (point ≡ take i xi ++ drop i point₀)

@@ -1,11 +1,11 @@
 use mathlib.Core.Path.{sym, _∙_, ap}
 use Rattle.verifier.specs.Gates.{pointLeft}
 use borrow.Author.Needs.{needs}
-use Rattle.verifier.proofs.leave_point.Statement.{statement}
-use Rattle.verifier.proofs.leave_point.Tie as tie
-use Rattle.verifier.proofs.leave_point.Reads as reads
-use Rattle.verifier.proofs.leave_point.Lts as lts
-use Rattle.verifier.proofs.copy_point.Reads as copy-point-reads
+use Rattle.verifier.proofs.end.leave_point.Statement.{statement}
+use Rattle.verifier.proofs.end.leave_point.Tie as tie
+use Rattle.verifier.proofs.end.leave_point.Reads as reads
+use Rattle.verifier.proofs.end.leave_point.Lts as lts
+use Rattle.verifier.proofs.end.copy_point.Reads as copy-point-reads
 
 enum-known-end : tie.Need-enum-known-end
 enum-known-end c = search needs
