@@ -2,12 +2,11 @@
 -- Assumes nothing.
 use mathlib.Core.Path.{_≡_, refl, sym, _∙_, ap}
 use mathlib.Core.List.{List, [], _++_, append-nil, append-assoc}
-use Prim.Native.Nat.{ℕ, suc, _+_, _*_, _<_, _^_}
+use Prim.Native.Nat.{ℕ, _*_, _<_, _^_}
 use native.Mathlib.Nat.{add-zero}
 use native.Mathlib.Omega.{arith}
-use lib.ListN.{length, length-append, getD}
+use lib.ListN.{length, length-map, getD}
 use Rattle.ring.specs.Field.{Field}
-use Rattle.field.specs.Base.{P}
 use Rattle.field.specs.Ext.{Ext}
 use Rattle.field.specs.Element.{words}
 use Rattle.field.specs.Cells.{cell}
@@ -15,9 +14,10 @@ use Rattle.field.specs.CellLaws.{clean-words, cell-right, cell-words}
 use Rattle.gkr.specs.Run.{Transcript, Proof}
 use Rattle.gkr.specs.Gkr
 use Rattle.gkr.specs.Transcripts.{Words, Source, drawing}
-use Rattle.gkr.specs.Keeps
+use Rattle.gkr.specs.TranscriptLaws
+use Rattle.gkr.specs.TranscriptLaws.{sampled-words, Marked, observe-adds}
 use Rattle.gkr.specs.Reads
-use Rattle.gkr.specs.Samples.{sampledWords, drawn-sampled, observed-sampled}
+use Rattle.gkr.specs.Samples.{unmark, sampledWords, sampled-none, drawn-sampled, observed-sampled}
 
 -- how elements stand in words: four words, none with its top bit set; `at ws k` is the k-th element of ws
 pub record Layout (A : Type 0) : Type 0 where
@@ -48,30 +48,23 @@ module _ (F : Field) (L : Layout (F .ring .carrier)) (s : Source (F .ring .carri
   abbrev pub replayed : (log : List ℕ) → Source R
   replayed log t = L .at (sampledWords log) (t .used)
 
-  -- each challenge that is counted stands in the log
-  abbrev pub Counted : Words → Type 0
-  Counted t = length (sampledWords (t .log)) ≡ 4 * t .used
-
-  drawn-length : (t : Words) → length (sampledWords (S .drawn t .log)) ≡ length (sampledWords (t .log)) + 4
-  drawn-length t = ap length (drawn-sampled (L .words) s t) ∙ length-append (sampledWords (t .log)) (L .words (s t)) ∙ ap (λ k. length (sampledWords (t .log)) + k) (L .four (s t))
+  plain : (x : R) → sampled-words (L .words x) ≡ []
+  plain x = sampled-none (L .words x) (L .below x)
 
   same-sampled : (x : R) (t : Words) → sampledWords (S .observe x t .log) ≡ sampledWords (t .log)
   same-sampled = observed-sampled (L .words) (L .below) s
-
-  pub left-counted : (n : ℕ) (π : Proof R) (t : Words) → Counted t → Counted (Gkr.log-after F S t (Gkr.verify-gkr F S n π t))
-  left-counted = Keeps.verify-keeps F S Counted (λ x t h. ap length (same-sampled x t) ∙ h) (λ t h. drawn-length t ∙ omega (arith, h))
 
   -- a log whose challenges are the first of those that `end` holds
   record Start (end : List ℕ) (t : Words) : Type 0 where
     rest : List ℕ
     joined : sampledWords (t .log) ++ rest ≡ sampledWords end
-    counted : Counted t
+    counted : Marked t
 
   observed-start : (end : List ℕ) (x : R) (t : Words) → Start end (S .observe x t) → Start end t
   observed-start end x t h = record {
     rest = h .rest;
     joined = ap (λ l. l ++ h .rest) (sym (same-sampled x t)) ∙ h .joined;
-    counted = ap length (sym (same-sampled x t)) ∙ h .counted;
+    counted = ap length (sym (observe-adds (L .words) s plain x t)) ∙ h .counted;
   }
 
   -- what a challenge is followed by
@@ -79,16 +72,16 @@ module _ (F : Field) (L : Layout (F .ring .carrier)) (s : Source (F .ring .carri
   parted end t h = sym (append-assoc (sampledWords (t .log)) (L .words (s t)) (h .rest)) ∙ ap (λ l. l ++ h .rest) (sym (drawn-sampled (L .words) s t)) ∙ h .joined
 
   drawn-start : (end : List ℕ) (t : Words) → Start end (S .drawn t) → Start end t
-  drawn-start end t h = record { rest = L .words (s t) ++ h .rest; joined = parted end t h; counted = omega (arith, h .counted, drawn-length t) }
+  drawn-start end t h = record { rest = L .words (s t) ++ h .rest; joined = parted end t h; counted = omega (arith, h .counted, TranscriptLaws.drawn-marks F (L .words) s (L .four) t) }
 
   read-start : (end : List ℕ) (t : Words) → Start end (S .drawn t) → s t ≡ replayed end t
-  read-start end t h = sym (L .found (sampledWords (t .log)) (h .rest) (s t) (t .used) (drawn-start end t h .counted)) ∙ ap (λ l. L .at l (t .used)) (parted end t h)
+  read-start end t h = sym (L .found (sampledWords (t .log)) (h .rest) (s t) (t .used) (length-map (sampled-words (t .log)) unmark ∙ drawn-start end t h .counted)) ∙ ap (λ l. L .at l (t .used)) (parted end t h)
 
   -- accepted or not: the same verdict, so the same log
-  pub replays : (n : ℕ) (π : Proof R) (t : Words) → Counted t
+  pub replays : (n : ℕ) (π : Proof R) (t : Words) → Marked t
       → let v = Gkr.verify-gkr F S n π t in
       let r = replayed (Gkr.log-after F S t v .log) in Reads.Same F (L .words) s r v (Gkr.verify-gkr F (drawing (L .words) r) n π t)
   replays n π t h =
       let u = Gkr.log-after F S t (Gkr.verify-gkr F S n π t) in
       Reads.reads-along F (L .words) s (replayed (u .log)) (Start (u .log)) (observed-start (u .log)) (drawn-start (u .log)) (read-start (u .log)) n π t
-      (record { rest = []; joined = append-nil _; counted = left-counted n π t h })
+      (record { rest = []; joined = append-nil _; counted = TranscriptLaws.left-marked F (L .words) s (L .four) plain n π t h })
