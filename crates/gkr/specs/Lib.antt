@@ -13,6 +13,7 @@ pub mod Honest
 pub mod VerifierCount
 pub mod Keeps
 pub mod TranscriptLaws
+pub mod Steps
 pub mod Reads
 pub mod Samples
 pub mod Replays
