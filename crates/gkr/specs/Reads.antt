@@ -63,14 +63,13 @@ module _ (F : Field) (words : F .ring .carrier → List ℕ) (s s′ : Source (F
   abbrev recast-checked : Sumcheck.Checked F S → Sumcheck.Checked F S′
   recast-checked C = record { claim = C .claim; point = C .point; eq = C .eq; log = C .log }
 
-  -- A WAY FOR EACH RUN: with a log, those before an observation and a challenge are on it too. Where a challenge is sampled on both ways, the sources agree, or Q.
-  module _ (On : Words → Type 0) (observed : (x : A) (t : Words) → On (S .observe x t) → On t) (sampled : (t : Words) → On (S .drawn t) → On t) (On′ : Words → Type 0) (observed′ : (x : A) (t : Words) → On′ (S′ .observe x t) → On′ t) (sampled′ : (t : Words) → On′ (S′ .drawn t) → On′ t) (Q : Type 0) (agree : (t : Words) → On (S .drawn t) → On′ (S′ .drawn t) → (s t ≡ s′ t) ⊎ Q) where
-    -- the log that is left is on the way, where t was the log before the run
+  -- A way for each run: where a challenge is sampled on both ways, the sources agree, or Q.
+  module _ (W : Steps.Way F words s) (W′ : Steps.Way F words s′) (Q : Type 0) (agree : (t : Words) → W .On (S .drawn t) → W′ .On (S′ .drawn t) → (s t ≡ s′ t) ⊎ Q) where
     abbrev Within : (t : Words) → Gkr.Verdict F S → Type 0
-    Within t v = On (Gkr.log-after F S t v)
+    Within = Steps.Within F words s W
 
     abbrev Within′ : (t : Words) → Gkr.Verdict F S′ → Type 0
-    Within′ t v = On′ (Gkr.log-after F S′ t v)
+    Within′ = Steps.Within F words s′ W′
 
     -- with logs left on their ways, the two are the same, or Q
     abbrev Alike : (t : Words) → Gkr.Verdict F S → Gkr.Verdict F S′ → Type 0
@@ -81,14 +80,14 @@ module _ (F : Field) (words : F .ring .carrier → List ℕ) (s s′ : Source (F
     test t₀ false v w v′ w′ f g = g
 
     -- a challenge x, then f or f′ with it
-    sample : (t₀ t : Words) (f : A → Gkr.Verdict F S) (f′ : A → Gkr.Verdict F S′) → (Within t₀ (f (s t)) → On (S .drawn t)) → (Within′ t₀ (f′ (s′ t)) → On′ (S′ .drawn t))
+    sample : (t₀ t : Words) (f : A → Gkr.Verdict F S) (f′ : A → Gkr.Verdict F S′) → (Within t₀ (f (s t)) → W .On (S .drawn t)) → (Within′ t₀ (f′ (s′ t)) → W′ .On (S′ .drawn t))
         → Alike t₀ (f (s t)) (f′ (s t)) → Alike t₀ (f (s t)) (f′ (s′ t))
     sample t₀ t f f′ back back′ same h h′ =
         ⊎-elim (λ e. ⊎-elim (λ d. inl (d ∙ ap f′ e)) inr (same h (subst (λ x. Within′ t₀ (f′ x)) (sym e) h′))) inr (agree t (back h) (back′ h′))
 
     check-same : (polys : List (Cubic A)) (xi : List A) (claim eq : A) (t : Words)
         → let C = Sumcheck.verify-gkr-sumcheck F S polys xi claim eq t in
-        let C′ = Sumcheck.verify-gkr-sumcheck F S′ polys xi claim eq t in On (C .log) → On′ (C′ .log) → (recast-checked C ≡ C′) ⊎ Q
+        let C′ = Sumcheck.verify-gkr-sumcheck F S′ polys xi claim eq t in W .On (C .log) → W′ .On (C′ .log) → (recast-checked C ≡ C′) ⊎ Q
     unfolding Sumcheck.verify-gkr-sumcheck
     check-same [] xi claim eq t h h′ = inl refl
     check-same (m ∷ polys) [] claim eq t h h′ = inl refl
@@ -101,9 +100,9 @@ module _ (F : Field) (words : F .ring .carrier → List ℕ) (s s′ : Source (F
         (λ e. ⊎-elim
         (λ d. inl (ap (λ C. record { claim = C .claim; point = s t₁ ∷ C .point; eq = C .eq; log = C .log }) d ∙ ap turn e))
         inr
-        (check-same polys xi (next (s t₁)) (eq₁ (s t₁)) (S .drawn t₁) h (subst (λ rho. On′ (turn rho .log)) (sym e) h′)))
+        (check-same polys xi (next (s t₁)) (eq₁ (s t₁)) (S .drawn t₁) h (subst (λ rho. W′ .On (turn rho .log)) (sym e) h′)))
         inr
-        (agree t₁ (Steps.check-back F words s On observed sampled polys xi (next (s t₁)) (eq₁ (s t₁)) (S .drawn t₁) h) (Steps.check-back F words s′ On′ observed′ sampled′ polys xi (next (s′ t₁)) (eq₁ (s′ t₁)) (S′ .drawn t₁) h′))
+        (agree t₁ (Steps.check-back F words s W polys xi (next (s t₁)) (eq₁ (s t₁)) (S .drawn t₁) h) (Steps.check-back F words s′ W′ polys xi (next (s′ t₁)) (eq₁ (s′ t₁)) (S′ .drawn t₁) h′))
 
     -- the rounds over these messages are alike from any claims, point and log
     abbrev Followed : (t₀ : Words) (polyss : List (List (Cubic A))) (cs : List (Claims A)) → Type 0
@@ -115,7 +114,7 @@ module _ (F : Field) (words : F .ring .carrier → List ℕ) (s s′ : Source (F
     onward-same t₀ polyss cs c rhos t ih =
         let value : A → Frac A = Tree.reduce-to-single-evaluation (F .ring) c in
         sample t₀ t (Steps.onward F words s polyss cs c rhos t) (Steps.onward F words s′ polyss cs c rhos t)
-        (Steps.rounds-back F words s On observed sampled t₀ polyss cs (value (s t)) (s t ∷ rhos) (S .drawn t)) (Steps.rounds-back F words s′ On′ observed′ sampled′ t₀ polyss cs (value (s′ t)) (s′ t ∷ rhos) (S′ .drawn t))
+        (Steps.rounds-back F words s W t₀ polyss cs (value (s t)) (s t ∷ rhos) (S .drawn t)) (Steps.rounds-back F words s′ W′ t₀ polyss cs (value (s′ t)) (s′ t ∷ rhos) (S′ .drawn t))
         (ih (value (s t)) (s t ∷ rhos) (S .drawn t))
 
     layer-same : (t₀ : Words) (polyss : List (List (Cubic A))) (cs : List (Claims A)) (c : Claims A) (round : ℕ) (lambda : A) (C : Sumcheck.Checked F S)
@@ -140,13 +139,13 @@ module _ (F : Field) (words : F .ring .carrier → List ℕ) (s s′ : Source (F
         let claim : A → A = λ lambda. F .ring .add (v .p) (F .ring .mul lambda (v .q)) in
         let C = Steps.sub-rounds F words s polys v xi t in
         let C′ = Steps.sub-rounds F words s′ polys v xi t in
-        let late = Steps.layer-back F words s On observed sampled t₀ polyss cs c (length xi) (s t) (C (s t)) in
+        let late = Steps.layer-back F words s W t₀ polyss cs c (length xi) (s t) (C (s t)) in
         sample t₀ t (Steps.full F words s polys polyss cs c v xi t) (Steps.full F words s′ polys polyss cs c v xi t)
-        (λ h. Steps.check-back F words s On observed sampled polys xi (claim (s t)) (F .ring .one) (S .drawn t) (late h))
-        (λ h. Steps.check-back F words s′ On′ observed′ sampled′ polys xi (claim (s′ t)) (F .ring .one) (S′ .drawn t) (Steps.layer-back F words s′ On′ observed′ sampled′ t₀ polyss cs c (length xi) (s′ t) (C′ (s′ t)) h))
+        (λ h. Steps.check-back F words s W polys xi (claim (s t)) (F .ring .one) (S .drawn t) (late h))
+        (λ h. Steps.check-back F words s′ W′ polys xi (claim (s′ t)) (F .ring .one) (S′ .drawn t) (Steps.layer-back F words s′ W′ t₀ polyss cs c (length xi) (s′ t) (C′ (s′ t)) h))
         (λ h h′. joined t₀ (Steps.layer F words s′ polyss cs c (length xi) (s t)) (Steps.layer F words s polyss cs c (length xi) (s t) (C (s t))) (C (s t)) (C′ (s t))
         (layer-same t₀ polyss cs c (length xi) (s t) (C (s t)) ih)
-        (check-same polys xi (claim (s t)) (F .ring .one) (S .drawn t) (late h) (Steps.layer-back F words s′ On′ observed′ sampled′ t₀ polyss cs c (length xi) (s t) (C′ (s t)) h′))
+        (check-same polys xi (claim (s t)) (F .ring .one) (S .drawn t) (late h) (Steps.layer-back F words s′ W′ t₀ polyss cs c (length xi) (s t) (C′ (s t)) h′))
         h h′)
 
     rounds-same : (t₀ : Words) (polyss : List (List (Cubic A))) (cs : List (Claims A)) → Followed t₀ polyss cs
@@ -195,10 +194,11 @@ module _ (F : Field) (words : F .ring .carrier → List ℕ) (s s′ : Source (F
     same-or (suc m) π t = counted-same m (π .q0) (π .claims) (π .polys) t
 
   -- where the sources agree on the one way, the two are the same
-  pub reads-along : (On : Words → Type 0) (observed : (x : A) (t : Words) → On (S .observe x t) → On t) (sampled : (t : Words) → On (S .drawn t) → On t) (agree : (t : Words) → On (S .drawn t) → s t ≡ s′ t)
-      → (n : ℕ) (π : Proof A) (t : Words) → On (Gkr.log-after F S t (Gkr.verify-gkr F S n π t)) → Same (Gkr.verify-gkr F S n π t) (Gkr.verify-gkr F S′ n π t)
-  reads-along On observed sampled agree n π t h =
-      ⊎-elim (λ e. e) (λ z. absurd z) (same-or On observed sampled (λ _. Unit) (λ _ _ _. tt) (λ _ _. tt) ⊥ (λ t o _. inl (agree t o)) n π t h tt)
+  pub reads-along : (W : Steps.Way F words s) (agree : (t : Words) → W .On (S .drawn t) → s t ≡ s′ t) (n : ℕ) (π : Proof A) (t : Words)
+      → Steps.Within F words s W t (Gkr.verify-gkr F S n π t) → Same (Gkr.verify-gkr F S n π t) (Gkr.verify-gkr F S′ n π t)
+  reads-along W agree n π t h =
+      let any : Steps.Way F words s′ = record { On = λ _. Unit; observed = λ _ _ _. tt; sampled = λ _ _. tt } in
+      ⊎-elim (λ e. e) (λ z. absurd z) (same-or W any ⊥ (λ t o _. inl (agree t o)) n π t h tt)
 
   -- on the way are the logs of no more challenges than the run leaves
   pub reads-only : (n : ℕ) (π : Proof A) (t : Words)
@@ -206,4 +206,4 @@ module _ (F : Field) (words : F .ring .carrier → List ℕ) (s s′ : Source (F
       → Same (Gkr.verify-gkr F S n π t) (Gkr.verify-gkr F S′ n π t)
   reads-only n π t agree =
       let k = Gkr.log-after F S t (Gkr.verify-gkr F S n π t) .used in
-      reads-along (λ u. u .used ≤ k) (λ x u h. h) (λ u h. omega (arith, h)) agree n π t (omega arith)
+      reads-along (record { On = λ u. u .used ≤ k; observed = λ x u h. h; sampled = λ u h. omega (arith, h) }) agree n π t (omega arith)

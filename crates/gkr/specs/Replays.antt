@@ -83,5 +83,5 @@ module _ (F : Field) (L : Layout (F .ring .carrier)) (s : Source (F .ring .carri
       let r = replayed (Gkr.log-after F S t v .log) in Reads.Same F (L .words) s r v (Gkr.verify-gkr F (drawing (L .words) r) n π t)
   replays n π t h =
       let u = Gkr.log-after F S t (Gkr.verify-gkr F S n π t) in
-      Reads.reads-along F (L .words) s (replayed (u .log)) (Start (u .log)) (observed-start (u .log)) (drawn-start (u .log)) (read-start (u .log)) n π t
+      Reads.reads-along F (L .words) s (replayed (u .log)) (record { On = Start (u .log); observed = observed-start (u .log); sampled = drawn-start (u .log) }) (read-start (u .log)) n π t
       (record { rest = []; joined = append-nil _; counted = TranscriptLaws.left-marked F (L .words) s (L .four) plain n π t h })

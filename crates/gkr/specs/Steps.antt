@@ -1,7 +1,7 @@
 -- The verifier's run in steps, each with its next challenge set apart; and what a log that a run leaves tells of the logs before it.
 -- Assumes nothing.
 use mathlib.Core.Bool.{cond}
-use mathlib.Core.List.{List, [], _∷_, _++_, map}
+use mathlib.Core.List.{List, _∷_, _++_, map}
 use Prim.Native.Nat.{ℕ, suc}
 use lib.ListN.{length}
 use Rattle.ring.specs.Field.{Field}
@@ -56,26 +56,31 @@ module _ (F : Field) (words : F .ring .carrier → List ℕ) (s : Source (F .rin
   abbrev pub full : (polys : List (Cubic R)) (polyss : List (List (Cubic R))) (cs : List (Claims R)) (c : Claims R) (v : Frac R) (xi : List R) (t : Words) (lambda : R) → Gkr.Verdict F T
   full polys polyss cs c v xi t lambda = layer polyss cs c (length xi) lambda (sub-rounds polys v xi t lambda)
 
-  -- Logs on the way: with a log, those before an observation and a challenge are on it too.
-  module _ (On : Words → Type 0) (observed : (x : R) (t : Words) → On (T .observe x t) → On t) (sampled : (t : Words) → On (T .drawn t) → On t) where
+  -- logs on a way: with a log, those before an observation and a challenge are on it too
+  pub record Way : Type 1 where
+    pub On : Words → Type 0
+    pub observed : (x : R) (t : Words) → On (T .observe x t) → On t
+    pub sampled : (t : Words) → On (T .drawn t) → On t
+
+  module _ (W : Way) where
     -- the log that is left is on the way, where t was the log before the run
-    abbrev Within : (t : Words) → Gkr.Verdict F T → Type 0
-    Within t v = On (Gkr.log-after F T t v)
+    abbrev pub Within : (t : Words) → Gkr.Verdict F T → Type 0
+    Within t v = W .On (Gkr.log-after F T t v)
 
-    pub claims-back : (c : Claims R) (t : Words) → On (Gkr.observe-layer-claims F T c t) → On t
-    claims-back c t h = observed (c .p0) t (observed (c .q0) _ (observed (c .p1) _ (observed (c .q1) _ h)))
+    pub claims-back : (c : Claims R) (t : Words) → W .On (Gkr.observe-layer-claims F T c t) → W .On t
+    claims-back c t h = W .observed (c .p0) t (W .observed (c .q0) _ (W .observed (c .p1) _ (W .observed (c .q1) _ h)))
 
-    pub check-back : (polys : List (Cubic R)) (xi : List R) (claim eq : R) (t : Words) → On (Sumcheck.verify-gkr-sumcheck F T polys xi claim eq t .log) → On t
-    check-back polys xi claim eq t = Keeps.check-keep F T (λ u. On u → On t) (λ x u h o. h (observed x u o)) (λ u h o. h (sampled u o)) polys xi claim eq t (λ o. o)
+    pub check-back : (polys : List (Cubic R)) (xi : List R) (claim eq : R) (t : Words) → W .On (Sumcheck.verify-gkr-sumcheck F T polys xi claim eq t .log) → W .On t
+    check-back polys xi claim eq t = Keeps.check-keep F T (λ u. W .On u → W .On t) (λ x u h o. h (W .observed x u o)) (λ u h o. h (W .sampled u o)) polys xi claim eq t (λ o. o)
 
-    pub rounds-back : (t₀ : Words) (polyss : List (List (Cubic R))) (cs : List (Claims R)) (v : Frac R) (xi : List R) (t : Words) → Within t₀ (Gkr.rounds F T polyss cs v xi t) → On t
-    rounds-back t₀ polyss cs v xi t = Keeps.rounds-keep F T (λ u. On u → On t) (λ x u h o. h (observed x u o)) (λ u h o. h (sampled u o)) t₀ polyss cs v xi t (λ o. o)
+    pub rounds-back : (t₀ : Words) (polyss : List (List (Cubic R))) (cs : List (Claims R)) (v : Frac R) (xi : List R) (t : Words) → Within t₀ (Gkr.rounds F T polyss cs v xi t) → W .On t
+    rounds-back t₀ polyss cs v xi t = Keeps.rounds-keep F T (λ u. W .On u → W .On t) (λ x u h o. h (W .observed x u o)) (λ u h o. h (W .sampled u o)) t₀ polyss cs v xi t (λ o. o)
 
     pub layer-back : (t₀ : Words) (polyss : List (List (Cubic R))) (cs : List (Claims R)) (c : Claims R) (round : ℕ) (lambda : R) (C : Sumcheck.Checked F T)
-        → Within t₀ (layer polyss cs c round lambda C) → On (C .log)
+        → Within t₀ (layer polyss cs c round lambda C) → W .On (C .log)
     layer-back t₀ polyss cs c round lambda C =
         let t₂ = Gkr.observe-layer-claims F T c (C .log) in
         let expected = F .ring .mul (RoundSum.cross (F .ring) lambda c) (C .eq) in
-        either (λ w. Within t₀ w → On (C .log)) (F .same expected (C .claim)) (onward polyss cs c (C .point) t₂ (s t₂)) (layer-check round expected (C .claim) t₂)
-        (λ _ o. claims-back c (C .log) (sampled t₂ (rounds-back t₀ polyss cs (Tree.reduce-to-single-evaluation (F .ring) c (s t₂)) (s t₂ ∷ C .point) (T .drawn t₂) o)))
+        either (λ w. Within t₀ w → W .On (C .log)) (F .same expected (C .claim)) (onward polyss cs c (C .point) t₂ (s t₂)) (layer-check round expected (C .claim) t₂)
+        (λ _ o. claims-back c (C .log) (W .sampled t₂ (rounds-back t₀ polyss cs (Tree.reduce-to-single-evaluation (F .ring) c (s t₂)) (s t₂ ∷ C .point) (T .drawn t₂) o)))
         (λ _ o. claims-back c (C .log) o)
