@@ -17,6 +17,8 @@ pub mod Steps
 pub mod Reads
 pub mod Samples
 pub mod Replays
+pub mod Forks
+pub mod OneWord
 pub mod Compute
 pub mod Pins
 pub mod Order
