@@ -18,12 +18,15 @@ ASSERT-ZERO = 2
 abbrev pub DRAWN : ℕ
 DRAWN = 4
 
+abbrev pub SIZED : ℕ
+SIZED = 8
+
 abbrev pub EMPTY : ℕ
 EMPTY = 16
 
 -- the bits that the prover takes, and the verifier
 abbrev pub provingBits : List ℕ
-provingBits = LIVE ∷ ASSERT-ZERO ∷ DRAWN ∷ []
+provingBits = LIVE ∷ ASSERT-ZERO ∷ DRAWN ∷ SIZED ∷ []
 
 abbrev pub verifyingBits : List ℕ
 verifyingBits = LIVE ∷ DRAWN ∷ EMPTY ∷ []
@@ -42,7 +45,7 @@ untaken (bit ∷ bits) modes = untaken bits (without bit modes)
 
 -- the modes of proving that a word says
 abbrev pub provingOf : (modes : ℕ) → Proving
-provingOf modes = record { live = has LIVE modes; «assert_zero» = has ASSERT-ZERO modes; drawn = has DRAWN modes }
+provingOf modes = record { live = has LIVE modes; «assert_zero» = has ASSERT-ZERO modes; drawn = has DRAWN modes; sized = has SIZED modes }
 
 -- and of verifying
 abbrev pub verifyingOf : (modes : ℕ) → Verifying

@@ -6,7 +6,7 @@ use lib.Dec.{leb}
 use Rattle.gkr.specs.Sizes.{challenges, proof-bytes, point-words}
 use Rattle.refusal.specs.Limits.{maxRounds}
 use Rattle.sizes.specs.Sizes.{roundsOf, isSize, logRoom, workRoom}
-use Rattle.accudrina.specs.Modes.{ASSERT-ZERO, has}
+use Rattle.accudrina.specs.Modes.{ASSERT-ZERO, SIZED, has}
 
 -- the room for so many rounds; for more than are taken it is 0
 abbrev pub taken : ℕ → ℕ → ℕ
@@ -19,7 +19,7 @@ abbrev pub pointWords : ℕ → ℕ
 pointWords n = taken n (point-words n)
 
 abbrev pub logWords : (n modes : ℕ) → ℕ
-logWords n modes = taken n (logRoom (has ASSERT-ZERO modes) n)
+logWords n modes = taken n (logRoom (has ASSERT-ZERO modes) (has SIZED modes) n)
 
 abbrev pub workspaceWords : ℕ → ℕ
 workspaceWords n = taken n (workRoom n)

@@ -16,6 +16,9 @@ pub const ASSERT_ZERO: u32 = 2;
 // Challenges are drawn from the log, and those lent are not read.
 pub const DRAWN: u32 = 4;
 
+// A new proof has version 2, which binds its size.
+pub const SIZED: u32 = 8;
+
 // The verifier takes 0 rounds: the proof of a sheet with no rows.
 pub const EMPTY: u32 = 16;
 
@@ -42,7 +45,10 @@ pub fn without(modes: u32, bit: u32) -> u32
 pub fn untaken_by_prover(modes: u32) -> u32
     ensures { λ r. ⌜ r ≡ Modes.untaken Modes.provingBits modes ⌝ }
 {
-    without(without(without(modes, LIVE), ASSERT_ZERO), DRAWN)
+    without(
+        without(without(without(modes, LIVE), ASSERT_ZERO), DRAWN),
+        SIZED,
+    )
 }
 
 // The modes of proving that a word says.
@@ -53,6 +59,7 @@ pub fn proving(modes: u32) -> Proving
         live: has(modes, LIVE),
         assert_zero: has(modes, ASSERT_ZERO),
         drawn: has(modes, DRAWN),
+        sized: has(modes, SIZED),
     }
 }
 

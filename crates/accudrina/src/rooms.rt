@@ -2,6 +2,7 @@
 ghost use mathlib.Core.Path.{_≡_};
 ghost use Rattle.accudrina.specs.Rooms as Rooms;
 use crate::modes::ASSERT_ZERO;
+use crate::modes::SIZED;
 use crate::modes::has;
 use refusal::MAX_ROUNDS;
 
@@ -27,7 +28,7 @@ pub extern "C" fn accudrina_point_words(rounds: usize) -> usize
     4 * rounds
 }
 
-// The words of the log in these modes: four more where the sum is observed, since zero is not asserted; other bits are not looked at.
+// The words of the log in these modes: four more where the sum is observed, since zero is not asserted, and four more where the size is; other bits are not looked at.
 #[no_mangle]
 pub extern "C" fn accudrina_log_words(rounds: usize, modes: u32) -> usize
     ensures { λ r. ⌜ r ≡ Rooms.logWords rounds modes ⌝ }
@@ -35,7 +36,7 @@ pub extern "C" fn accudrina_log_words(rounds: usize, modes: u32) -> usize
     if rounds > MAX_ROUNDS {
         return 0;
     }
-    sizes::log_words(has(modes, ASSERT_ZERO), rounds)
+    sizes::log_words(has(modes, ASSERT_ZERO), has(modes, SIZED), rounds)
 }
 
 // The words of the prover's workspace.

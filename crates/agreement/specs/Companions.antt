@@ -27,14 +27,14 @@ use Rattle.agreement.specs.Demand3.{Taken, root, Room, verdict}
 abbrev pub OtherSum : Type 0
 OtherSum =
     (c : Call) (how : Verifying) (n : ℕ) (b : Buffers) (v : Lent) → Taken c n → how .drawn ≡ c .modes .drawn
-    → c .modes .«assert_zero» ≡ false → (root c n .p ≡ E.nil → ⊥) → Room false n b v → (how .live ≡ true → Sound (c .rows))
+    → c .modes .«assert_zero» ≡ false → (root c n .p ≡ E.nil → ⊥) → Room false (c .modes .sized) n b v → (how .live ≡ true → Sound (c .rows))
     → (proved c b .answer ≡ Done n (encFrac (root c n))) × (verdict c how n (proved c b) v .answer ≡ TurnedAway (ZeroCheckFailed (enc (root c n .p))))
 
 -- A ROW OVER ZERO: the sandbox proves such a sheet, and a live verifier refuses its proof by 27
 abbrev pub RowOverZero : Type 0
 RowOverZero =
     (c : Call) (how : Verifying) (n : ℕ) (b : Buffers) (v : Lent) → Taken c n → how .live ≡ true → how .drawn ≡ c .modes .drawn
-    → c .modes .«assert_zero» ≡ true → root c n .p ≡ E.nil → Room true n b v → ¬ (Sound (c .rows))
+    → c .modes .«assert_zero» ≡ true → root c n .p ≡ E.nil → Room true (c .modes .sized) n b v → ¬ (Sound (c .rows))
     → verdict c how n (proved c b) v .answer ≡ TurnedAway ZeroRoot
 
 -- PROVED LIVE: what a live verifier asks of the rows follows from done

@@ -1,4 +1,4 @@
--- Demand 3: what has to hold of a sheet, its challenges and the buffers, and how prover and verifier then agree, in every mode of both.
+-- Demand 3: what has to hold of a sheet, its challenges and the buffers, and how prover and verifier then agree, in every mode of both and for both versions of a proof.
 -- Assumes nothing.
 use mathlib.Core.Path.{_≡_}
 use mathlib.Core.Bool.{Bool, true, false}
@@ -9,12 +9,12 @@ use Rattle.field.specs.Ext as E
 use Rattle.field.specs.ExtRing.{ExtRing}
 use Rattle.field.specs.Element.{enc, pointWords}
 use Rattle.gkr.specs.Run.{Frac}
-use Rattle.gkr.specs.Sizes.{proof-bytes, point-words, log-words}
+use Rattle.gkr.specs.Sizes.{proof-bytes, point-words}
 use Rattle.gkr.specs.Tree as Tree
 use Rattle.refusal.specs.declared.Verifying.{Verifying}
 use Rattle.refusal.specs.Limits.{maxRounds}
 use Rattle.refusal.specs.Fronts.{over}
-use Rattle.sizes.specs.Sizes.{neededWords}
+use Rattle.sizes.specs.Sizes.{neededWords, logRoom}
 use Rattle.wire.specs.Words.{allCanonical}
 use Rattle.prover_tree.specs.Nodes.{node}
 use Rattle.prover_gate.specs.Refusals.{Call, shortRoom}
@@ -40,10 +40,10 @@ abbrev pub root : (c : Call) (n : ℕ) → Frac E.Ext
 root c n = Tree.tree ExtRing (node (c .rows)) n 0
 
 -- every buffer is long enough: none of the prover's four is short, nor of the verifier's two
-pub record Room (asserted : Bool) (n : ℕ) (b : Prover.Buffers) (v : Lent) : Type 0 where
-  pub prover : shortRoom asserted n (Prover.roomsOf b) ≡ false
+pub record Room (asserted sized : Bool) (n : ℕ) (b : Prover.Buffers) (v : Lent) : Type 0 where
+  pub prover : shortRoom asserted sized n (Prover.roomsOf b) ≡ false
   pub point-again : point-words n ≤ length (v .point)
-  pub log-again : log-words true n ≤ length (v .log)
+  pub log-again : logRoom true sized n ≤ length (v .log)
 
 -- what the verifier makes of that proof's bytes, n and the same challenges
 abbrev pub verdict : (c : Call) (how : Verifying) (n : ℕ) (P : Prover.Outcome) (v : Lent) → Verifier.Outcome
@@ -61,7 +61,7 @@ pub record Agreed (c : Call) (n : ℕ) (b : Prover.Buffers) (v : Lent) (P : Prov
   pub coordinates : length point ≡ n
   pub proved-point : P .buffers .point ≡ over (pointWords point) (b .point)
   pub verified-point : Q .buffers .point ≡ over (pointWords point) (v .point)
-  pub size : length logged ≡ log-words true n
+  pub size : length logged ≡ logRoom true (c .modes .sized) n
   pub proved-log : P .buffers .log ≡ over logged (b .log)
   pub verified-log : Q .buffers .log ≡ over logged (v .log)
 
@@ -69,5 +69,5 @@ pub record Agreed (c : Call) (n : ℕ) (b : Prover.Buffers) (v : Lent) (P : Prov
 abbrev pub Demand3 : Type 0
 Demand3 =
     (c : Call) (how : Verifying) (n : ℕ) (b : Prover.Buffers) (v : Lent) → Taken c n → how .drawn ≡ c .modes .drawn
-    → c .modes .«assert_zero» ≡ true → root c n .p ≡ E.nil → Room true n b v → (how .live ≡ true → Sound (c .rows))
+    → c .modes .«assert_zero» ≡ true → root c n .p ≡ E.nil → Room true (c .modes .sized) n b v → (how .live ≡ true → Sound (c .rows))
     → let P = Prover.proved c b in Agreed c n b v P (verdict c how n P v)

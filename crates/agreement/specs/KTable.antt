@@ -46,7 +46,7 @@ rowWords [] = []
 rowWords (f ∷ fs) = words (f .p) ++ (words (f .q) ++ rowWords fs)
 
 abbrev pub sheet : (live asserted : Bool) (fs : List (Frac E.Ext)) (challenges : List E.Ext) → Call
-sheet live asserted fs ch = record { rows = rowWords fs; modes = record { live = live; «assert_zero» = asserted; drawn = false }; challenges = pointWords ch }
+sheet live asserted fs ch = record { rows = rowWords fs; modes = record { live = live; «assert_zero» = asserted; drawn = false; sized = false }; challenges = pointWords ch }
 
 -- buffers of zeros, as long as n rounds need
 abbrev pub room : ℕ → Prover.Buffers
@@ -152,7 +152,7 @@ K1-K10 =
     ∷ verifies K2 1 (accepts (minus 9) (el 2))
     ∷ ends-at K2 1 (el 5 ∷ [])
     ∷ proves K3 2 (summed 2 (el 0) (el 1))
-    ∷ record { Answers = List ℕ; asked = bytes K3 2; expected = layout (encoded K3·proof) }
+    ∷ record { Answers = List ℕ; asked = bytes K3 2; expected = layout false (encoded K3·proof) }
     ∷ verifies K3 2 (accepts (minus 25) (el 1))
     ∷ ends-at K3 2 (el 4 ∷ el 3 ∷ [])
     ∷ proves K4 1 (summed 1 (el 0) (el 0))

@@ -76,7 +76,7 @@ pub fn prove_and_verify(
         (lent (now (proof .entry)) (now (point .entry)) (now (log .entry)) (now (work .entry))) (again (now («point_again» .entry)) (now («log_again» .entry))) ⌝ }
     ensures demand { λ r. ⌜ ((n : ℕ) → Taken (call (now (rows .entry)) modes (now (challenges .entry))) n → how .drawn ≡ modes .drawn
         → modes .«assert_zero» ≡ true → root (call (now (rows .entry)) modes (now (challenges .entry))) n .p ≡ E.nil
-        → Room true n (lent (now (proof .entry)) (now (point .entry)) (now (log .entry)) (now (work .entry))) (again (now («point_again» .entry)) (now («log_again» .entry)))
+        → Room true (modes .sized) n (lent (now (proof .entry)) (now (point .entry)) (now (log .entry)) (now (work .entry))) (again (now («point_again» .entry)) (now («log_again» .entry)))
         → (how .live ≡ true → Sound (now (rows .entry)))
         → Agrees (call (now (rows .entry)) modes (now (challenges .entry))) n
         (lent (now (proof .entry)) (now (point .entry)) (now (log .entry)) (now (work .entry))) (again (now («point_again» .entry)) (now («log_again» .entry)))

@@ -20,6 +20,7 @@ fn prove(name: &[u8], rows: &[u32], challenges: &[u32], proof: &mut [u8]) {
             live: false,
             assert_zero: false,
             drawn: false,
+            sized: false,
         },
         challenges,
         proof,

@@ -35,5 +35,5 @@ pub record Compared (rows : List ℕ) (n : ℕ) (P : Prover.Outcome) (Q : Verifi
 abbrev pub Comparison : Type 0
 Comparison =
     (c : Call) (how : Verifying) (n : ℕ) (b : Prover.Buffers) (v : Lent) → Taken c n → how .drawn ≡ c .modes .drawn
-    → c .modes .«assert_zero» ≡ true → root c n .p ≡ E.nil → Room true n b v → (how .live ≡ true → Sound (c .rows))
+    → c .modes .«assert_zero» ≡ true → root c n .p ≡ E.nil → Room true (c .modes .sized) n b v → (how .live ≡ true → Sound (c .rows))
     → let P = Prover.proved c b in Compared (c .rows) n P (verdict c how n P v)

@@ -1,7 +1,7 @@
 -- What the exported calls say of a sheet: verifying tells two claims, and evaluating the sheet's rows at the point that it wrote tells the same.
 -- Assumes nothing.
 use mathlib.Core.Path.{_≡_}
-use mathlib.Core.Bool.{true}
+use mathlib.Core.Bool.{Bool, true}
 use mathlib.Core.List.{List}
 use mathlib.Core.Logic.{_⊎_}
 use Prim.Native.Nat.{ℕ, _≤_}
@@ -62,7 +62,7 @@ ExportedLive =
 -- WHATEVER THE SOURCE of the challenges: the same, or the log that the call left shows one that is among at most three values which the log before it fixes
 pub record ExportedDrawn : Type 0 where
   pub table : Table
-  pub few : (f : ℕ → Frac E.Ext) (n : ℕ) (u : Words) → AtMost 3 (bad Extension f (table n u))
+  pub few : (f : ℕ → Frac E.Ext) (sized : Bool) (n : ℕ) (u : Words) → AtMost 3 (bad Extension f (table sized n u))
   pub sound : (h : Handed) (v : Lent) (rows : List ℕ) → Checked h v rows → RootIs Extension (node rows) (h .rounds) (stated (call h) .q0) ⊎ BadInLog table (call h) v (node rows)
   pub live : (h : Handed) (v : Lent) (rows : List ℕ) → has LIVE (h .modes) ≡ true → Checked h v rows
       → ((¬ ZeroRow ExtRing (node rows) (rowCount rows)) × SumsToZero ExtRing (node rows) (rowCount rows)) ⊎ BadInLog table (call h) v (node rows)

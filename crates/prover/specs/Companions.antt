@@ -34,7 +34,7 @@ Wiping = (c : Call) (r : Rooms) → Left (roundsOf (rowCount (c .rows))) (fronts
 -- LIVE MODE
 
 abbrev pub in-mode : (live : Bool) → Call → Call
-in-mode live c = call (c .rows) (record { live = live; «assert_zero» = c .modes .«assert_zero»; drawn = c .modes .drawn }) (c .challenges)
+in-mode live c = call (c .rows) (record { live = live; «assert_zero» = c .modes .«assert_zero»; drawn = c .modes .drawn; sized = c .modes .sized }) (c .challenges)
 
 -- no row is over zero
 abbrev pub Sound : List ℕ → Type 0
@@ -62,7 +62,7 @@ pub record DrawnMode (c : Call) (r : Rooms) : Type 0 where
 pub record UsedUp (c : Call) (f : Outcome) : Type 0 where
   pub words : length (f .buffers .log) ≡ f .used .words
   pub sampled : length (sampled-words (f .buffers .log)) ≡ 4 * f .used .challenges
-  pub done : (n : ℕ) (s : Frac) → f .answer ≡ Done n s → f .used ≡ used (challenges n) (logRoom (c .modes .«assert_zero») n)
+  pub done : (n : ℕ) (s : Frac) → f .answer ≡ Done n s → f .used ≡ used (challenges n) (logRoom (c .modes .«assert_zero») (c .modes .sized) n)
   pub none : (e : Refusal) → f .answer ≡ Refused e → f .used ≡ unused
 
 abbrev pub UsingUp : Type 0

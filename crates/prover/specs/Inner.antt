@@ -16,6 +16,7 @@ use Rattle.gkr.specs.Sizes as Sizes
 use Rattle.gkr.specs.Tree as Tree
 use Rattle.gkr.specs.Gkr as Gkr
 use Rattle.transcript.specs.Log.{Drawing}
+use Rattle.transcript.specs.Bound.{bound}
 use Rattle.transcript.specs.declared.Used.{Used}
 use Rattle.transcript.specs.Used.{usedUp}
 use Rattle.stored.specs.Layout.{layout}
@@ -36,25 +37,25 @@ abbrev pub ending : Answer → Used → Ending
 ending answer used = record { answer = answer; used = used }
 
 -- the model's run over 2 ^ suc m rows f
-abbrev pub runOf : (f : ℕ → Frac E.Ext) (asserted : Bool) (m : ℕ) (ch : Source E.Ext) → Gkr.Proved Extension (Drawing ch)
-runOf f asserted m ch = Gkr.run Extension (Drawing ch) m f (begun asserted (Tree.tree ExtRing f (suc m) 0 .p) empty)
+abbrev pub runOf : (f : ℕ → Frac E.Ext) (asserted sized : Bool) (m : ℕ) (ch : Source E.Ext) → Gkr.Proved Extension (Drawing ch)
+runOf f asserted sized m ch = Gkr.run Extension (Drawing ch) m f (begun asserted (Tree.tree ExtRing f (suc m) 0 .p) (bound sized (suc m) empty))
 
 -- it is written, what it used up is told, and the workspace wiped
-pub record Written (f : ℕ → Frac E.Ext) (asserted : Bool) (m : ℕ) (ch : Source E.Ext) (b b' : Buffers) (u : Used) : Type 0 where
-  pub used : u ≡ usedUp (runOf f asserted m ch .log)
-  pub proof : b' .proof ≡ over (layout (encoded (runOf f asserted m ch .proof))) (b .proof)
-  pub point : b' .point ≡ over (pointWords (runOf f asserted m ch .point)) (b .point)
-  pub log : b' .log ≡ over (runOf f asserted m ch .log .log) (b .log)
+pub record Written (f : ℕ → Frac E.Ext) (asserted sized : Bool) (m : ℕ) (ch : Source E.Ext) (b b' : Buffers) (u : Used) : Type 0 where
+  pub used : u ≡ usedUp (runOf f asserted sized m ch .log)
+  pub proof : b' .proof ≡ over (layout sized (encoded (runOf f asserted sized m ch .proof))) (b .proof)
+  pub point : b' .point ≡ over (pointWords (runOf f asserted sized m ch .point)) (b .point)
+  pub log : b' .log ≡ over (runOf f asserted sized m ch .log .log) (b .log)
   pub work : b' .work ≡ replicate (length (b .work)) 0
 
 -- the room of a run over n rounds, in the lent parts
-pub record Room (asserted drawn : Bool) (n size : ℕ) (c p x l w : ℕ) : Type 0 where
+pub record Room (asserted sized drawn : Bool) (n size : ℕ) (c p x l w : ℕ) : Type 0 where
   pub some : 1 ≤ n
   pub few : n < 256
   pub pow : size ≡ 2 ^ n
   pub proof : proofSize n ≤ p
   pub point : x ≡ 4 * n
-  pub log : cond asserted 0 4 + logUpTo n ≤ l
+  pub log : cond sized 4 0 + cond asserted 0 4 + logUpTo n ≤ l
   pub used : drawn ≡ false → 4 * usedUpTo n ≤ c + 4
   pub work : w ≡ workRoom n
 
@@ -68,7 +69,7 @@ pub record Opens (rows : List ℕ) (modes : Proving) (ch : List ℕ) (r : Rooms)
   pub challenges : neededWords (modes .drawn) n ≤ length ch
   pub proof : Sizes.proof-bytes n ≤ r .proof
   pub point : Sizes.point-words n ≤ r .point
-  pub log : logRoom (modes .«assert_zero») n ≤ r .log
+  pub log : logRoom (modes .«assert_zero») (modes .sized) n ≤ r .log
   pub work : workRoom n ≤ r .work
   pub clean : Clean rows
   pub supplied : Clean (take (neededWords (modes .drawn) n) ch)

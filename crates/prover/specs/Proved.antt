@@ -14,6 +14,7 @@ use Rattle.gkr.specs.Gkr as Gkr
 use Rattle.gkr.specs.Gkr.{done, non-zero-root-sum}
 use Rattle.transcript.specs.Source.{supplied, source}
 use Rattle.transcript.specs.Log.{Drawing}
+use Rattle.transcript.specs.Bound.{bound}
 use Rattle.transcript.specs.declared.Used.{Used}
 use Rattle.transcript.specs.Used.{unused, usedUp}
 use Rattle.step.specs.declared.Frac.{Frac as FracW}
@@ -64,26 +65,26 @@ abbrev pub untouched : Refusal → Outcome
 untouched e = outcome (Refused e) unused [] [] [] []
 
 -- n rounds are done: the workspace that they need is zero
-abbrev pub finished : (ch : Source E.Ext) (n : ℕ) → Gkr.Proved Extension (Drawing ch) → Outcome
-finished ch n P = outcome (Done n (encFrac (P .sum))) (usedUp (P .log)) (layout (encoded (P .proof))) (pointWords (P .point)) (P .log .log) (replicate (workRoom n) 0)
+abbrev pub finished : (ch : Source E.Ext) (sized : Bool) (n : ℕ) → Gkr.Proved Extension (Drawing ch) → Outcome
+finished ch sized n P = outcome (Done n (encFrac (P .sum))) (usedUp (P .log)) (layout sized (encoded (P .proof))) (pointWords (P .point)) (P .log .log) (replicate (workRoom n) 0)
 
 -- what the model answers over n rounds, with the challenges ch
-abbrev pub after : (ch : Source E.Ext) (n : ℕ) → Gkr.Answer Extension (Drawing ch) → Outcome
-after ch n (done P) = finished ch n P
-after ch n non-zero-root-sum = outcome (Refused NonZeroRootSum) unused [] [] [] (replicate (workRoom n) 0)
+abbrev pub after : (ch : Source E.Ext) (sized : Bool) (n : ℕ) → Gkr.Answer Extension (Drawing ch) → Outcome
+after ch sized n (done P) = finished ch sized n P
+after ch sized n non-zero-root-sum = outcome (Refused NonZeroRootSum) unused [] [] [] (replicate (workRoom n) 0)
 
 -- one row is never proved
 abbrev pub oneRow : (rows : List ℕ) (asserted : Bool) → Refusal
 oneRow rows asserted = cond (asserted && not (E.same (node rows 0 .p) E.nil)) NonZeroRootSum SingleRow
 
--- the model's run over 2 ^ suc m rows
-abbrev pub modelled : (rows : List ℕ) (asserted : Bool) (ch : Source E.Ext) (m : ℕ) → Outcome
-modelled rows asserted ch m = after ch (suc m) (Gkr.fractional-sumcheck Extension (Drawing ch) asserted m (node rows) empty)
+-- the model's run over 2 ^ suc m rows, from the log that holds the rounds where the proof binds its size
+abbrev pub modelled : (rows : List ℕ) (asserted sized : Bool) (ch : Source E.Ext) (m : ℕ) → Outcome
+modelled rows asserted sized ch m = after ch sized (suc m) (Gkr.fractional-sumcheck Extension (Drawing ch) asserted m (node rows) (bound sized (suc m) empty))
 
 -- n rounds: 0 for no rows and for one row; else over 2 ^ n rows, with the needed challenges
 abbrev pub ran : (rows : List ℕ) (modes : Proving) (challenges : List ℕ) (n : ℕ) → Outcome
-ran rows modes challenges zero = cond (eqb (rowCount rows) 0) (finished (supplied []) 0 (Gkr.no-rows Extension (Drawing (supplied [])) empty)) (untouched (oneRow rows (modes .«assert_zero»)))
-ran rows modes challenges (suc m) = modelled rows (modes .«assert_zero») (source (modes .drawn) (take (neededWords (modes .drawn) (suc m)) challenges)) m
+ran rows modes challenges zero = cond (eqb (rowCount rows) 0) (finished (supplied []) (modes .sized) 0 (Gkr.no-rows Extension (Drawing (supplied [])) empty)) (untouched (oneRow rows (modes .«assert_zero»)))
+ran rows modes challenges (suc m) = modelled rows (modes .«assert_zero») (modes .sized) (source (modes .drawn) (take (neededWords (modes .drawn) (suc m)) challenges)) m
 
 abbrev pub entered : Call → Tested → Outcome
 entered c (refused e) = untouched e

@@ -57,6 +57,7 @@ fn write_run(
     size: usize,
     root: Frac,
     asserted: bool,
+    sized: bool,
     drawn: bool,
     challenges: &[u32],
     proof: &mut [u8],
@@ -64,18 +65,19 @@ fn write_run(
     log: &mut [u32],
     work: &mut [u32],
 ) -> Used
-    requires room { ⌜ Room asserted drawn n size (length (now challenges)) (length (now proof)) (length (now xi)) (length (now log)) (length (now work)) ⌝ }
+    requires room { ⌜ Room asserted sized drawn n size (length (now challenges)) (length (now proof)) (length (now xi)) (length (now log)) (length (now work)) ⌝ }
     requires clean { ⌜ Clean (now work) × Clean (now challenges) × CanonFrac root ⌝ }
     ensures { λ r. ⌜ ((f : ℕ → Fraction E.Ext) (m : ℕ) → n ≡ suc m → Levels f (now (work .entry)) n 0 → IsFrac root (Tree.tree ExtRing f (suc m) 0)
-        → Written f asserted m (source drawn (now (challenges .entry))) (lent (now (proof .entry)) (now (xi .entry)) (now (log .entry)) (now (work .entry)))
+        → Written f asserted sized m (source drawn (now (challenges .entry))) (lent (now (proof .entry)) (now (xi .entry)) (now (log .entry)) (now (work .entry)))
         (lent (now (proof .exit)) (now (xi .exit)) (now (log .exit)) (now (work .exit))) r) ⌝ }
 {
     let first = transcript::start(drawn);
-    let pos = prover_run::begin(log, first, asserted, root.p);
+    let told = transcript::observe_size(log, first, sized, n);
+    let pos = prover_run::begin(log, told, asserted, root.p);
     let mut lanes = [0u64; 25]; // of a sponge that has taken in nothing
     let end = prover_run::run_rounds(n, size, root.q, work, xi, log, &mut lanes, challenges, pos);
     let i = pos.put / 4;
-    stored_writer::put_proof(proof, log, i, n);
+    stored_writer::put_proof(proof, log, i, n, sized);
     prover_tree::clear(work); // nothing of the rows stays
     transcript::used_up(end)
 }
@@ -94,6 +96,7 @@ fn contradicts(asserted: bool, p: Ext) -> bool
 fn prove(
     rows: &[u32],
     asserted: bool,
+    sized: bool,
     drawn: bool,
     n: usize,
     size: usize,
@@ -103,10 +106,10 @@ fn prove(
     log: &mut [u32],
     work: &mut [u32],
 ) -> Ending
-    requires room { ⌜ Room asserted drawn n size (length (now challenges)) (length (now proof)) (length (now xi)) (length (now log)) (length (now work)) ⌝ }
+    requires room { ⌜ Room asserted sized drawn n size (length (now challenges)) (length (now proof)) (length (now xi)) (length (now log)) (length (now work)) ⌝ }
     requires clean { ⌜ (8 * size ≤ length (now rows)) × Clean (now rows) × Clean (now challenges) ⌝ }
     ensures { λ r. ⌜ ((m : ℕ) → n ≡ suc m → outcome (r .answer) (r .used) (now (proof .exit)) (now (xi .exit)) (now (log .exit)) (now (work .exit))
-        ≡ laid (modelled (now (rows .entry)) asserted (source drawn (now (challenges .entry))) m)
+        ≡ laid (modelled (now (rows .entry)) asserted sized (source drawn (now (challenges .entry))) m)
         (lent (now (proof .entry)) (now (xi .entry)) (now (log .entry)) (now (work .entry)))) ⌝ }
 {
     let root = prover_run::sum_rows(rows, size, work);
@@ -119,6 +122,7 @@ fn prove(
         size,
         root,
         asserted,
+        sized,
         drawn,
         challenges,
         proof,
@@ -152,7 +156,7 @@ fn no_rounds(rows: &[u32], modes: Proving, proof: &mut [u8]) -> Ending
     ensures { λ r. ⌜ ((pt lg ws : List ℕ) → outcome (r .answer) (r .used) (now (proof .exit)) pt lg ws ≡ laid (ran (now (rows .entry)) modes [] 0) (lent (now (proof .entry)) pt lg ws)) ⌝ }
 {
     if rows.len() / 8 == 0 {
-        stored_writer::put_no_rows(proof);
+        stored_writer::put_no_rows(proof, modes.sized);
         return Ending {
             answer: Answer::Done {
                 rounds: 0,
@@ -193,6 +197,7 @@ fn admitted(
     prove(
         rows,
         modes.assert_zero,
+        modes.sized,
         modes.drawn,
         n,
         size.rows,

@@ -23,7 +23,7 @@ struct Rooms {
     at: usize,
 }
 
-// The word of modes has 1 where live, and 4 where challenges are drawn.
+// The word of modes has 1 where live, 4 where challenges are drawn, and 8 where the proof binds its size.
 fn next_modes(text: &[u8], at: usize) -> Modes {
     let word = next_number(text, at);
     let asserted = next_number(text, word.at);
@@ -32,6 +32,7 @@ fn next_modes(text: &[u8], at: usize) -> Modes {
             live: word.value % 2 == 1,
             assert_zero: asserted.value != 0,
             drawn: word.value / 4 % 2 == 1,
+            sized: word.value / 8 % 2 == 1,
         },
         at: asserted.at,
     }

@@ -43,6 +43,7 @@ fn show_rows(rows: &[u32], count: usize, work: &mut [u32]) {
             live: false,
             assert_zero: true,
             drawn: false,
+            sized: false,
         },
         Verifying {
             live: false,

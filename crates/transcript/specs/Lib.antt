@@ -1,6 +1,7 @@
 -- The transcript over lent buffers.
 pub mod Source
 pub mod Log
+pub mod Bound
 pub mod Used
 pub mod UsedLaws
 pub mod LogLaws

@@ -1,13 +1,16 @@
 // The transcript over lent buffers: elements are observed into a log, and challenges are drawn from it or taken from those supplied.
 ghost use mathlib.Core.Path.{_≡_};
+ghost use mathlib.Core.Bool.{cond};
 ghost use mathlib.Core.List.{List};
 ghost use Prim.Native.Nat.{ℕ, _+_, _*_, _<_, _≤_};
 ghost use lib.ListN.{length, take};
+ghost use Rattle.field.specs.Base.{P};
 ghost use Rattle.field.specs.Cells.{Clean};
 ghost use Rattle.field.specs.Element.{dec, Canon, Is};
 ghost use Rattle.shake.specs.Drawn.{message, Holds};
 ghost use Rattle.transcript.specs.Source.{supplied, label, drawnSource, source};
 ghost use Rattle.transcript.specs.Log.{Drawing, Enough, Observing, logOf, spongeOf, Steps, WordDrawn};
+ghost use Rattle.transcript.specs.Bound.{bound};
 ghost use Rattle.transcript.specs.Used.{unused, usedAt};
 use field::Ext;
 use shake::Sponge;
@@ -85,6 +88,24 @@ pub fn observe_ext(log: &mut [u32], pos: Pos, e: Ext) -> Pos
     let mut next = pos;
     next.put = put + 4;
     next
+}
+
+// Of a proof that binds its size, the number of rounds goes into the log.
+pub fn observe_size(log: &mut [u32], pos: Pos, sized: bool, n: usize) -> Pos
+    requires room { ⌜ pos .put + cond sized 4 0 ≤ length (now log) ⌝ }
+    requires small { ⌜ n < P ⌝ }
+    ensures { λ r. ⌜ ((ls : List ℕ) → Steps (now (log .entry)) (now (log .exit)) ls ls pos r (cond sized 4 0) 0 (bound sized n (logOf (now (log .entry)) pos))) ⌝ }
+{
+    if !sized {
+        return pos;
+    }
+    let rounds = Ext {
+        c0: n as u32,
+        c1: 0,
+        c2: 0,
+        c3: 0,
+    };
+    observe_ext(log, pos, rounds)
 }
 
 // The next challenge that was supplied goes into the log, with the top bits of its words set.

@@ -1,7 +1,7 @@
 -- What an accepted verdict of verify_gkr says of the rows, when its claims are their values at the point that it wrote.
 -- Assumes nothing.
 use mathlib.Core.Path.{_≡_}
-use mathlib.Core.Bool.{true}
+use mathlib.Core.Bool.{Bool, true}
 use mathlib.Core.List.{List}
 use mathlib.Core.Logic.{_⊎_}
 use Prim.Native.Nat.{ℕ, _^_, _≤_}
@@ -24,7 +24,8 @@ use Rattle.soundness.specs.Challenges as Challenges
 use Rattle.soundness.specs.Challenges.{RootIs}
 use Rattle.soundness.specs.WordLog.{DrewAt}
 use Rattle.transcript.specs.Log.{Drawing}
-use Rattle.stored.specs.Parse.{proofOf}
+use Rattle.transcript.specs.Bound.{bound}
+use Rattle.stored.specs.Parse.{sized, proofOf}
 use Rattle.stored.specs.Elements.{decoded}
 use Rattle.verifier_round.specs.declared.Verdict.the-variants.{Accepted}
 use Rattle.verifier.specs.Verified.{Asked, Lent, Outcome, sourceOf, verified}
@@ -47,7 +48,7 @@ Matches a b f = (1 ≤ a .rounds) × Tells (a .rounds) (verified a b) f
 
 -- one of the challenges of the run was bad for the rows f
 abbrev pub Unlucky : (a : Asked) (f : ℕ → Frac E.Ext) → Type 0
-Unlucky a f = Challenges.Unlucky Extension (Drawing (sourceOf a)) f (stated a) empty
+Unlucky a f = Challenges.Unlucky Extension (Drawing (sourceOf a)) f (stated a) (bound (sized (a .proof)) (a .rounds) empty)
 
 -- THE ROOT of the rows is (0, q0), or a challenge was bad
 abbrev pub AcceptedSound : Type 0
@@ -59,19 +60,19 @@ AcceptedLive =
     (a : Asked) (b : Lent) (f : ℕ → Frac E.Ext) → a .modes .live ≡ true → Matches a b f
     → ((¬ ZeroRow ExtRing f (2 ^ a .rounds)) × SumsToZero ExtRing f (2 ^ a .rounds)) ⊎ Unlucky a f
 
--- what a log of n rounds puts on the table
+-- what a log of n rounds, of a proof that binds its size or not, puts on the table
 abbrev pub Table : Type 0
-Table = (n : ℕ) (u : Words) → Step E.Ext
+Table = (sized : Bool) (n : ℕ) (u : Words) → Step E.Ext
 
 -- the log that the call left shows a challenge that is bad at what the log u before it puts on the table
 abbrev pub BadInLog : Table → (a : Asked) (b : Lent) (f : ℕ → Frac E.Ext) → Type 0
-BadInLog table a b f = (u : Words) × DrewAt (sourceOf a) u (verified a b .buffers .log) × bad Extension f (table (a .rounds) u) (sourceOf a u)
+BadInLog table a b f = (u : Words) × DrewAt (sourceOf a) u (verified a b .buffers .log) × bad Extension f (table (sized (a .proof)) (a .rounds) u) (sourceOf a u)
 
 -- WHATEVER THE SOURCE of the challenges, and be it a hash of the log: a log fixes at most three values that are bad at it; and a call that accepts with the values
 -- of the rows f says of them what it says above, or shows a bad challenge in its log
 pub record DrawnSound : Type 0 where
   pub table : Table
-  pub few : (f : ℕ → Frac E.Ext) (n : ℕ) (u : Words) → AtMost 3 (bad Extension f (table n u))
+  pub few : (f : ℕ → Frac E.Ext) (sized : Bool) (n : ℕ) (u : Words) → AtMost 3 (bad Extension f (table sized n u))
   pub sound : (a : Asked) (b : Lent) (f : ℕ → Frac E.Ext) → Matches a b f → RootIs Extension f (a .rounds) (stated a .q0) ⊎ BadInLog table a b f
   pub live : (a : Asked) (b : Lent) (f : ℕ → Frac E.Ext) → a .modes .live ≡ true → Matches a b f
       → ((¬ ZeroRow ExtRing f (2 ^ a .rounds)) × SumsToZero ExtRing f (2 ^ a .rounds)) ⊎ BadInLog table a b f

@@ -8,7 +8,8 @@ use Prim.Native.Nat.{ℕ, _*_, _-_, _≤_}
 use lib.ListN.{length}
 use Rattle.field.specs.Ext as E
 use Rattle.field.specs.declared.Ext.{Ext}
-use Rattle.gkr.specs.Sizes.{challenges, log-words}
+use Rattle.gkr.specs.Sizes.{challenges}
+use Rattle.sizes.specs.Sizes.{logRoom}
 use Rattle.gkr.specs.TranscriptLaws.{sampled-words}
 use Rattle.transcript.specs.Used.{used, unused}
 use Rattle.refusal.specs.declared.Refusal.{Refusal}
@@ -16,7 +17,7 @@ use Rattle.refusal.specs.declared.Refusal.the-variants.{ShortChallenges, ZeroRo
 use Rattle.refusal.specs.Numbers.{reportOf}
 use Rattle.refusal.specs.Fronts.{over}
 use Rattle.refusal.specs.Tests.{passed, firstOf}
-use Rattle.stored.specs.Parse.{layerCount, entryCount, proofOf}
+use Rattle.stored.specs.Parse.{layerCount, entryCount, sized, proofOf}
 use Rattle.stored.specs.Elements.{decoded}
 use Rattle.verifier_round.specs.declared.Verdict.the-variants.{Accepted, Refused}
 use Rattle.verifier.specs.Verified.{Asked, Lent, Outcome, outcome, asked, tests, laid, verified}
@@ -75,7 +76,7 @@ pub record UsedUp (a : Asked) (b : Lent) : Type 0 where
   pub log : verified a b .buffers .log ≡ over written (b .log)
   pub words : length written ≡ verified a b .used .words
   pub sampled : length (sampled-words written) ≡ 4 * verified a b .used .challenges
-  pub most : 1 ≤ a .rounds → (verified a b .used .challenges ≤ challenges (a .rounds)) × (verified a b .used .words ≤ log-words true (a .rounds))
-  pub whole : (x y : Ext) → verified a b .answer ≡ Accepted x y → 1 ≤ a .rounds → verified a b .used ≡ used (challenges (a .rounds)) (log-words true (a .rounds))
+  pub most : 1 ≤ a .rounds → (verified a b .used .challenges ≤ challenges (a .rounds)) × (verified a b .used .words ≤ logRoom true (sized (a .proof)) (a .rounds))
+  pub whole : (x y : Ext) → verified a b .answer ≡ Accepted x y → 1 ≤ a .rounds → verified a b .used ≡ used (challenges (a .rounds)) (logRoom true (sized (a .proof)) (a .rounds))
   pub none : (e : Refusal) → verified a b .answer ≡ Refused e → ¬ ((16 ≤ reportOf e .number) × (reportOf e .number ≤ 19)) → verified a b .used ≡ unused
   pub no-rounds : a .rounds ≡ 0 → verified a b .used ≡ unused

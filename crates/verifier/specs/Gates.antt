@@ -13,6 +13,7 @@ use Rattle.gkr.specs.Gkr as Gkr
 use Rattle.transcript.specs.declared.Pos.{Pos}
 use Rattle.transcript.specs.declared.Used.{Used}
 use Rattle.transcript.specs.Log.{Drawing}
+use Rattle.transcript.specs.Bound.{bound}
 use Rattle.transcript.specs.Used.{usedAt}
 use Rattle.refusal.specs.declared.Verifying.{Verifying}
 use Rattle.refusal.specs.declared.Refusal.the-variants.{BadWord, ZeroRoot}
@@ -22,7 +23,7 @@ use Rattle.sizes.specs.Sizes.{neededWords, logRoom}
 use Rattle.wire.specs.Words.{allCanonical, firstBad}
 use Rattle.stored.specs.declared.Outline.{Outline}
 use Rattle.stored.specs.Layout.{proofWords}
-use Rattle.stored.specs.Parse.{proofOf}
+use Rattle.stored.specs.Parse.{sized, proofOf}
 use Rattle.stored.specs.ParseLaws.{Shaped}
 use Rattle.stored.specs.Elements.{decoded}
 use Rattle.verifier_round.specs.declared.Advance.{Advance}
@@ -68,7 +69,7 @@ pub record Ready (bs pt lg ch : List ℕ) (drawn : Bool) (n : ℕ) (o : Outline)
   pub shaped : Shaped bs o
   pub canon : allCanonical (proofWords (proofOf bs)) ≡ true
   pub room : 4 * n ≤ length pt
-  pub log-room : logRoom true n ≤ length lg
+  pub log-room : logRoom true (sized bs) n ≤ length lg
   pub chals : neededWords drawn n ≤ length ch
   pub points : Clean pt
   pub clean : Clean ch
@@ -86,7 +87,7 @@ pub record Starts (pos : Pos) : Type 0 where
 
 -- the model's verifier over the proof that stands in the bytes
 abbrev pub verdict : (bs : List ℕ) (n : ℕ) (ch : Source E.Ext) → Model ch
-verdict bs n ch = Gkr.verify-gkr Extension (Drawing ch) n (decoded (proofOf bs)) empty
+verdict bs n ch = Gkr.verify-gkr Extension (Drawing ch) n (decoded (proofOf bs)) (bound (sized bs) n empty)
 
 -- the run from a position ends as the model's does
 abbrev pub Counted : (bs pt' lg lg' : List ℕ) (ch : Source E.Ext) (n : ℕ) (pos : Pos) → Advance → Type 0

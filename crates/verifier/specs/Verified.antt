@@ -4,7 +4,7 @@ use mathlib.Core.Bool.{Bool, true, cond, not, _&&_, _||_}
 use mathlib.Core.List.{List, [], _∷_}
 use Prim.Native.Nat.{ℕ, _*_, _-_}
 use lib.Dec.{eqb, ltb}
-use lib.ListN.{length, getD, take}
+use lib.ListN.{length, take}
 use Rattle.field.specs.Ext as E
 use Rattle.field.specs.Extension.{Extension}
 use Rattle.field.specs.Element.{enc}
@@ -12,6 +12,7 @@ use Rattle.gkr.specs.Gkr as Gkr
 use Rattle.gkr.specs.Transcripts.{empty, Source}
 use Rattle.transcript.specs.Source.{source}
 use Rattle.transcript.specs.Log.{Drawing}
+use Rattle.transcript.specs.Bound.{bound}
 use Rattle.transcript.specs.declared.Used.{Used}
 use Rattle.transcript.specs.Used.{unused, usedUp}
 use Rattle.refusal.specs.Limits.{maxRounds}
@@ -23,7 +24,7 @@ use Rattle.refusal.specs.Fronts.{over}
 use Rattle.sizes.specs.Sizes.{neededWords, logRoom}
 use Rattle.wire.specs.Words.{allCanonical, firstBad}
 use Rattle.stored.specs.Layout.{proofWords}
-use Rattle.stored.specs.Parse.{layerCount, entryCount, fits, proofOf}
+use Rattle.stored.specs.Parse.{layerCount, entryCount, known, sized, fits, proofOf}
 use Rattle.stored.specs.Elements.{decoded, overZero}
 use Rattle.verifier_round.specs.declared.Verdict.{Verdict}
 use Rattle.verifier_round.specs.declared.Verdict.the-variants.{Accepted, Refused}
@@ -76,8 +77,8 @@ abbrev pub tests : Asked → (points logs : ℕ) → List Test
 tests a points logs = test (eqb (a .rounds) 0 && not (a .modes .empty)) ZeroRounds
     ∷ test (ltb maxRounds (a .rounds)) TooManyRounds
     ∷ test (ltb (length (a .challenges)) (neededWords (a .modes .drawn) (a .rounds))) ShortChallenges
-    ∷ test (ltb points (4 * a .rounds) || ltb logs (logRoom true (a .rounds))) ShortRoom
-    ∷ test (not (eqb (getD (a .proof) 0 0) 1)) BadVersion
+    ∷ test (not (known (a .proof))) BadVersion
+    ∷ test (ltb points (4 * a .rounds) || ltb logs (logRoom true (sized (a .proof)) (a .rounds))) ShortRoom
     ∷ test (not (fits (a .proof))) BadLength
     ∷ test (not (allCanonical (proofWords (proofOf (a .proof))))) (BadWord (firstBad (proofWords (proofOf (a .proof)))) Proof)
     ∷ test (not (allCanonical (needed a))) (BadWord (firstBad (needed a)) Challenges)
@@ -99,11 +100,11 @@ abbrev pub emptied : Tested → Verdict
 emptied passed = Accepted (enc E.nil) (enc E.one)
 emptied (refused e) = Refused e
 
--- what a call answers, uses up and writes: nothing where it is refused before the run, or has no rounds; else what the model's verifier does over an empty log
+-- what a call answers, uses up and writes: nothing where it is refused before the run, or has no rounds; else what the model's verifier does over an empty log, or, where the proof binds its size, one that holds the rounds
 abbrev pub fronts : Asked → Tested → Outcome
 fronts a (refused e) = outcome (Refused e) unused [] []
 fronts a passed = cond (eqb (a .rounds) 0) (outcome (emptied (firstOf (emptyTests (a .proof)))) unused [] [])
-    (let ch = sourceOf a in ended ch (Gkr.verify-gkr Extension (Drawing ch) (a .rounds) (decoded (proofOf (a .proof))) empty))
+    (let ch = sourceOf a in ended ch (Gkr.verify-gkr Extension (Drawing ch) (a .rounds) (decoded (proofOf (a .proof))) (bound (sized (a .proof)) (a .rounds) empty)))
 
 -- written at the fronts of the buffers, the rest as before
 abbrev pub laid : Outcome → Lent → Outcome

@@ -85,10 +85,13 @@ fn check(
     if challenges.len() < needs {
         return Gate::Shut(Refusal::ShortChallenges);
     }
+    if !stored::is_known(proof) {
+        return Gate::Shut(Refusal::BadVersion);
+    }
     if points < 4 * rounds {
         return Gate::Shut(Refusal::ShortRoom);
     }
-    if logs < sizes::log_words(true, rounds) {
+    if logs < sizes::log_words(true, stored::is_sized(proof), rounds) {
         return Gate::Shut(Refusal::ShortRoom);
     }
     match stored::read_shape(proof) {
@@ -171,6 +174,7 @@ fn verify_counted(
             pos,
         };
     }
+    let start = transcript::observe_size(log, pos, stored::is_sized(proof), rounds);
     let mut lanes = [0u64; 25]; // of a sponge that has taken in nothing
     verifier_rounds::verify_all(
         proof,
@@ -180,7 +184,7 @@ fn verify_counted(
         log,
         &mut lanes,
         challenges,
-        pos,
+        start,
     )
 }
 
