@@ -207,3 +207,19 @@ module _ (F : Field) (words : F .ring .carrier → List ℕ) (s s′ : Source (F
   reads-only n π t agree =
       let k = Gkr.log-after F S t (Gkr.verify-gkr F S n π t) .used in
       reads-along (record { On = λ u. u .used ≤ k; observed = λ x u h. h; sampled = λ u h. omega (arith, h) }) agree n π t (omega arith)
+
+-- THREE SOURCES: a verdict that is the same as one that is the same as a third
+
+module _ (F : Field) (words : F .ring .carrier → List ℕ) (s s′ s″ : Source (F .ring .carrier)) where
+  pub same-then : (u : Gkr.Verdict F (drawing words s)) (v : Gkr.Verdict F (drawing words s′)) (w : Gkr.Verdict F (drawing words s″)) → Same F words s s′ u v → Same F words s′ s″ v w → Same F words s s″ u w
+  same-then u v w e d = go u ∙ ap (recast F words s′ s″) e ∙ d
+    where
+      go : (u : Gkr.Verdict F (drawing words s)) → recast F words s s″ u ≡ recast F words s′ s″ (recast F words s s′ u)
+      go (accepted v xi t) = refl
+      go zero-rounds = refl
+      go (layer-count expected actual) = refl
+      go (poly-count expected actual) = refl
+      go (zero-check actual t) = refl
+      go (root-check expected actual t) = refl
+      go (subround-count round expected actual t) = refl
+      go (layer-check round expected actual t) = refl

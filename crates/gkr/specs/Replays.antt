@@ -28,7 +28,7 @@ pub record Layout (A : Type 0) : Type 0 where
   pub found : (before after : List ℕ) (x : A) (k : ℕ) → length before ≡ 4 * k → at (before ++ (words x ++ after)) k ≡ x
 
 -- the extension's elements, as cells
-pub ext-layout : Layout Ext
+abbrev pub ext-layout : Layout Ext
 ext-layout = record {
   words = words;
   at = cell;
