@@ -8,7 +8,10 @@
  *         counted in the array's own units: bytes of a proof or a sheet, words of all else.
  * Answer. Every call ends with an answer for all bytes, words and lengths. The result is 0 for done or the number of the refusal, and
  *         all sixteen words of `answer` are written: [0] the number, [1] to [3] plain fields, [4] to [7] and [8] to [11] elements,
- *         [12] to [15] zero. A field that an answer does not have is zero.
+ *         [12] and [13] what was used up, [14] and [15] zero. A field that an answer does not have is zero.
+ * Used.   accudrina_prove and accudrina_verify tell in [12] the challenges sampled, in elements, and in [13] the words written at the front
+ *         of the log, sampled ones too. Done: accudrina_challenge_words / 4, and accudrina_log_words. Refused by 16 to 19: what the run came
+ *         to. Any other refusal, no rows or 0 rounds, and the other calls: 0 and 0.
  * Memory. Nothing is allocated or kept between calls: there is no state, and any number of threads may call at once, each with its
  *         own buffers. Each pointer is aligned and not NULL, also with length 0, and what a call writes overlaps nothing else that
  *         it is given. A buffer that is written may be longer than is asked for; of what it held nothing is read, and what is not said to
@@ -124,7 +127,7 @@ uint32_t accudrina_prove(const uint32_t *rows, size_t rows_len,
  * Of a proof that accudrina_prove wrote with ASSERT_ZERO, given the same challenges or both DRAWN, it is proved that it is accepted, that the claims are
  * these values, and that point and log equal the prover's; LIVE that is so where no row has q = 0, and so where the prover was LIVE too.
  * Refused as the first that fits of 28, 10, 11, 4, 5, 12, 13, 6, 14, 15, 22 (0 rounds), 27, then 16 to 19 as the run meets them: the point is as it was;
- * so is the log, but for 16 to 19, which leave what the run observed and sampled until then. */
+ * so is the log, but for 16 to 19, which leave what the run observed and sampled until then, [13] words of it. */
 uint32_t accudrina_verify(const uint8_t *proof, size_t proof_len,
                           size_t rounds, uint32_t modes,
                           const uint32_t *challenges, size_t challenges_len,

@@ -81,6 +81,12 @@ def command(code, a):
     return " ".join([name] + [str(x) if isinstance(x, int) else words(x) for x in a])
 
 
+def used_up(got):
+    """The challenges sampled, which the oracle's transcript counts in words, and the words that stand in its log."""
+    assert int(got["used"]) % 4 == 0
+    return int(got["used"]) // 4, len(unwords(got["log"]))
+
+
 def outcome(code, a, reply):
     """The outcome that the Rust's reply says, or None where it panicked."""
     kind, got = reply.split()[0], parts(reply)
@@ -89,19 +95,19 @@ def outcome(code, a, reply):
     if code == 40:
         wiped = [0] * m.work_words((len(a[2]) // 8).bit_length() - 1 if a[2] else 0)
         if kind == "err":
-            return m.Outcome(int(got["no"]), fronts=[[], [], [], wiped])
+            return m.Outcome(int(got["no"]), fronts=[[], [], [], wiped], used=used_up(got))
         point = unwords(got["point"])
         return m.Outcome(0, [len(point) // 4], m.elements(unwords(got["p"]) + unwords(got["q"])),
-                         [unhex(got["proof"]), point, unwords(got["log"]), wiped])
+                         [unhex(got["proof"]), point, unwords(got["log"]), wiped], used_up(got))
     if code == 50:
         if kind == "ok":
             claims = m.elements(unwords(got["numer"]) + unwords(got["denom"]))
-            return m.Outcome(0, [], claims, [unwords(got["point"]), unwords(got["log"])])
+            return m.Outcome(0, [], claims, [unwords(got["point"]), unwords(got["log"])], used_up(got))
         no = int(got["no"])
         both = [got[k] for k in ("expected", "actual") if k in got]
         numbers = ([got["round"]] if "round" in got else []) + (both if no in (14, 15, 18) else [])
         es = [tuple(unwords(e)) for e in both] if no in (16, 17, 19) else []
-        return m.Outcome(no, [int(x) for x in numbers], es, [[], unwords(got["log"])])
+        return m.Outcome(no, [int(x) for x in numbers], es, [[], unwords(got["log"])], used_up(got))
     said = reply.split()[1:]
     if code in (26, 27, 30):
         return m.Outcome(0, fronts=[unwords(said[0])])
@@ -160,7 +166,7 @@ def check_refusal(code, a, refused, asked, rust):
     if code == 40 and refused.no in (3, 9):
         good = rust is None
     elif code == 40:
-        good = rust is not None and rust.no == 8
+        good = rust is not None and (rust.no, rust.used) == (8, refused.used)
     elif refused.no == 6 and m.bad(a[3][:m.needed(a[1], a[0])]):
         good = rust is None or rust.no not in (12, 13)
     elif refused.no == 27:
@@ -174,5 +180,5 @@ def check_refusal(code, a, refused, asked, rust):
 
 def same(code, x, y):
     fronts = (lambda o: [list(f) for f in o.fronts if f]) if code != 25 else lambda o: 0
-    return (x.no, list(x.plain), [tuple(e) for e in x.elements], fronts(x)) == \
-        (y.no, list(y.plain), [tuple(e) for e in y.elements], fronts(y))
+    return (x.no, list(x.plain), [tuple(e) for e in x.elements], fronts(x), x.used) == \
+        (y.no, list(y.plain), [tuple(e) for e in y.elements], fronts(y), y.used)

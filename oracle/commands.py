@@ -35,7 +35,7 @@ LINE = re.compile(r"[ \t\r]*%s(?:(?:[ \t\r]*/[ \t\r]*|[ \t\r]+)%s)?[ \t\r]*" % (
 
 
 class Refused(Exception):
-    """The line that is printed."""
+    """The lines that are printed."""
 
 
 def element_names(layers, counts):
@@ -60,6 +60,10 @@ def refusal(o, shape=None):
     if o.no == 6:
         return bad_word(*o.plain, shape) if o.plain else "refused 6 BadWord: a word is not below the prime 2013265921"
     return "refused %d %s" % (o.no, WORDS[o.no] % (*o.plain, *map(short, o.elements)))
+
+
+def used_line(o):
+    return "used %d challenges, %d log words" % o.used
 
 
 def signed(w):
@@ -171,9 +175,9 @@ def verify(files, proof, rounds, modes, challenges, sheet):
     o = m.outcome(50, [rounds, modes, files[proof], challenges_of(files, modes, challenges), 40, 960, 0])
     if o.no:
         read = m.read_proof(files[proof])
-        raise Refused(refusal(o, None if isinstance(read, int) else (len(read[1]), [len(entry) for entry in read[2]])))
+        raise Refused(refusal(o, None if isinstance(read, int) else (len(read[1]), [len(entry) for entry in read[2]])), used_line(o))
     point = "".join(" " + long(e) for e in m.elements(o.fronts[0]))
-    lines = ["verdict 0", "numer " + long(o.elements[0]), "denom " + long(o.elements[1]), "point" + point]
+    lines = ["verdict 0", "numer " + long(o.elements[0]), "denom " + long(o.elements[1]), "point" + point, used_line(o)]
     lines += notes(m.read_proof(files[proof])[0], modes, challenges)
     return lines + ([compare(files, sheet, rounds, o.fronts[0], o.elements)] if sheet else [])
 
@@ -194,4 +198,4 @@ def run(files, line):
             return prove(files, args[0], args[1], modes, "--no-assert" not in args, challenges)
         return verify(files, args[0], int(args[1]), modes, challenges, sheet)
     except Refused as said:
-        return [str(said)]
+        return list(said.args)

@@ -69,6 +69,11 @@ def fields(o):
     return [o.no, *plain, *[0] * (3 - len(plain)), *es, *[0] * (8 - len(es))]
 
 
+def told(o):
+    """Those of the prover and the verifier, and then what was used up: challenges sampled, log words written."""
+    return fields(o) + list(o.used)
+
+
 def value(o, count=1):
     return [o.no, *(w for e in o.elements for w in e)] if o.no == 0 else [o.no] + [0] * 4 * count
 
@@ -89,11 +94,11 @@ def write_answer(code, a, o):
         v = value(o, 3)
     elif code == 40:
         proof, point, log, work = fronts or [[]] * 4
-        v = (fields(o) + buffer(proof, a[4], a[8] % 256) + buffer(point, a[5], a[8]) + buffer(log, a[6], a[8])
+        v = (told(o) + buffer(proof, a[4], a[8] % 256) + buffer(point, a[5], a[8]) + buffer(log, a[6], a[8])
              + buffer(work, a[7], a[8]))
     elif code == 50:
         point, log = fronts or [[]] * 2
-        v = fields(o) + buffer(point, a[4], a[6]) + buffer(log, a[5], a[6])
+        v = told(o) + buffer(point, a[4], a[6]) + buffer(log, a[5], a[6])
     elif code == 70:
         v = fields(o)
     else:

@@ -2,7 +2,8 @@
 
 It decides what the Rust has no answer for: refusals added by the document, stored forms, live mode, and what every buffer
 holds after every answer. It can also do the runs itself, by plain sums, so that its values can be held against the Rust's.
-An outcome is (number, plain fields, element fields, what is written to the front of each buffer).
+An outcome is (number, plain fields, element fields, what is written to the front of each buffer, what was used up: challenges
+sampled and log words written, none before a run).
 """
 from collections import namedtuple
 from hashlib import shake_128
@@ -16,7 +17,9 @@ LABEL = b"frac-gkr/1"
 HALF, SIXTH = 1006632961, 1677721601
 ZERO, ONE = (0, 0, 0, 0), (1, 0, 0, 0)
 
-Outcome = namedtuple("Outcome", "no plain elements fronts", defaults=((), (), ()))
+UNUSED = (0, 0)
+
+Outcome = namedtuple("Outcome", "no plain elements fronts used", defaults=((), (), (), UNUSED))
 
 # --- arithmetic: c0 + c1 x + c2 x^2 + c3 x^3 with x^4 = 11; any words, by their remainders
 
@@ -156,7 +159,7 @@ def source(modes, challenges):
 
 class Transcript:
     def __init__(self, source):
-        self.source, self.used, self.log = source, 0, []
+        self.source, self.used, self.challenges, self.log = source, 0, 0, []
 
     def observe(self, *es):
         self.log += flat(es)
@@ -168,7 +171,12 @@ class Transcript:
         return w
 
     def sample(self):
+        self.challenges += 1
         return tuple(self.sample_word() for _ in range(4))
+
+
+def used_up(ts):
+    return ts.challenges, len(ts.log)
 
 
 def observe_root(ts, p, q, asserted):
@@ -211,7 +219,7 @@ def fractional_sumcheck(rows, asserted, source):
         layers.append(claims)
         if r > 0:
             polys.append(entry)
-    return Outcome(0, [n], [p, q], [write_proof(q, layers, polys), flat(point), ts.log, wiped])
+    return Outcome(0, [n], [p, q], [write_proof(q, layers, polys), flat(point), ts.log, wiped], used_up(ts))
 
 
 def cross(claims):
@@ -245,12 +253,12 @@ def verify_gkr(proof, n, source):
         if r > 0:
             failed, claims = verify_layer(ts, r, layers[r], polys[r - 1], numer, denom, point, rhos), layers[r]
         if failed:
-            return failed._replace(fronts=[[], ts.log])
+            return failed._replace(fronts=[[], ts.log], used=used_up(ts))
         mu = ts.sample()
         p0, c0, p1, c1 = claims
         numer, denom = line(p0, p1, mu), line(c0, c1, mu)
         point = new_point(mu, rhos)
-    return Outcome(0, [], [numer, denom], [flat(point), ts.log])
+    return Outcome(0, [], [numer, denom], [flat(point), ts.log], used_up(ts))
 
 
 def verify_layer(ts, r, claims, entry, numer, denom, point, rhos):

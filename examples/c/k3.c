@@ -21,6 +21,7 @@ static int run(const char *name, const char *space, const uint32_t rows[32], uin
     print(name, "denom", answer + 8);
     print(name, "point", point);
     print(space, "     ", point + 4);
+    printf("%sused %u challenges, %u log words\n", name, (unsigned)answer[12], (unsigned)answer[13]);
     if (accudrina_evaluate(rows, 32, point, 8, own) || memcmp(own + 4, answer + 4, 8 * sizeof *own)) {
         printf("not of this sheet\n");
         return 1;

@@ -9,6 +9,7 @@ fn main() -> Result<(), Refusal> {
     println!("numer {:?}", accepted.claims.numer.0);
     println!("denom {:?}", accepted.claims.denom.0);
     println!("point {:?}", accepted.point.iter().map(|e| e.0).collect::<Vec<_>>());
+    println!("used {} challenges, {} log words", accepted.used.challenges, accepted.used.log_words);
     println!("of this sheet: {}", evaluate(&rows, &accepted.point)? == accepted.claims);
     Ok(())
 }

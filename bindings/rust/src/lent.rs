@@ -2,7 +2,7 @@
 use crate::{
     ffi,
     modes::{self, Challenges, Mode, Sum, Verifying},
-    Element, Fraction, Refusal,
+    Element, Fraction, Refusal, Refused, Used,
 };
 
 /// The buffers of a proving run.
@@ -18,6 +18,7 @@ pub struct Rooms<'a> {
 pub struct Done {
     pub rounds: usize,
     pub sum: Fraction,
+    pub used: Used,
 }
 
 /// What an accepted proof claims: values of a sheet's columns p and q at the point. Whether they are your sheet's is for you to compare.
@@ -25,6 +26,13 @@ pub struct Done {
 pub struct Claims {
     pub numer: Element,
     pub denom: Element,
+}
+
+/// A proof that is accepted.
+#[derive(Clone, Copy, Debug, PartialEq, Eq)]
+pub struct Verified {
+    pub claims: Claims,
+    pub used: Used,
 }
 
 /// A sheet's own values at a point.
@@ -57,7 +65,7 @@ pub fn prove_into<'a>(
     sum: Sum,
     challenges: impl Into<Challenges<'a, u32>>,
     rooms: Rooms<'_>,
-) -> Result<Done, Refusal> {
+) -> Result<Done, Refused> {
     let challenges = challenges.into();
     let modes = modes::proving(mode, sum, challenges);
     let lent = challenges.lent();
@@ -82,8 +90,11 @@ pub fn prove_into<'a>(
         )
     };
     match number {
-        0 => Ok(Done { rounds: answer[1] as usize, sum: Fraction::new(element(&answer, 4), element(&answer, 8)) }),
-        _ => Err(Refusal::told(&answer)),
+        0 => {
+            let sum = Fraction::new(element(&answer, 4), element(&answer, 8));
+            Ok(Done { rounds: answer[1] as usize, sum, used: Used::told(&answer) })
+        }
+        _ => Err(Refused::told(&answer)),
     }
 }
 
@@ -95,7 +106,7 @@ pub fn verify_into<'a>(
     challenges: impl Into<Challenges<'a, u32>>,
     point: &mut [u32],
     log: &mut [u32],
-) -> Result<Claims, Refusal> {
+) -> Result<Verified, Refused> {
     let challenges = challenges.into();
     let modes = modes::verifying(how.into(), challenges);
     let lent = challenges.lent();
@@ -117,8 +128,11 @@ pub fn verify_into<'a>(
         )
     };
     match number {
-        0 => Ok(Claims { numer: element(&answer, 4), denom: element(&answer, 8) }),
-        _ => Err(Refusal::told(&answer)),
+        0 => {
+            let claims = Claims { numer: element(&answer, 4), denom: element(&answer, 8) };
+            Ok(Verified { claims, used: Used::told(&answer) })
+        }
+        _ => Err(Refused::told(&answer)),
     }
 }
 

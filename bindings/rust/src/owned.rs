@@ -1,9 +1,9 @@
 //! The calls with buffers made to measure.
 use crate::{
     element::{elements_of, row_words, words_of},
-    lent::{evaluate_words, prove_into, read_sheet_into, verify_into, Claims, Rooms},
+    lent::{evaluate_words, prove_into, read_sheet_into, verify_into, Claims, Rooms, Verified},
     modes::{Challenges, Mode, Sum, Verifying},
-    rooms, Element, Fraction, Refusal,
+    rooms, Element, Fraction, Refusal, Refused, Used,
 };
 
 /// A proof, with what its run left.
@@ -14,6 +14,7 @@ pub struct Proved {
     pub proof: Vec<u8>,
     pub point: Vec<Element>,
     pub log: Vec<u32>,
+    pub used: Used,
 }
 
 /// What an accepted proof claims, where, and the log of the run.
@@ -22,6 +23,7 @@ pub struct Accepted {
     pub claims: Claims,
     pub point: Vec<Element>,
     pub log: Vec<u32>,
+    pub used: Used,
 }
 
 /// The words of challenges that are supplied; none are where they are drawn.
@@ -47,7 +49,7 @@ pub fn read_sheet(sheet: &[u8]) -> Result<Vec<Fraction>, Refusal> {
 }
 
 /// A proof of the rows. A sum whose q is zero is proved too, and says nothing about the rows: look at [`Proved::sum`].
-pub fn prove<'a>(rows: &[Fraction], mode: Mode, sum: Sum, challenges: impl Into<Challenges<'a, Element>>) -> Result<Proved, Refusal> {
+pub fn prove<'a>(rows: &[Fraction], mode: Mode, sum: Sum, challenges: impl Into<Challenges<'a, Element>>) -> Result<Proved, Refused> {
     let n = rooms::rounds(rows.len());
     let mut proof = vec![0; rooms::proof_bytes(n)];
     let mut point = vec![0; rooms::point_words(n)];
@@ -56,7 +58,7 @@ pub fn prove<'a>(rows: &[Fraction], mode: Mode, sum: Sum, challenges: impl Into<
     let lent = Rooms { proof: &mut proof, point: &mut point, log: &mut log, work: &mut work };
     let words = words(challenges.into());
     let done = prove_into(&row_words(rows), mode, sum, again(&words), lent)?;
-    Ok(Proved { rounds: done.rounds, sum: done.sum, proof, point: elements_of(&point), log })
+    Ok(Proved { rounds: done.rounds, sum: done.sum, proof, point: elements_of(&point), log, used: done.used })
 }
 
 /// The claims of a proof of so many rounds, if it is accepted. The proof's exact bytes are asked for. In [`Mode::Live`] a sum whose q is zero
@@ -71,12 +73,12 @@ pub fn verify<'a>(
     rounds: usize,
     how: impl Into<Verifying>,
     challenges: impl Into<Challenges<'a, Element>>,
-) -> Result<Accepted, Refusal> {
+) -> Result<Accepted, Refused> {
     let mut point = vec![0; rooms::point_words(rounds)];
     let mut log = vec![0; rooms::log_words(rounds, Sum::AssertZero)];
     let words = words(challenges.into());
-    let claims = verify_into(proof, rounds, how, again(&words), &mut point, &mut log)?;
-    Ok(Accepted { claims, point: elements_of(&point), log })
+    let Verified { claims, used } = verify_into(proof, rounds, how, again(&words), &mut point, &mut log)?;
+    Ok(Accepted { claims, point: elements_of(&point), log, used })
 }
 
 /// The values of both columns of the rows at a point: compare them with the claims of a proof that was accepted with that point.

@@ -1,7 +1,7 @@
 //! The cases checked by hand, and the room questions.
 mod plain;
 
-use accudrina::{prove, rooms, verify, Claims, Element, Fraction, Mode, Refusal, Sum, PRIME};
+use accudrina::{prove, rooms, verify, Claims, Element, Fraction, Mode, Refusal, Refused, Sum, Used, PRIME};
 
 fn word(k: i64) -> Element {
     Element::new(k.rem_euclid(i64::from(PRIME)) as u32)
@@ -19,12 +19,27 @@ fn claims(numer: i64, denom: i64) -> Claims {
     Claims { numer: word(numer), denom: word(denom) }
 }
 
-/// Proves with the zero sum asserted and verifies: the sum, the claims, the point.
+fn used(challenges: usize, log_words: usize) -> Used {
+    Used { challenges, log_words }
+}
+
+/// A refusal before the run.
+fn at_once(refusal: Refusal) -> Refused {
+    Refused { refusal, used: used(0, 0) }
+}
+
+/// A refusal at the root, of which q0 and layer 0 were observed.
+fn at_root(refusal: Refusal) -> Refused {
+    Refused { refusal, used: used(0, 20) }
+}
+
+/// Proves with the zero sum asserted and verifies: the sum, the claims, the point; every challenge is used up.
 fn both(list: &[(i64, i64)], challenges: &[i64]) -> (Fraction, Claims, Vec<Element>) {
     let challenges = words(challenges);
     let proved = prove(&rows(list), Mode::Sandbox, Sum::AssertZero, &challenges).unwrap();
     let accepted = verify(&proved.proof, proved.rounds, Mode::Sandbox, &challenges).unwrap();
     assert_eq!((&accepted.log, &accepted.point), (&proved.log, &proved.point));
+    assert_eq!([accepted.used, proved.used], [used(challenges.len(), proved.log.len()); 2]);
     (proved.sum, accepted.claims, accepted.point)
 }
 
@@ -48,31 +63,31 @@ fn k4_zero_over_zero() {
     let k4 = [(0, 0), (0, 0)];
     assert_eq!(both(&k4, &[5]), (rows(&[(0, 0)])[0], claims(0, 0), words(&[5])));
     let proof = prove(&rows(&k4), Mode::Sandbox, Sum::AssertZero, &words(&[5])).unwrap().proof;
-    assert_eq!(verify(&proof, 1, Mode::Live, &words(&[5])), Err(Refusal::ZeroRoot));
+    assert_eq!(verify(&proof, 1, Mode::Live, &words(&[5])), Err(at_once(Refusal::ZeroRoot)));
 }
 
 #[test]
 fn k5_one_row() {
     let one = |list: &[(i64, i64)], sum| prove(&rows(list), Mode::Sandbox, sum, &[]).unwrap_err();
-    assert_eq!(one(&[(1, 1)], Sum::AssertZero), Refusal::NonZeroRootSum);
-    assert_eq!(one(&[(1, 1)], Sum::Observe), Refusal::SingleRow);
-    assert_eq!(one(&[(0, 1)], Sum::AssertZero), Refusal::SingleRow);
+    assert_eq!(one(&[(1, 1)], Sum::AssertZero), at_once(Refusal::NonZeroRootSum));
+    assert_eq!(one(&[(1, 1)], Sum::Observe), at_once(Refusal::SingleRow));
+    assert_eq!(one(&[(0, 1)], Sum::AssertZero), at_once(Refusal::SingleRow));
 }
 
 #[test]
 fn k6_a_sum_of_two() {
     let k6 = rows(&[(1, 1), (1, 1)]);
-    assert_eq!(prove(&k6, Mode::Sandbox, Sum::AssertZero, &words(&[5])), Err(Refusal::NonZeroRootSum));
+    assert_eq!(prove(&k6, Mode::Sandbox, Sum::AssertZero, &words(&[5])), Err(at_once(Refusal::NonZeroRootSum)));
     let proved = prove(&k6, Mode::Sandbox, Sum::Observe, &words(&[5])).unwrap();
-    assert_eq!(proved.sum, rows(&[(2, 1)])[0]);
-    assert_eq!(verify(&proved.proof, 1, Mode::Live, &words(&[5])), Err(Refusal::ZeroCheckFailed { actual: word(2) }));
+    assert_eq!((proved.sum, proved.used), (rows(&[(2, 1)])[0], used(1, 28)));
+    assert_eq!(verify(&proved.proof, 1, Mode::Live, &words(&[5])), Err(at_root(Refusal::ZeroCheckFailed { actual: word(2) })));
 }
 
 #[test]
 fn k7_live_rows() {
     let live = |list: &[(i64, i64)]| prove(&rows(list), Mode::Live, Sum::AssertZero, &words(&[5]));
-    assert_eq!(live(&[(1, 0), (0, 1)]), Err(Refusal::ZeroDenominator { row: 0 }));
-    assert_eq!(live(&[(0, 0), (0, 1)]), Err(Refusal::ZeroDenominator { row: 0 }));
+    assert_eq!(live(&[(1, 0), (0, 1)]), Err(at_once(Refusal::ZeroDenominator { row: 0 })));
+    assert_eq!(live(&[(0, 0), (0, 1)]), Err(at_once(Refusal::ZeroDenominator { row: 0 })));
 }
 
 #[test]
@@ -80,7 +95,7 @@ fn k10_another_denominator() {
     let mut proof = prove(&rows(&[(1, 2), (-1, 2)]), Mode::Sandbox, Sum::AssertZero, &words(&[5])).unwrap().proof;
     proof[8] = 5;
     let refusal = Refusal::RootConsistencyCheckFailed { expected: word(5), actual: word(4) };
-    assert_eq!(verify(&proof, 1, Mode::Live, &words(&[5])), Err(refusal));
+    assert_eq!(verify(&proof, 1, Mode::Live, &words(&[5])), Err(at_root(refusal)));
     assert_eq!(refusal.number(), 17);
 }
 

@@ -3,7 +3,7 @@ mod plain;
 
 use accudrina::{prove, read_sheet, verify, words_of, Accepted, Element, Mode, Refusal, Sum};
 use plain::{
-    lent::{marked, Lent},
+    lent::{marked, used, Lent},
     make::Source,
 };
 use std::collections::BTreeSet;
@@ -53,6 +53,8 @@ fn compare(bytes: &[u8], rounds: usize, mode: Mode, challenges: &[Element]) -> R
     assert_eq!(lent.log, marked(&log, lent.log.len()));
     assert_eq!(lent.point, marked(&verdict.map_or(vec![], |v| words_of(&v.1)), lent.point.len()));
     let owned = verify(bytes, rounds, mode, challenges);
+    assert_eq!(owned.as_ref().map_or_else(|r| r.used, |a| a.used), used(&log));
+    let owned = owned.map_err(Refusal::from);
     assert_eq!(owned.as_ref().map(|a| a.claims), told.as_ref().copied());
     owned
 }

@@ -18,7 +18,9 @@ fn both_draw() {
         let accepted = verify(&proved.proof, proved.rounds, Mode::Live, Challenges::Drawn).unwrap();
         assert_eq!((&accepted.point, &accepted.log), (&proved.point, &proved.log));
         assert_eq!(evaluate(&rows, &accepted.point).unwrap(), accepted.claims);
-        assert!(proved.log.iter().filter(|w| **w >> 31 == 1).count() == 4 * (2 * rounds - 1 + rounds * (rounds - 1) / 2));
+        let challenges = 2 * rounds - 1 + rounds * (rounds - 1) / 2;
+        assert!(proved.log.iter().filter(|w| **w >> 31 == 1).count() == 4 * challenges);
+        assert_eq!([proved.used, accepted.used], [Used { challenges, log_words: proved.log.len() }; 2]);
     }
 }
 

@@ -8,7 +8,9 @@ fn proof() -> Vec<u8> {
 }
 
 fn refused(proof: &[u8], how: impl Into<Verifying>) -> Refusal {
-    verify(proof, 0, how, Challenges::Drawn).unwrap_err()
+    let refused = verify(proof, 0, how, Challenges::Drawn).unwrap_err();
+    assert_eq!(refused.used, Used::default());
+    refused.refusal
 }
 
 /// In every mode of proving and of verifying, with any challenges, and no room.
@@ -19,7 +21,8 @@ fn no_rows_are_accepted() {
         assert_eq!((proved.rounds, proved.proof.len()), (0, 23));
         for how in MODES.map(Mode::or_empty) {
             for challenges in [Challenges::Drawn, Challenges::Supplied(&[]), Challenges::Supplied(&[PRIME])] {
-                let claims = verify_into(&proved.proof, 0, how, challenges, &mut [], &mut []).unwrap();
+                let Verified { claims, used } = verify_into(&proved.proof, 0, how, challenges, &mut [], &mut []).unwrap();
+                assert_eq!([used, proved.used], [Used::default(); 2]);
                 assert_eq!(claims, evaluate(&[], &[]).unwrap());
                 assert_eq!((claims.numer, claims.denom), (Element::ZERO, Element::new(1)));
             }

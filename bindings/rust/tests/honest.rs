@@ -1,7 +1,7 @@
 //! Honest runs of every size: the answers, every buffer, and the claims against the plain sum over all rows.
 mod plain;
 
-use accudrina::{prove, rooms, verify, words_of, Element, Fraction, Mode, Refusal, Sum};
+use accudrina::{prove, rooms, verify, words_of, Element, Fraction, Mode, Refusal, Refused, Sum, Used};
 use plain::{
     field::{root, value},
     lent::{marked, marked_bytes, Lent},
@@ -22,7 +22,8 @@ fn accepted_with_the_true_values() {
             let proved = prove(&rows, mode, Sum::AssertZero, &challenges).unwrap();
             assert_eq!((proved.rounds, proved.sum), (n, root(&rows)));
             let accepted = verify(&proved.proof, n, mode, &challenges).unwrap();
-            assert_eq!((&accepted.point, &accepted.log), (&proved.point, &proved.log));
+            assert_eq!((&accepted.point, &accepted.log, accepted.used), (&proved.point, &proved.log, proved.used));
+            assert_eq!(proved.used, Used { challenges: challenges.len(), log_words: 8 * n * n + 16 * n });
             let (p, q) = columns(&rows);
             assert_eq!(accepted.claims.numer, value(&p, &proved.point), "n = {n}");
             assert_eq!(accepted.claims.denom, value(&q, &proved.point), "n = {n}");
@@ -55,8 +56,11 @@ fn an_observed_sum_that_is_not_zero_is_turned_away() {
         let mut source = Source(200 + n as u64);
         let (rows, challenges) = (source.rows(n), source.challenges(n));
         let proved = prove(&rows, Mode::Live, Sum::Observe, &challenges).unwrap();
-        assert_eq!(prove(&rows, Mode::Live, Sum::AssertZero, &challenges), Err(Refusal::NonZeroRootSum));
-        assert_eq!(verify(&proved.proof, n, Mode::Live, &challenges), Err(Refusal::ZeroCheckFailed { actual: proved.sum.p }));
+        assert_eq!(proved.used, Used { challenges: challenges.len(), log_words: 8 * n * n + 16 * n + 4 });
+        let refused = Refused { refusal: Refusal::NonZeroRootSum, used: Used::default() };
+        assert_eq!(prove(&rows, Mode::Live, Sum::AssertZero, &challenges), Err(refused));
+        let refused = Refused { refusal: Refusal::ZeroCheckFailed { actual: proved.sum.p }, used: Used { challenges: 0, log_words: 20 } };
+        assert_eq!(verify(&proved.proof, n, Mode::Live, &challenges), Err(refused));
     }
 }
 
@@ -66,8 +70,9 @@ fn no_rows() {
         let proved = prove(&[], Mode::Live, sum, &[]).unwrap();
         assert_eq!((proved.rounds, proved.sum), (0, Fraction::new(Element::ZERO, Element::ONE)));
         assert_eq!(proved.proof, [&[1, 0, 0, 0, 18, 0, 0, 0, 1][..], &[0; 14]].concat());
-        assert!(proved.point.is_empty() && proved.log.is_empty());
-        assert_eq!(verify(&proved.proof, 0, Mode::Live, &[]), Err(Refusal::ZeroRounds));
+        assert!(proved.point.is_empty() && proved.log.is_empty() && proved.used == Used::default());
+        let refused = Refused { refusal: Refusal::ZeroRounds, used: Used::default() };
+        assert_eq!(verify(&proved.proof, 0, Mode::Live, &[]), Err(refused));
     }
 }
 

@@ -159,7 +159,7 @@ fn owned_buffers_are_never_too_short() {
     for rows in (0..=40).chain([1023, 1024, 1025, 2048]) {
         let rows = vec![Fraction::new(Element::ZERO, Element::ONE); rows];
         let challenges = vec![Element::ZERO; 64];
-        let told = prove(&rows, Mode::Live, Sum::AssertZero, &challenges).map(|p| p.rounds);
+        let told = prove(&rows, Mode::Live, Sum::AssertZero, &challenges).map(|p| p.rounds).map_err(Refusal::from);
         match rows.len() {
             0 => assert_eq!(told, Ok(0)),
             1 => assert_eq!(told, Err(SingleRow)),

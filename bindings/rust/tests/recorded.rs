@@ -1,7 +1,7 @@
 //! The Rust's recorded answers (oracle/README.md), through the exported functions: every number, field and word of every buffer.
 use accudrina::{
-    evaluate_words, prove_into, read_sheet_into, verify_into, Challenges, Claims, Done, Element, Evaluated, Mode, Refusal, Rooms, Sum,
-    Verifying, Words,
+    evaluate_words, prove_into, read_sheet_into, verify_into, Challenges, Done, Element, Evaluated, Mode, Refusal, Refused, Rooms, Sum,
+    Used, Verified, Verifying, Words,
 };
 use std::{fs, path::PathBuf};
 
@@ -63,6 +63,15 @@ fn refused(refusal: Refusal) -> Told {
     told(refusal.number(), plain, left, right)
 }
 
+/// And what was used up.
+fn counted(told: Told, used: Used) -> Vec<u32> {
+    [&told[..], &[used.challenges as u32, used.log_words as u32]].concat()
+}
+
+fn stopped(r: Refused) -> Vec<u32> {
+    counted(refused(r.refusal), r.used)
+}
+
 /// A list with its length before it.
 fn listed(words: &[u32]) -> Vec<u32> {
     [&[words.len() as u32], words].concat()
@@ -88,10 +97,10 @@ fn prover(case: &mut Line<'_>) -> Vec<u32> {
     let [proof, mut point, mut log, mut work] = case.buffers();
     let mut proof: Vec<u8> = proof.iter().map(|&b| b as u8).collect();
     let rooms = Rooms { proof: &mut proof, point: &mut point, log: &mut log, work: &mut work };
-    let done = |d: Done| told(0, [d.rounds as u32, 0, 0], d.sum.p, d.sum.q);
-    let answer = prove_into(&rows, mode, sum, source(drawn, &challenges), rooms).map_or_else(refused, done);
+    let done = |d: Done| counted(told(0, [d.rounds as u32, 0, 0], d.sum.p, d.sum.q), d.used);
+    let answer = prove_into(&rows, mode, sum, source(drawn, &challenges), rooms).map_or_else(stopped, done);
     let proof: Vec<u32> = proof.into_iter().map(u32::from).collect();
-    [answer.to_vec(), listed(&proof), listed(&point), listed(&log), listed(&work)].concat()
+    [answer, listed(&proof), listed(&point), listed(&log), listed(&work)].concat()
 }
 
 fn verifier(case: &mut Line<'_>) -> Vec<u32> {
@@ -101,9 +110,9 @@ fn verifier(case: &mut Line<'_>) -> Vec<u32> {
     let how = Verifying { mode, empty: word & 16 == 16 };
     let (proof, challenges) = (case.bytes(), case.words());
     let [mut point, mut log] = case.buffers();
-    let accepted = |c: Claims| told(0, [0; 3], c.numer, c.denom);
-    let answer = verify_into(&proof, rounds, how, source(drawn, &challenges), &mut point, &mut log).map_or_else(refused, accepted);
-    [answer.to_vec(), listed(&point), listed(&log)].concat()
+    let accepted = |v: Verified| counted(told(0, [0; 3], v.claims.numer, v.claims.denom), v.used);
+    let answer = verify_into(&proof, rounds, how, source(drawn, &challenges), &mut point, &mut log).map_or_else(stopped, accepted);
+    [answer, listed(&point), listed(&log)].concat()
 }
 
 fn sheet(case: &mut Line<'_>) -> Vec<u32> {

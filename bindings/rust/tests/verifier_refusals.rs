@@ -58,7 +58,7 @@ fn n4_and_n5_challenges_and_room() {
             let mut log = vec![WORD; rooms::log_words(n, Sum::AssertZero) - less_log];
             let told = verify_into(bytes, n, Mode::Live, words, &mut point, &mut log);
             assert!(told.is_ok() || (point.iter().chain(&log).all(|&w| w == WORD)));
-            told.map(|_| ())
+            told.map(|_| ()).map_err(Refusal::from)
         };
         assert_eq!(told(&bytes, &words, 0, 0), Ok(()));
         assert_eq!(told(&[], &words[..words.len() - 1], 1, 1), Err(ShortChallenges));

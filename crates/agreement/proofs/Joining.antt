@@ -8,6 +8,8 @@ use native.Mathlib.Omega.{arith}
 use lib.ListN.{length, take, length-take}
 use Rattle.field.specs.Ext as E
 use Rattle.gkr.specs.Sizes.{proof-bytes}
+use Rattle.transcript.specs.declared.Used.{Used}
+use Rattle.transcript.specs.Used.{unused}
 use Rattle.refusal.specs.Limits.{maxRounds}
 use Rattle.refusal.specs.Tests.{Tested, passed, refused}
 use Rattle.refusal.specs.declared.Refusal.{Refusal}
@@ -23,9 +25,10 @@ use Rattle.prover.specs.declared.Answer.{Answer}
 use Rattle.prover.specs.declared.Answer.the-variants.{Done}
 use Rattle.prover.specs.declared.Answer.the-variants.{Refused as Denied}
 use Rattle.prover.proofs.Opening.{gate-opens}
+use Rattle.prover.proofs.UsedUp.{using-up}
 use Rattle.verifier.specs.Verified as Verifier
 use Rattle.verifier.specs.Verified.{Lent}
-use Rattle.verifier_round.specs.declared.Verdict.{Verdict}
+use Rattle.verifier.specs.declared.Ending.{Ending}
 use Rattle.agreement.specs.declared.Joint.the-variants.{Proved, Refused}
 use Rattle.agreement.specs.Demand3.{Taken, root, Room, verdict, Agreed}
 use Rattle.agreement.specs.Together.{Joined, follow, ended, together, joined, Agrees}
@@ -53,7 +56,7 @@ module _ (c : Call) (b : Buffers) (n : ℕ) (s : Frac) where
       go (refused r) e k = absurd (done-refused n s r (sym k))
 
 -- so n is within the limit, and the proof's bytes are there
-module _ (c : Call) (b : Buffers) {n : ℕ} {s : Frac} {pb : Buffers} {r : Answer} (e : _≡_ {A = Prover.Outcome} (record { answer = r; buffers = pb }) (proved c b)) (d : r ≡ Done n s) where
+module _ (c : Call) (b : Buffers) {n : ℕ} {s : Frac} {pb : Buffers} {r : Answer} {u : Used} (e : _≡_ {A = Prover.Outcome} (record { answer = r; used = u; buffers = pb }) (proved c b)) (d : r ≡ Done n s) where
   told : Admitted c b n s
   told = admitted c b n s (sym (ap (λ o. o .answer) e) ∙ d)
 
@@ -73,16 +76,26 @@ all-taken k l h = simp length-take (omega arith)
 -- EACH WAY THROUGH
 
 module _ (c : Call) (how : Verifying) (b : Buffers) (v : Lent) where
-  pub joined-refused : {e : Refusal} {pb : Buffers} {r : Answer} → _≡_ {A = Prover.Outcome} (record { answer = r; buffers = pb }) (proved c b) → r ≡ Denied e → joined (Refused e) pb v ≡ together c how b v
-  unfolding together
-  joined-refused {e} {pb} h d = ap (λ a. follow c how v (record { answer = a; buffers = pb }) a) (sym d) ∙ ap (λ o. follow c how v o (o .answer)) h
+  -- a prover that refuses has used up nothing
+  unused-up : (e : Refusal) → proved c b .answer ≡ Denied e → proved c b .used ≡ unused
+  unfolding proved
+  unused-up e h = using-up c (roomsOf b) .none e h
 
-  pub joined-proved : {n : ℕ} {s : Frac} {pb : Buffers} {r : Answer} {w : Verdict} {pt lg : List ℕ} {size : ℕ} → _≡_ {A = Prover.Outcome} (record { answer = r; buffers = pb }) (proved c b) → r ≡ Done n s
-      → size ≡ proof-bytes n → Verifier.outcome w pt lg ≡ Verifier.verified (Verifier.asked (take size (pb .proof)) n how (c .challenges)) v → joined (Proved n s w) pb (Verifier.lent pt lg) ≡ together c how b v
+  pub joined-refused : {e : Refusal} {pb : Buffers} {r : Answer} {u : Used} → _≡_ {A = Prover.Outcome} (record { answer = r; used = u; buffers = pb }) (proved c b) → r ≡ Denied e
+      → joined (Refused e) pb v ≡ together c how b v
   unfolding together
-  joined-proved {n} {s} {pb} h d k q =
-      ap (ended (record { answer = Done n s; buffers = pb })) (q ∙ ap (λ (j : ℕ). Verifier.verified (Verifier.asked (take j (pb .proof)) n how (c .challenges)) v) k)
-      ∙ ap (λ a. follow c how v (record { answer = a; buffers = pb }) a) (sym d)
+  joined-refused {e} {pb} {r} {u} h d =
+      let n : u ≡ unused = ap (λ o. o .used) h ∙ unused-up e (sym (ap (λ o. o .answer) h) ∙ d) in
+      ap (λ x. follow c how v (record { answer = Denied e; used = x; buffers = pb }) (Denied e)) (sym n)
+      ∙ ap (λ a. follow c how v (record { answer = a; used = u; buffers = pb }) a) (sym d)
+      ∙ ap (λ o. follow c how v o (o .answer)) h
+
+  pub joined-proved : {n : ℕ} {s : Frac} {pb : Buffers} {r : Answer} {u : Used} {w : Ending} {pt lg : List ℕ} {size : ℕ} → _≡_ {A = Prover.Outcome} (record { answer = r; used = u; buffers = pb }) (proved c b) → r ≡ Done n s
+      → size ≡ proof-bytes n → Verifier.outcome (w .verdict) (w .used) pt lg ≡ Verifier.verified (Verifier.asked (take size (pb .proof)) n how (c .challenges)) v → joined (Proved n s u w) pb (Verifier.lent pt lg) ≡ together c how b v
+  unfolding together
+  joined-proved {n} {s} {pb} {r} {u} h d k q =
+      ap (ended (record { answer = Done n s; used = u; buffers = pb })) (q ∙ ap (λ (j : ℕ). Verifier.verified (Verifier.asked (take j (pb .proof)) n how (c .challenges)) v) k)
+      ∙ ap (λ a. follow c how v (record { answer = a; used = u; buffers = pb }) a) (sym d)
       ∙ ap (λ o. follow c how v o (o .answer)) h
 
   -- DEMAND 3

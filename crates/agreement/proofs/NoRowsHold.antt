@@ -20,6 +20,7 @@ use Rattle.gkr.specs.Sizes.{proof-bytes}
 use Rattle.gkr.specs.Gkr as Gkr
 use Rattle.transcript.specs.Source.{supplied}
 use Rattle.transcript.specs.Log.{Drawing}
+use Rattle.transcript.specs.Used.{unused}
 use Rattle.refusal.specs.declared.Proving.{Proving}
 use Rattle.refusal.specs.declared.Verifying.{Verifying}
 use Rattle.refusal.specs.Tests.{passed, firstOf}
@@ -103,7 +104,7 @@ module _ (how : Verifying) (challenges : List ℕ) (v : Lent) (h : how .empty �
       (both (ap (λ k. not (allCanonical (take k challenges))) (no-need (how .drawn)))
       (both (never (how .live)) tt)))))))))
 
-  accepts : Verifier.verified given v ≡ Verifier.outcome (Accepted (enc E.nil) (enc E.one)) (v .point) (v .log)
+  accepts : Verifier.verified given v ≡ Verifier.outcome (Accepted (enc E.nil) (enc E.one)) unused (v .point) (v .log)
   unfolding Verifier.verified firstOf model arithmetic layout bytesOf word claimsWords polysWords entriesBytes
   accepts = ap (λ t. Verifier.laid (Verifier.fronts given t) v) passes
 

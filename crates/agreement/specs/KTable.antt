@@ -15,6 +15,7 @@ use Rattle.gkr.specs.Compute.{el, minus, frac, claims, cubic}
 use Rattle.gkr.specs.Sizes.{proof-bytes, point-words, log-words, workspace-words}
 use Rattle.refusal.specs.declared.Verifying.{Verifying}
 use Rattle.refusal.specs.declared.Refusal.the-variants.{ZeroDenominator, NonZeroRootSum, SingleRow, ZeroCheckFailed, RootConsistencyCheckFailed, ZeroRoot}
+use Rattle.transcript.specs.Used.{unused}
 use Rattle.wire.specs.Bytes.{bytesOf}
 use Rattle.stored.specs.Layout.{layout}
 use Rattle.stored.specs.Elements.{encoded}
@@ -103,7 +104,7 @@ abbrev pub K1 : (live asserted : Bool) → Case
 K1 live asserted = record {
   Answers = Prover.Outcome;
   asked = Prover.proved (sheet live asserted [] []) K1·before;
-  expected = record { answer = summed 0 (el 0) (el 1); buffers = record { proof = K1·bytes ++ (7 ∷ []); point = 7 ∷ []; log = 7 ∷ []; work = 7 ∷ [] } };
+  expected = record { answer = summed 0 (el 0) (el 1); used = unused; buffers = record { proof = K1·bytes ++ (7 ∷ []); point = 7 ∷ []; log = 7 ∷ []; work = 7 ∷ [] } };
 }
 
 abbrev pub K2 : Call

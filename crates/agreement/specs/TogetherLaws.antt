@@ -8,7 +8,8 @@ use Rattle.prover.specs.Proved as Prover
 use Rattle.prover.specs.declared.Answer.{Answer}
 use Rattle.prover.specs.declared.Answer.the-variants.{Done}
 use Rattle.prover.specs.declared.Answer.the-variants.{Refused as Denied}
-use Rattle.verifier_round.specs.declared.Verdict.{Verdict}
+use Rattle.transcript.specs.declared.Used.{Used}
+use Rattle.verifier.specs.declared.Ending.{Ending}
 use Rattle.agreement.specs.declared.Joint.{Joint}
 use Rattle.agreement.specs.declared.Joint.the-variants.{Proved, Refused}
 use Rattle.verifier.specs.Verified.{Lent}
@@ -25,16 +26,16 @@ abbrev stoppedBy : Answer → Joint
 stoppedBy (Done n s) = Refused ShortRoom
 stoppedBy (Denied e) = Refused e
 
-abbrev endedBy : Answer → Verdict → Joint
-endedBy (Done n s) w = Proved n s w
-endedBy (Denied e) w = Refused e
+abbrev endedBy : Answer → Used → Ending → Joint
+endedBy (Done n s) u w = Proved n s u w
+endedBy (Denied e) u w = Refused e
 
 abbrev readOff : Joined → Outcome
 readOff (stopped P v) = record { answer = stoppedBy (P .answer); buffers = P .buffers; again = v }
-readOff (ended P Q) = record { answer = endedBy (P .answer) (Q .answer); buffers = P .buffers; again = Q .buffers }
+readOff (ended P Q) = record { answer = endedBy (P .answer) (P .used) (record { verdict = Q .answer; used = Q .used }); buffers = P .buffers; again = Q .buffers }
 
 read-off : (a : Joint) (b : Prover.Buffers) (v : Lent) → readOff (joined a b v) ≡ record { answer = a; buffers = b; again = v }
-read-off (Proved n s w) b v = refl
+read-off (Proved n s u w) b v = refl
 read-off (Refused e) b v = refl
 
 pub only-one : (c : Call) (how : Verifying) (b : Prover.Buffers) (v : Lent) (o o' : Outcome)

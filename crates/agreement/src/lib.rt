@@ -47,10 +47,13 @@ pub fn number_and_values(joint: Joint) -> JointReport
             sum,
             used,
             verified,
-        } => JointReport {
-            proving: prover::number_and_values(Answer::Done { rounds, sum }),
-            verifying: verifier_round::number_and_values(verified.verdict),
-        },
+        } => {
+            let verdict = verified.verdict;
+            JointReport {
+                proving: prover::number_and_values(Answer::Done { rounds, sum }),
+                verifying: verifier_round::number_and_values(verdict),
+            }
+        }
         Joint::Refused(refusal) => JointReport {
             proving: prover::number_and_values(Answer::Refused(refusal)),
             verifying: refusal::done(0, Ext::ZERO, Ext::ZERO),
@@ -83,7 +86,9 @@ pub fn prove_and_verify(
         (joined r (lent (now (proof .exit)) (now (point .exit)) (now (log .exit)) (now (work .exit))) (again (now («point_again» .exit)) (now («log_again» .exit))))) ⌝ }
 {
     let proved = prover::fractional_sumcheck(rows, modes, challenges, proof, point, log, work);
-    match proved.answer {
+    let used = proved.used;
+    let answer = proved.answer;
+    match answer {
         Answer::Done { rounds, sum } => {
             let size = sizes::proof_bytes(rounds);
             let verified = verifier::verify_gkr(
@@ -97,7 +102,7 @@ pub fn prove_and_verify(
             Joint::Proved {
                 rounds,
                 sum,
-                used: proved.used,
+                used,
                 verified,
             }
         }

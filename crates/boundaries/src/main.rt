@@ -28,7 +28,8 @@ fn prove(name: &[u8], rows: &[u32], challenges: &[u32], proof: &mut [u8]) {
         &mut log,
         &mut work,
     );
-    print_answer(name, prover::number_and_values(proved.answer).number);
+    let answer = proved.answer;
+    print_answer(name, prover::number_and_values(answer).number);
 }
 
 fn verify(name: &[u8], proof: &[u8], rounds: usize, challenges: &[u32]) {
@@ -46,10 +47,8 @@ fn verify(name: &[u8], proof: &[u8], rounds: usize, challenges: &[u32]) {
         &mut point,
         &mut log,
     );
-    print_answer(
-        name,
-        verifier_round::number_and_values(verified.verdict).number,
-    );
+    let verdict = verified.verdict;
+    print_answer(name, verifier_round::number_and_values(verdict).number);
 }
 
 fn main() {

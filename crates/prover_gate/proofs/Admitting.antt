@@ -106,12 +106,12 @@ module _ (c : Call) (r : Rooms) where
         pub refuse-4 : length (c .challenges) < need → Tells (Shut ShortChallenges)
         refuse-4 h = shut 3 ShortChallenges (p1, (p2, (p3, (ap (ltb (length (c .challenges))) (sym d) ∙ lt-ltb _ _ h, refl))))
 
-        module _ (h4 : need ≤ length (c .challenges)) {t : Bool} (te : t ≡ shortRoom (c .modes .«assert_zero») (z .n) r) where
+        module _ (h4 : need ≤ length (c .challenges)) {t : Bool} (te : t ≡ shortRoom (c .modes .«assert_zero») (c .modes .sized) (z .n) r) where
           p4 : ltb (length (c .challenges)) (neededWords (c .modes .drawn) (roundsOf count)) ≡ false
           p4 = ap (ltb (length (c .challenges))) (sym d) ∙ le-ltb _ _ h4
 
-          room : shortRoom (c .modes .«assert_zero») (roundsOf count) r ≡ t
-          room = ap (λ k. shortRoom (c .modes .«assert_zero») k r) (sym (ze .0)) ∙ sym te
+          room : shortRoom (c .modes .«assert_zero») (c .modes .sized) (roundsOf count) r ≡ t
+          room = ap (λ k. shortRoom (c .modes .«assert_zero») (c .modes .sized) k r) (sym (ze .0)) ∙ sym te
 
           pub refuse-5 : t ≡ true → Tells (Shut ShortRoom)
           refuse-5 h = shut 4 ShortRoom (p1, (p2, (p3, (p4, (room ∙ h, refl)))))

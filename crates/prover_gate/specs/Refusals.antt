@@ -38,8 +38,8 @@ call rows modes challenges = record { rows = rows; modes = modes; challenges = c
 abbrev pub rooms : (proof point log work : ℕ) → Rooms
 rooms proof point log work = record { proof = proof; point = point; log = log; work = work }
 
-unfoldable pub shortRoom : (asserted : Bool) (n : ℕ) (r : Rooms) → Bool
-shortRoom asserted n r = ltb (r .proof) (proof-bytes n) || (ltb (r .point) (point-words n) || (ltb (r .log) (logRoom asserted n) || ltb (r .work) (workRoom n)))
+unfoldable pub shortRoom : (asserted sized : Bool) (n : ℕ) (r : Rooms) → Bool
+shortRoom asserted sized n r = ltb (r .proof) (proof-bytes n) || (ltb (r .point) (point-words n) || (ltb (r .log) (logRoom asserted sized n) || ltb (r .work) (workRoom n)))
 
 -- q is 0, whatever p is
 unfoldable pub degenerate : Frac E.Ext → Bool
@@ -58,7 +58,7 @@ tests c r =
     ∷ test (ltb maxRows count) TooManyRows
     ∷ test (not (isSize count)) NotPowerOfTwo
     ∷ test (ltb (length (c .challenges)) need) ShortChallenges
-    ∷ test (shortRoom (c .modes .«assert_zero») n r) ShortRoom
+    ∷ test (shortRoom (c .modes .«assert_zero») (c .modes .sized) n r) ShortRoom
     ∷ test (not (allCanonical (c .rows))) (BadWord (firstBad (c .rows)) Rows)
     ∷ test (not (allCanonical (take need (c .challenges)))) (BadWord (firstBad (take need (c .challenges))) Challenges)
     ∷ test (c .modes .live && ltb low count) (ZeroDenominator low) ∷ []

@@ -23,13 +23,14 @@ pub enum Gate {
 fn short_room(
     size: Size,
     asserted: bool,
+    sized: bool,
     proof: usize,
     point: usize,
     log: usize,
     work: usize,
 ) -> bool
     requires { ⌜ (size .n ≤ maxRounds) × (size .rows ≡ 2 ^ size .n) ⌝ }
-    ensures { λ r. ⌜ r ≡ shortRoom asserted (size .n) (rooms proof point log work) ⌝ }
+    ensures { λ r. ⌜ r ≡ shortRoom asserted sized (size .n) (rooms proof point log work) ⌝ }
 {
     let n = size.n;
     if proof < sizes::proof_bytes(n) {
@@ -38,7 +39,7 @@ fn short_room(
     if point < 4 * n {
         return true;
     }
-    if log < sizes::log_words(asserted, n) {
+    if log < sizes::log_words(asserted, sized, n) {
         return true;
     }
     work < sizes::work_words(n, size.rows)
@@ -92,7 +93,15 @@ pub fn first_refusal(
     if challenges.len() < need {
         return Gate::Shut(Refusal::ShortChallenges);
     }
-    if short_room(size, modes.assert_zero, proof, point, log, work) {
+    if short_room(
+        size,
+        modes.assert_zero,
+        modes.sized,
+        proof,
+        point,
+        log,
+        work,
+    ) {
         return Gate::Shut(Refusal::ShortRoom);
     }
     let place = wire::first_bad_word(rows);

@@ -25,11 +25,12 @@ pub fn most_rows() -> usize
     MAX_ROWS
 }
 
-// How a sheet is proved: whether a row over zero is refused, whether the sum's numerator must be zero, and whether challenges are drawn.
+// How a sheet is proved: whether a row over zero is refused, whether the sum's numerator must be zero, whether challenges are drawn, and whether the proof binds its size.
 pub struct Proving {
     pub live: bool,
     pub assert_zero: bool,
     pub drawn: bool,
+    pub sized: bool,
 }
 
 // How a proof is verified: whether a root over zero is refused, whether challenges are drawn, and whether 0 rounds are valid.
@@ -94,6 +95,15 @@ pub enum Refusal {
     },
     InvalidZeroRoundValue {
         actual: Ext,
+    },
+    LogMismatch {
+        place: usize,
+    },
+    LogShort {
+        place: usize,
+    },
+    LogLong {
+        place: usize,
     },
     ZeroRoot,
 }
@@ -197,6 +207,9 @@ pub fn number_and_fields(refusal: Refusal) -> Report
             actual,
         } => element_report(19, round, expected, actual),
         Refusal::InvalidZeroRoundValue { actual } => element_report(22, 0, actual, Ext::ZERO),
+        Refusal::LogMismatch { place } => plain_report(24, place, 0, 0),
+        Refusal::LogShort { place } => plain_report(25, place, 0, 0),
+        Refusal::LogLong { place } => plain_report(26, place, 0, 0),
         Refusal::ZeroRoot => plain_report(27, 0, 0, 0),
     }
 }

@@ -65,7 +65,10 @@ fn call(
 ) {
     let ending = prover::fractional_sumcheck(rows, modes, challenges, proof, point, log, work);
     let answer = ending.answer;
+    let used = ending.used;
     print::report(prover::number_and_values(answer));
+    print::next(used.challenges as u64);
+    print::next(used.words as u64);
     print::bytes(proof);
     print::words(point);
     print::words(log);

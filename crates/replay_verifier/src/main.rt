@@ -45,9 +45,11 @@ fn call(
     log: &mut [u32],
 ) {
     let verified = verifier::verify_gkr(proof, rounds, modes, challenges, point, log);
-    print::report(verifier_round::number_and_values(verified.verdict));
-    print::next(verified.used.challenges as u64);
-    print::next(verified.used.words as u64);
+    let verdict = verified.verdict;
+    let used = verified.used;
+    print::report(verifier_round::number_and_values(verdict));
+    print::next(used.challenges as u64);
+    print::next(used.words as u64);
     print::words(point);
     print::words(log);
     print::end();

@@ -1,7 +1,7 @@
 -- The least number of rounds, and the formulas of document 01.
 -- Assumes nothing.
 use mathlib.Core.Path.{_≡_, refl, sym, _∙_, ap}
-use mathlib.Core.Bool.{Bool, true, false}
+use mathlib.Core.Bool.{Bool, true, false, cond}
 use Prim.Native.Nat.{ℕ, zero, suc, _+_, _*_, _-_, _^_, _<_, _≤_}
 use native.Mathlib.Nat.{pow-succ'}
 use native.Mathlib.Numerals.{add-one}
@@ -72,16 +72,20 @@ pub proof-some : (n : ℕ) → (n ≡ 0 → ⊥) → 22 + 65 * n + 24 * (n * (n 
 proof-some zero h = absurd (h refl)
 proof-some (suc m) h = refl
 
-pub log-none : (b : Bool) (n : ℕ) → n ≡ 0 → 0 ≡ logRoom b n
-log-none b n h = ap (logRoom b) (sym h)
+pub size-few : (s : Bool) → cond s 4 0 ≤ 4
+size-few true = omega arith
+size-few false = omega arith
 
-pub log-asserted : (b : Bool) (n : ℕ) → (n ≡ 0 → ⊥) → b ≡ true → 8 * (n * n) + 16 * n ≡ logRoom b n
-log-asserted b zero h t = absurd (h refl)
-log-asserted b (suc m) h t = rw t (omega arith)
+pub log-none : (b s : Bool) (n : ℕ) → n ≡ 0 → 0 ≡ logRoom b s n
+log-none b s n h = ap (logRoom b s) (sym h)
 
-pub log-open : (b : Bool) (n : ℕ) → (n ≡ 0 → ⊥) → b ≡ false → 8 * (n * n) + 16 * n + 4 ≡ logRoom b n
-log-open b zero h t = absurd (h refl)
-log-open b (suc m) h t = rw t
+pub log-asserted : (b s : Bool) (n : ℕ) {k : ℕ} → k ≡ cond s 4 0 → (n ≡ 0 → ⊥) → b ≡ true → k + (8 * (n * n) + 16 * n) ≡ logRoom b s n
+log-asserted b s zero e h t = absurd (h refl)
+log-asserted b s (suc m) e h t = rw t (omega (arith, e))
+
+pub log-open : (b s : Bool) (n : ℕ) {k : ℕ} → k ≡ cond s 4 0 → (n ≡ 0 → ⊥) → b ≡ false → k + (8 * (n * n) + 16 * n) + 4 ≡ logRoom b s n
+log-open b s zero e h t = absurd (h refl)
+log-open b s (suc m) e h t = rw t (omega (arith, e))
 
 pub work-none : (n : ℕ) → n ≡ 0 → 0 ≡ workRoom n
 work-none n h = ap workRoom (sym h)

@@ -2,7 +2,7 @@
 -- Assumes nothing.
 use mathlib.Core.Bool.{Bool, cond, _||_}
 use mathlib.Core.List.{List}
-use Prim.Native.Nat.{ℕ, zero, suc, _*_, _/_, _^_}
+use Prim.Native.Nat.{ℕ, zero, suc, _+_, _*_, _/_, _^_}
 use lib.Dec.{eqb, leb}
 use lib.ListN.{length}
 use Rattle.gkr.specs.Sizes.{challenges, log-words, workspace-words}
@@ -28,10 +28,10 @@ isSize count = eqb count 0 || eqb count (2 ^ roundsOf count)
 abbrev pub neededWords : (drawn : Bool) (n : ℕ) → ℕ
 neededWords drawn n = cond drawn 0 (4 * challenges n)
 
--- 0 or 1 row takes no rounds, and needs no log and no workspace
-abbrev pub logRoom : (asserted : Bool) (n : ℕ) → ℕ
-logRoom asserted zero = 0
-logRoom asserted (suc m) = log-words asserted (suc m)
+-- 0 or 1 row takes no rounds, and needs no log and no workspace; a proof that binds its size logs n first
+abbrev pub logRoom : (asserted sized : Bool) (n : ℕ) → ℕ
+logRoom asserted sized zero = 0
+logRoom asserted sized (suc m) = cond sized 4 0 + log-words asserted (suc m)
 
 abbrev pub workRoom : (n : ℕ) → ℕ
 workRoom zero = 0

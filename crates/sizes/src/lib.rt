@@ -1,5 +1,6 @@
 // Sizes, each once: the rounds of so many rows, and the room that so many rounds ask for.
 ghost use mathlib.Core.Path.{_≡_};
+ghost use mathlib.Core.Bool.{cond};
 ghost use Prim.Native.Nat.{_*_, _^_, _≤_};
 ghost use Rattle.gkr.specs.Sizes as Sizes;
 ghost use Rattle.refusal.specs.Limits.{maxRounds};
@@ -78,15 +79,25 @@ pub fn proof_bytes(n: usize) -> usize
     22 + 65 * n + 24 * (n * (n - 1))
 }
 
-// The words that a run of n rounds logs: root p only where zero is not asserted.
-pub fn log_words(asserted: bool, n: usize) -> usize
+// The words of n, which a proof that binds its size logs first.
+fn size_words(sized: bool) -> usize
+    ensures { λ r. ⌜ r ≡ cond sized 4 0 ⌝ }
+{
+    if sized {
+        return 4;
+    }
+    0
+}
+
+// The words that a run of n rounds logs: n only where the proof binds its size, root p only where zero is not asserted.
+pub fn log_words(asserted: bool, sized: bool, n: usize) -> usize
     requires { ⌜ n ≤ maxRounds ⌝ }
-    ensures { λ r. ⌜ r ≡ logRoom asserted n ⌝ }
+    ensures { λ r. ⌜ r ≡ logRoom asserted sized n ⌝ }
 {
     if n == 0 {
         return 0;
     }
-    let base = 8 * (n * n) + 16 * n;
+    let base = size_words(sized) + (8 * (n * n) + 16 * n);
     if asserted {
         return base;
     }

@@ -7,7 +7,7 @@ use Prim.Native.Nat.{ℕ, zero, suc, _+_, _*_, _-_, _<_, _≤_}
 use native.Mathlib.Omega.{arith}
 use borrow.Author.Tests.{eq-eqb, ne-eqb, lt-leb, le-leb, eqb-true, eqb-false}
 use lib.Dec.{eqb, leb}
-use lib.ListN.{length, getD, drop, length-drop}
+use lib.ListN.{length, getD, drop, length-drop, List·getD-eq-default}
 use lib.Seq.{drop-drop, getD-drop}
 use Rattle.field.specs.declared.Ext.{Ext}
 use Rattle.multilinear.specs.RoundSum.{Claims}
@@ -18,7 +18,7 @@ use Rattle.stored.specs.declared.Outline.{Outline}
 use Rattle.stored.specs.declared.Shape.{Shape}
 use Rattle.stored.specs.declared.Shape.the-variants.{Good, Refused}
 use Rattle.stored.specs.Shapes.{shapeOf, outlineOf}
-use Rattle.stored.specs.Parse.{claimsOf, cubicOf, entrySize, entriesFit, layerCount, entryCount, polysAt, fits, proofOf, parsed, parse}
+use Rattle.stored.specs.Parse.{claimsOf, cubicOf, entrySize, entriesFit, known, sized, layerCount, entryCount, polysAt, fits, proofOf, parsed, parse}
 use Rattle.stored.specs.ParseLaws.{claims-count, entries-count, Reads, reads-parse, front-byte, entry-past}
 
 cond-false : (a : Bool) → cond a false false ≡ false
@@ -36,6 +36,23 @@ same-test a b c d f g = by (eqb a b) refl
     by : (t : Bool) → eqb a b ≡ t → t ≡ eqb c d
     by true e = sym (eq-eqb c d (f (eqb-true a b e)))
     by false e = sym (ne-eqb c d (λ q. eqb-false a b e (g q)))
+
+-- THE VERSION
+module _ (bs : List ℕ) where
+  first-none : length bs ≡ 0 → getD bs 0 0 ≡ 0
+  first-none h = List·getD-eq-default bs 0 {n = 0} (omega arith)
+
+  pub unknown-none : length bs ≡ 0 → false ≡ known bs
+  unknown-none h = rw (first-none h)
+
+  pub unsized-none : length bs ≡ 0 → false ≡ sized bs
+  unsized-none h = rw (first-none h)
+
+  pub known-one : getD bs 0 0 ≡ 1 → true ≡ known bs
+  known-one h = rw h
+
+  pub known-two : (getD bs 0 0 ≡ 1 → ⊥) → eqb (getD bs 0 0) 2 ≡ known bs
+  known-two h = rw (ne-eqb (getD bs 0 0) 1 h)
 
 -- ENTRIES
 module _ (bs : List ℕ) (from n : ℕ) where
@@ -81,14 +98,14 @@ module _ (bs : List ℕ) (from n : ℕ) where
 
 -- THE ANSWERS
 module _ (bs : List ℕ) where
-  pub no-version : (getD bs 0 0 ≡ 1 → ⊥) → Refused BadVersion ≡ shapeOf (parse bs)
+  pub no-version : {k : Bool} → k ≡ known bs → k ≡ false → Refused BadVersion ≡ shapeOf (parse bs)
   unfolding parse
-  no-version h = sym (rw (ne-eqb (getD bs 0 0) 1 h))
+  no-version e h = sym (rw (sym e ∙ h))
 
-  module _ (v : getD bs 0 0 ≡ 1) where
+  module _ (v : known bs ≡ true) where
     no-fit : fits bs ≡ false → Refused BadLength ≡ shapeOf (parse bs)
     unfolding parse
-    no-fit h = sym (rw (eq-eqb (getD bs 0 0) 1 v, h))
+    no-fit h = sym (rw (v, h))
 
     pub too-short : length bs < 23 → Refused BadLength ≡ shapeOf (parse bs)
     unfolding fits

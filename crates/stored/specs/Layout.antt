@@ -1,5 +1,6 @@
--- The stored form of a proof: version 1, the length of all that follows, q0, the claims and the polynomial entries, each list after its count.
+-- The stored form of a proof: version 1 or 2, the length of all that follows, q0, the claims and the polynomial entries, each list after its count.
 -- Assumes nothing.
+use mathlib.Core.Bool.{Bool, cond}
 use mathlib.Core.List.{List, [], _∷_, _++_}
 use Prim.Native.Nat.{ℕ}
 use lib.ListN.{length}
@@ -41,5 +42,9 @@ entriesBytes (ms ∷ mss) = length ms ∷ (bytesOf (cubicsWords ms) ++ entriesBy
 abbrev pub body : Proof Ext → List ℕ
 body π = bytesOf (extWords (π .q0)) ++ (length (π .claims) ∷ (bytesOf (claimsWords (π .claims)) ++ (length (π .polys) ∷ entriesBytes (π .polys))))
 
-unfoldable pub layout : Proof Ext → List ℕ
-layout π = 1 ∷ (be4 (length (body π)) ++ body π)
+-- the version byte: 1, or 2 for a proof that binds its size
+abbrev pub versionOf : (sized : Bool) → ℕ
+versionOf sized = cond sized 2 1
+
+unfoldable pub layout : (sized : Bool) → Proof Ext → List ℕ
+layout sized π = versionOf sized ∷ (be4 (length (body π)) ++ body π)

@@ -1,6 +1,7 @@
 -- How long a stored proof is: 22 + 65 n + 24 n (n - 1) bytes for n rounds, 23 for no rows.
 -- Assumes nothing.
 use mathlib.Core.Path.{_≡_, refl, sym, _∙_, ap}
+use mathlib.Core.Bool.{Bool}
 use mathlib.Core.List.{List, [], _∷_, _++_}
 use Prim.Native.Nat.{ℕ, zero, suc, _+_, _*_, _-_, _≤_}
 use native.Mathlib.Omega.{arith}
@@ -43,25 +44,25 @@ entries-size r (suc h) (ms ∷ mss) e =
     let l = length-append (bytesOf (cubicsWords ms)) (entriesBytes mss) in
     omega (arith, i, l, cubics-size ms, a)
 
-layout-size : (π : Proof Ext) → length (layout π) ≡ 23 + 64 * length (π .claims) + length (entriesBytes (π .polys))
+layout-size : (s : Bool) (π : Proof Ext) → length (layout s π) ≡ 23 + 64 * length (π .claims) + length (entriesBytes (π .polys))
 unfolding layout bytesOf
-layout-size π =
+layout-size s π =
     let l = length-append (bytesOf (claimsWords (π .claims))) (length (π .polys) ∷ entriesBytes (π .polys)) in
     omega (arith, l, claims-size (π .claims))
 
-pub rounds-size : (n : ℕ) (π : Proof Ext) → 1 ≤ n → Rounds n π → length (layout π) ≡ proofSize n
-rounds-size n π h p =
+pub rounds-size : (s : Bool) (n : ℕ) (π : Proof Ext) → 1 ≤ n → Rounds n π → length (layout s π) ≡ proofSize n
+rounds-size s n π h p =
     let m = n - 1 in
     let e : n ≡ suc m = omega arith in
-    let s = entries-size 1 m (π .polys) (p .subrounds) in
+    let z = entries-size 1 m (π .polys) (p .subrounds) in
     let w : n * m ≡ suc m * m = ap (λ k. k * m) e in
-    omega (arith, layout-size π, s, p .layers, w)
+    omega (arith, layout-size s π, z, p .layers, w)
 
 -- the smallest two, and the largest
 pub sizes : (proofSize 1 ≡ 87) × (proofSize 2 ≡ 200) × (proofSize 10 ≡ 2832)
 sizes = (refl, refl, refl)
 
 -- the proof of no rows
-pub empty-size : (e : Ext) → length (layout (record { q0 = e; claims = []; polys = [] })) ≡ 23
+pub empty-size : (s : Bool) (e : Ext) → length (layout s (record { q0 = e; claims = []; polys = [] })) ≡ 23
 unfolding layout bytesOf claimsWords entriesBytes
-empty-size e = refl
+empty-size s e = refl

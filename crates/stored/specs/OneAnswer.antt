@@ -9,11 +9,17 @@ use Rattle.stored.specs.declared.Shape.{Shape}
 use Rattle.stored.specs.declared.LayerClaims.{LayerClaims}
 use Rattle.stored.specs.declared.SubroundEvals.{SubroundEvals}
 use Rattle.stored.specs.Layout.{proofWords}
-use Rattle.stored.specs.Parse.{parse, claimsOf, cubicOf, proofOf}
+use Rattle.stored.specs.Parse.{known, sized, parse, claimsOf, cubicOf, proofOf}
 use Rattle.stored.specs.Shapes.{shapeOf, claimsIn, cubicIn}
 
 pub one-shape : (bs : List ℕ) (r r′ : Shape) → r ≡ shapeOf (parse bs) → r′ ≡ shapeOf (parse bs) → r ≡ r′
 one-shape bs r r′ e e′ = e ∙ sym e′
+
+pub one-known : (bs : List ℕ) (r r′ : Bool) → r ≡ known bs → r′ ≡ known bs → r ≡ r′
+one-known bs r r′ e e′ = e ∙ sym e′
+
+pub one-sized : (bs : List ℕ) (r r′ : Bool) → r ≡ sized bs → r′ ≡ sized bs → r ≡ r′
+one-sized bs r r′ e e′ = e ∙ sym e′
 
 pub one-place : (ws : List ℕ) (r r′ : ℕ) → r ≡ firstBad ws → r′ ≡ firstBad ws → r ≡ r′
 one-place ws r r′ e e′ = e ∙ sym e′

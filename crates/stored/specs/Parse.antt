@@ -1,6 +1,6 @@
 -- Reading a proof from bytes: a wrong version, a length or list that disagrees with the bytes, or the proof.
 -- Assumes nothing.
-use mathlib.Core.Bool.{Bool, false, cond}
+use mathlib.Core.Bool.{Bool, false, cond, _||_}
 use mathlib.Core.List.{List, [], _∷_}
 use Prim.Native.Nat.{ℕ, zero, suc, _+_, _*_}
 use lib.Dec.{eqb, leb}
@@ -39,6 +39,13 @@ unfoldable pub entriesFit : ℕ → List ℕ → Bool
 entriesFit zero bs = eqb (length bs) 0
 entriesFit (suc k) bs = cond (leb (entrySize bs) (length bs)) (entriesFit k (drop (entrySize bs) bs)) false
 
+-- the first byte is 1 or 2, and whether it is 2
+abbrev pub known : List ℕ → Bool
+known bs = eqb (getD bs 0 0) 1 || eqb (getD bs 0 0) 2
+
+abbrev pub sized : List ℕ → Bool
+sized bs = eqb (getD bs 0 0) 2
+
 -- the counts, and the place of the first entry
 abbrev pub layerCount : List ℕ → ℕ
 layerCount bs = getD bs 21 0
@@ -62,7 +69,7 @@ proofOf bs = record { q0 = elem (drop 5 bs); claims = claimsFrom (layerCount bs)
 pub data Parsed : Type 0 where
   bad-version : Parsed
   bad-length : Parsed
-  parsed : Proof Ext → Parsed
+  parsed : (sized : Bool) → Proof Ext → Parsed
 
 unfoldable pub parse : List ℕ → Parsed
-parse bs = cond (eqb (getD bs 0 0) 1) (cond (fits bs) (parsed (proofOf bs)) bad-length) bad-version
+parse bs = cond (known bs) (cond (fits bs) (parsed (sized bs) (proofOf bs)) bad-length) bad-version

@@ -1,7 +1,7 @@
 -- Laws of reading: what bytes that parse are, the counts, and the lists one step on, for a reader that walks by byte places.
 -- Assumes nothing.
 use mathlib.Core.Path.{_≡_, refl, sym, _∙_, ap, ap₂}
-use mathlib.Core.Bool.{Bool, true, false, cond}
+use mathlib.Core.Bool.{Bool, true, false, cond, _||_}
 use mathlib.Core.List.{List, [], _∷_, _++_}
 use Prim.Native.Nat.{ℕ, zero, suc, _+_, _*_, _<_, _≤_}
 use native.Mathlib.Omega.{arith}
@@ -16,7 +16,8 @@ use Rattle.stored.specs.declared.Outline.{Outline}
 use Rattle.stored.specs.declared.Shape.{Shape}
 use Rattle.stored.specs.declared.Shape.the-variants.{Good, Refused}
 use Rattle.stored.specs.Shapes.{shapeOf, outlineOf}
-use Rattle.stored.specs.Parse.{claimsOf, cubicOf, claimsFrom, cubicsFrom, entrySize, entriesFrom, entriesFit, layerCount, entryCount, polysAt, fits, proofOf, Parsed, bad-version, bad-length, parsed, parse}
+use Rattle.stored.specs.Layout.{versionOf}
+use Rattle.stored.specs.Parse.{claimsOf, cubicOf, claimsFrom, cubicsFrom, entrySize, entriesFrom, entriesFit, known, sized, layerCount, entryCount, polysAt, fits, proofOf, Parsed, bad-version, bad-length, parsed, parse}
 
 never : true ≡ false → ⊥
 never e = let z : _≡_ {A = ℕ} 0 1 = cc in omega arith
@@ -81,14 +82,25 @@ entry-fits k at bs l h =
     let r = both-right (leb (entrySize (drop at bs)) (length (drop at bs))) (entriesFit k (drop (entrySize (drop at bs)) (drop at bs))) h in
     record { room = omega (arith, length-drop at bs, b, e); fit = ap (entriesFit k) (sym (entry-past at (getD bs at 0) bs e)) ∙ r }
 
+-- THE VERSION
+-- a first byte that is known is the version byte of what it tells
+version-by : (v : ℕ) (a b : Bool) → eqb v 1 ≡ a → eqb v 2 ≡ b → (a || b) ≡ true → v ≡ versionOf b
+version-by v true true p q h = absurd (omega (arith, eqb-true v 1 p, eqb-true v 2 q))
+version-by v true false p q h = eqb-true v 1 p
+version-by v false true p q h = eqb-true v 2 q
+version-by v false false p q h = absurd (never (sym h))
+
+pub known-version : (bs : List ℕ) → known bs ≡ true → getD bs 0 0 ≡ versionOf (sized bs)
+known-version bs h = version-by (getD bs 0 0) (eqb (getD bs 0 0) 1) (sized bs) refl refl h
+
 -- BYTES THAT PARSE
 pub record Reads (bs : List ℕ) : Type 0 where
-  pub version : getD bs 0 0 ≡ 1
+  pub version : known bs ≡ true
   pub stored : 5 + word (drop 1 bs) ≡ length bs
   pub room : polysAt bs ≤ length bs
   pub fit : entriesFit (entryCount bs) (drop (polysAt bs) bs) ≡ true
 
-pub fits-reads : (bs : List ℕ) → getD bs 0 0 ≡ 1 → fits bs ≡ true → Reads bs
+pub fits-reads : (bs : List ℕ) → known bs ≡ true → fits bs ≡ true → Reads bs
 unfolding fits
 fits-reads bs v h =
     let F = entriesFit (entryCount bs) (drop (polysAt bs) bs) in
@@ -105,22 +117,23 @@ pub reads-fits : (bs : List ℕ) → Reads bs → fits bs ≡ true
 unfolding fits
 reads-fits bs h = rw (eq-eqb (5 + word (drop 1 bs)) (length bs) (h .stored), le-leb (polysAt bs) (length bs) (h .room), h .fit)
 
-pub reads-parse : (bs : List ℕ) → Reads bs → parse bs ≡ parsed (proofOf bs)
+pub reads-parse : (bs : List ℕ) → Reads bs → parse bs ≡ parsed (sized bs) (proofOf bs)
 unfolding parse
-reads-parse bs h = rw (eq-eqb (getD bs 0 0) 1 (h .version), reads-fits bs h)
+reads-parse bs h = rw (h .version, reads-fits bs h)
 
-pub record Answered (bs : List ℕ) (π : Proof Ext) : Type 0 where
+pub record Answered (bs : List ℕ) (s : Bool) (π : Proof Ext) : Type 0 where
   pub reads : Reads bs
+  pub sized : sized bs ≡ s
   pub proof : proofOf bs ≡ π
 
-parsed-by : (bs : List ℕ) (π : Proof Ext) (v f : Bool) → eqb (getD bs 0 0) 1 ≡ v → fits bs ≡ f → cond v (cond f (parsed (proofOf bs)) bad-length) bad-version ≡ parsed π → Answered bs π
-parsed-by bs π true true a b e = record { reads = fits-reads bs (eqb-true (getD bs 0 0) 1 a) b; proof = cc }
-parsed-by bs π true false a b e = absurd (let z : _≡_ {A = ℕ} 0 1 = cc in omega arith)
-parsed-by bs π false f a b e = absurd (let z : _≡_ {A = ℕ} 0 1 = cc in omega arith)
+parsed-by : (bs : List ℕ) (s : Bool) (π : Proof Ext) (v f : Bool) → known bs ≡ v → fits bs ≡ f → cond v (cond f (parsed (sized bs) (proofOf bs)) bad-length) bad-version ≡ parsed s π → Answered bs s π
+parsed-by bs s π true true a b e = record { reads = fits-reads bs a b; sized = cc; proof = cc }
+parsed-by bs s π true false a b e = absurd (let z : _≡_ {A = ℕ} 0 1 = cc in omega arith)
+parsed-by bs s π false f a b e = absurd (let z : _≡_ {A = ℕ} 0 1 = cc in omega arith)
 
-pub parse-reads : (bs : List ℕ) (π : Proof Ext) → parse bs ≡ parsed π → Answered bs π
+pub parse-reads : (bs : List ℕ) (s : Bool) (π : Proof Ext) → parse bs ≡ parsed s π → Answered bs s π
 unfolding parse
-parse-reads bs π e = parsed-by bs π (eqb (getD bs 0 0) 1) (fits bs) refl refl e
+parse-reads bs s π e = parsed-by bs s π (known bs) (fits bs) refl refl e
 
 -- what a good shape says of the bytes
 pub record Shaped (bs : List ℕ) (o : Outline) : Type 0 where
@@ -132,8 +145,8 @@ pub record Shaped (bs : List ℕ) (o : Outline) : Type 0 where
 shaped-by : (bs : List ℕ) (o : Outline) (p : Parsed) → parse bs ≡ p → Good o ≡ shapeOf p → Shaped bs o
 shaped-by bs o bad-version e g = absurd (let z : _≡_ {A = ℕ} 0 1 = cc in omega arith)
 shaped-by bs o bad-length e g = absurd (let z : _≡_ {A = ℕ} 0 1 = cc in omega arith)
-shaped-by bs o (parsed π) e g =
-    let a = parse-reads bs π e in
+shaped-by bs o (parsed s π) e g =
+    let a = parse-reads bs s π e in
     let c = claims-count (layerCount bs) (drop 22 bs) in
     let d = entries-count (entryCount bs) (drop (polysAt bs) bs) in
     let f : outlineOf π ≡ outlineOf (proofOf bs) = ap outlineOf (sym (a .proof)) in

@@ -1,13 +1,13 @@
 -- Stored form and proof are one thing: what is read from bytes has those bytes as its layout, and each proof is read back from its layout.
 -- Assumes nothing.
 use mathlib.Core.Path.{_≡_, refl, sym, _∙_, ap, ap₂}
-use mathlib.Core.Bool.{true, false, cond}
+use mathlib.Core.Bool.{Bool, true, false, cond, _||_}
 use mathlib.Core.List.{List, [], _∷_, _++_}
 use Prim.Native.Nat.{ℕ, zero, suc, _+_, _*_, _-_, _<_, _≤_}
 use native.Mathlib.Omega.{arith}
 use native.Mathlib.Numerals.{add-one}
 use borrow.Author.Tests.{eqb-true, le-leb}
-use lib.Dec.{leb}
+use lib.Dec.{eqb, leb}
 use lib.ListN.{length, getD, take, drop, length-append, length-drop, take-append-drop, drop-of-length-le}
 use lib.Seq.{drop-cons, drop-drop, getD-drop, drop-at, getD-at}
 use Rattle.field.specs.declared.Ext.{Ext}
@@ -16,9 +16,9 @@ use Rattle.gkr.specs.Run.{Cubic, Proof}
 use Rattle.wire.specs.Bytes.{be4, word, wordsFrom, elem, bytesOf, Bytes}
 use Rattle.wire.specs.Words.{extWords}
 use Rattle.wire.specs.ByteLaws.{bytes-drop, bytes-back, bytes-length, word-back, elem-words}
-use Rattle.stored.specs.Layout.{claimWords, cubicWords, claimsWords, cubicsWords, entriesBytes, body, layout}
-use Rattle.stored.specs.Parse.{claimsOf, cubicOf, claimsFrom, cubicsFrom, entrySize, entriesFrom, entriesFit, layerCount, entryCount, polysAt, proofOf, parsed, parse}
-use Rattle.stored.specs.ParseLaws.{cubics-count, claims-count, entries-count, entries-step, entry-fits, Reads, reads-parse, Answered, parse-reads}
+use Rattle.stored.specs.Layout.{claimWords, cubicWords, claimsWords, cubicsWords, entriesBytes, body, versionOf, layout}
+use Rattle.stored.specs.Parse.{claimsOf, cubicOf, claimsFrom, cubicsFrom, entrySize, entriesFrom, entriesFit, known, sized, layerCount, entryCount, polysAt, proofOf, parsed, parse}
+use Rattle.stored.specs.ParseLaws.{cubics-count, claims-count, entries-count, entries-step, entry-fits, known-version, Reads, reads-parse, Answered, parse-reads}
 use Rattle.stored.specs.ReadWords.{cubics-words, claims-words}
 
 -- BYTES, READ, AND WRITTEN AGAIN
@@ -71,15 +71,19 @@ module _ (bs : List ℕ) (b : Bytes bs) where
         ∙ ap₂ (λ (x y : List ℕ). bytesOf x ++ y) (elem-words (drop 5 bs)) e4
         ∙ words-there 4 5 (omega (arith, r .room))
 
-    all-there : layout (proofOf bs) ≡ bs
+    all-there : layout (sized bs) (proofOf bs) ≡ bs
     unfolding layout bytesOf wordsFrom
     all-there =
         let n : length (body (proofOf bs)) ≡ word (drop 1 bs) = ap length body-there ∙ omega (arith, length-drop 5 bs, r .stored) in
         let w : be4 (word (drop 1 bs)) ++ drop 5 bs ≡ drop 1 bs = words-there 1 1 (omega (arith, r .room)) in
-        ap₂ (λ (x : ℕ) (y : List ℕ). 1 ∷ (be4 x ++ y)) n body-there ∙ ap (λ l. 1 ∷ l) w ∙ ap (λ v. v ∷ drop 1 bs) (sym (r .version)) ∙ next bs 0 (omega (arith, r .room))
+        let v = versionOf (sized bs) in
+        ap₂ (λ (x : ℕ) (y : List ℕ). v ∷ (be4 x ++ y)) n body-there
+        ∙ ap (λ l. v ∷ l) w
+        ∙ ap (λ k. k ∷ drop 1 bs) (sym (known-version bs (r .version)))
+        ∙ next bs 0 (omega (arith, r .room))
 
-pub read-write : (bs : List ℕ) (π : Proof Ext) → Bytes bs → parse bs ≡ parsed π → layout π ≡ bs
-read-write bs π b e = let a = parse-reads bs π e in ap layout (sym (a .proof)) ∙ all-there bs b (a .reads)
+pub read-write : (bs : List ℕ) (s : Bool) (π : Proof Ext) → Bytes bs → parse bs ≡ parsed s π → layout s π ≡ bs
+read-write bs s π b e = let a = parse-reads bs s π e in ap₂ layout (sym (a .sized)) (sym (a .proof)) ∙ all-there bs b (a .reads)
 
 -- A PROOF, WRITTEN, AND READ AGAIN
 elem-back : (e : Ext) (rest : List ℕ) → elem (bytesOf (extWords e) ++ rest) ≡ e
@@ -155,57 +159,70 @@ entries-fit-back (ms ∷ mss) =
     ∙ ap (entriesFit (length mss)) (entry-back (length ms) xs (entriesBytes mss) (cubics-size ms))
     ∙ entries-fit-back mss
 
-module _ (π : Proof Ext) where
+-- the version byte of either kind is known, and tells its kind
+version-known : (s : Bool) → (eqb (versionOf s) 1 || eqb (versionOf s) 2) ≡ true
+version-known true = refl
+version-known false = refl
+
+version-tells : (s : Bool) → eqb (versionOf s) 2 ≡ s
+version-tells true = refl
+version-tells false = refl
+
+module _ (s : Bool) (π : Proof Ext) where
   -- the bytes from the claims on, and their parts
   tail : List ℕ
   tail = bytesOf (claimsWords (π .claims)) ++ (length (π .polys) ∷ entriesBytes (π .polys))
 
-  at-claims : drop 22 (layout π) ≡ tail
+  at-claims : drop 22 (layout s π) ≡ tail
   unfolding layout bytesOf tail
   at-claims = refl
 
-  layers-back : layerCount (layout π) ≡ length (π .claims)
+  layers-back : layerCount (layout s π) ≡ length (π .claims)
   unfolding layout bytesOf
   layers-back = refl
 
-  count-back : entryCount (layout π) ≡ length (π .polys)
+  count-back : entryCount (layout s π) ≡ length (π .polys)
   unfolding tail
   count-back =
-      ap (λ n. getD (layout π) (22 + 64 * n) 0) layers-back
-      ∙ sym (getD-drop 22 (layout π) (64 * length (π .claims)) 0)
+      ap (λ n. getD (layout s π) (22 + 64 * n) 0) layers-back
+      ∙ sym (getD-drop 22 (layout s π) (64 * length (π .claims)) 0)
       ∙ ap (λ l. getD l (64 * length (π .claims)) 0) at-claims
       ∙ getD-at (bytesOf (claimsWords (π .claims))) (length (π .polys)) (entriesBytes (π .polys)) 0 (64 * length (π .claims)) (claims-size (π .claims))
 
-  polys-back : drop (polysAt (layout π)) (layout π) ≡ entriesBytes (π .polys)
+  polys-back : drop (polysAt (layout s π)) (layout s π) ≡ entriesBytes (π .polys)
   unfolding tail
   polys-back =
       let n = 64 * length (π .claims) in
       let z : 22 + (n + 1) ≡ 23 + n = omega arith in
-      ap (λ k. drop (23 + 64 * k) (layout π)) layers-back
-      ∙ ap (λ k. drop k (layout π)) (sym z)
-      ∙ sym (drop-drop (n + 1) 22 (layout π))
+      ap (λ k. drop (23 + 64 * k) (layout s π)) layers-back
+      ∙ ap (λ k. drop k (layout s π)) (sym z)
+      ∙ sym (drop-drop (n + 1) 22 (layout s π))
       ∙ ap (drop (n + 1)) at-claims
       ∙ sym (drop-drop 1 n tail)
       ∙ ap (drop 1) (drop-at (bytesOf (claimsWords (π .claims))) (length (π .polys) ∷ entriesBytes (π .polys)) n (claims-size (π .claims)))
 
-  version-back : getD (layout π) 0 0 ≡ 1
+  version-back : known (layout s π) ≡ true
   unfolding layout
-  version-back = refl
+  version-back = version-known s
 
-  length-back : 5 + word (drop 1 (layout π)) ≡ length (layout π)
+  sized-back : sized (layout s π) ≡ s
+  unfolding layout
+  sized-back = version-tells s
+
+  length-back : 5 + word (drop 1 (layout s π)) ≡ length (layout s π)
   unfolding layout
   length-back =
       let z : 5 + length (body π) ≡ suc (suc (suc (suc (suc (length (body π)))))) = omega arith in
       ap (λ n. 5 + n) (word-back (length (body π)) (body π)) ∙ z
 
-  room-back : polysAt (layout π) ≤ length (layout π)
+  room-back : polysAt (layout s π) ≤ length (layout s π)
   unfolding tail
   room-back =
-      let l = length-drop 22 (layout π) in
+      let l = length-drop 22 (layout s π) in
       let m = ap length at-claims ∙ length-append (bytesOf (claimsWords (π .claims))) (length (π .polys) ∷ entriesBytes (π .polys)) in
       omega (arith, layers-back, l, m, claims-size (π .claims))
 
-  reads-back : Reads (layout π)
+  reads-back : Reads (layout s π)
   reads-back =
       record {
         version = version-back;
@@ -214,11 +231,11 @@ module _ (π : Proof Ext) where
         fit = ap₂ entriesFit count-back polys-back ∙ entries-fit-back (π .polys);
       }
 
-  q0-back : elem (drop 5 (layout π)) ≡ π .q0
+  q0-back : elem (drop 5 (layout s π)) ≡ π .q0
   unfolding layout tail
   q0-back = elem-back (π .q0) (length (π .claims) ∷ tail)
 
-  proof-back : proofOf (layout π) ≡ π
+  proof-back : proofOf (layout s π) ≡ π
   unfolding tail
   proof-back =
       let c = ap₂ claimsFrom layers-back at-claims ∙ claims-back (π .claims) (length (π .polys) ∷ entriesBytes (π .polys)) in
@@ -226,12 +243,12 @@ module _ (π : Proof Ext) where
       let q = q0-back in
       λ i. record { q0 = q i; claims = c i; polys = p i }
 
-  pub write-read : parse (layout π) ≡ parsed π
-  write-read = reads-parse (layout π) reads-back ∙ ap parsed proof-back
+  pub write-read : parse (layout s π) ≡ parsed s π
+  write-read = reads-parse (layout s π) reads-back ∙ ap₂ parsed sized-back proof-back
 
--- each proof has one stored form, and each stored form is of one proof
-pub one-form : (bs bs′ : List ℕ) (π : Proof Ext) → Bytes bs → Bytes bs′ → parse bs ≡ parsed π → parse bs′ ≡ parsed π → bs ≡ bs′
-one-form bs bs′ π b b′ e e′ = sym (read-write bs π b e) ∙ read-write bs′ π b′ e′
+-- each proof has one stored form of each version, and each stored form is of one version and one proof
+pub one-form : (bs bs′ : List ℕ) (s : Bool) (π : Proof Ext) → Bytes bs → Bytes bs′ → parse bs ≡ parsed s π → parse bs′ ≡ parsed s π → bs ≡ bs′
+one-form bs bs′ s π b b′ e e′ = sym (read-write bs s π b e) ∙ read-write bs′ s π b′ e′
 
-pub one-proof : (π π′ : Proof Ext) → layout π ≡ layout π′ → π ≡ π′
-one-proof π π′ e = let h : parsed π ≡ parsed π′ = sym (write-read π) ∙ ap parse e ∙ write-read π′ in cc
+pub one-proof : (s s′ : Bool) (π π′ : Proof Ext) → layout s π ≡ layout s′ π′ → (s ≡ s′) × (π ≡ π′)
+one-proof s s′ π π′ e = let h : parsed s π ≡ parsed s′ π′ = sym (write-read s π) ∙ ap parse e ∙ write-read s′ π′ in (cc, cc)

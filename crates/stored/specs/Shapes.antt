@@ -20,7 +20,7 @@ outlineOf π = record { layers = length (π .claims); entries = length (π .poly
 abbrev pub shapeOf : Parsed → Shape
 shapeOf bad-version = Refused BadVersion
 shapeOf bad-length = Refused BadLength
-shapeOf (parsed π) = Good (outlineOf π)
+shapeOf (parsed sized π) = Good (outlineOf π)
 
 abbrev pub claimsIn : LayerClaims → Claims Ext
 claimsIn c = record { p0 = c .p_xi_0; q0 = c .q_xi_0; p1 = c .p_xi_1; q1 = c .q_xi_1 }

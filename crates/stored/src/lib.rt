@@ -6,7 +6,7 @@ ghost use lib.ListN.{length, drop};
 ghost use Rattle.wire.specs.Words.{firstBad};
 ghost use Rattle.stored.specs.Elements.{overZero};
 ghost use Rattle.stored.specs.Layout.{polysWords, proofWords};
-ghost use Rattle.stored.specs.Parse.{parse, entriesFit, entriesFrom, proofOf, claimsOf, cubicOf};
+ghost use Rattle.stored.specs.Parse.{known, sized, parse, entriesFit, entriesFrom, proofOf, claimsOf, cubicOf};
 ghost use Rattle.stored.specs.ParseLaws.{Shaped};
 ghost use Rattle.stored.specs.Shapes.{shapeOf, claimsIn, cubicIn};
 use field::Ext;
@@ -57,14 +57,35 @@ fn entries_fit(proof: &[u8], from: usize, count: usize) -> bool
     at == proof.len()
 }
 
+// Whether the first byte is a version that is read: 1 or 2.
+pub fn is_known(proof: &[u8]) -> bool
+    ensures { λ r. ⌜ r ≡ known (now (proof .entry)) ⌝ }
+{
+    if proof.len() == 0 {
+        return false;
+    }
+    let version = proof[0];
+    if version == 1 {
+        return true;
+    }
+    version == 2
+}
+
+// Whether a proof binds its size: its version is 2.
+pub fn is_sized(proof: &[u8]) -> bool
+    ensures { λ r. ⌜ r ≡ sized (now (proof .entry)) ⌝ }
+{
+    if proof.len() == 0 {
+        return false;
+    }
+    proof[0] == 2
+}
+
 // The counts of a stored proof and where its polynomials start, if the bytes are some proof's; otherwise 12 or 13.
 pub fn read_shape(proof: &[u8]) -> Shape
     ensures { λ r. ⌜ r ≡ shapeOf (parse (now (proof .entry))) ⌝ }
 {
-    if proof.len() == 0 {
-        return Shape::Refused(Refusal::BadVersion);
-    }
-    if proof[0] != 1 {
+    if !is_known(proof) {
         return Shape::Refused(Refusal::BadVersion);
     }
     if proof.len() < 23 {

@@ -43,6 +43,15 @@ fn elements(proof: &[u8], polys: usize) {
     }
 }
 
+// The version of a proof, by whether it binds its size.
+fn version(proof: &[u8]) {
+    if stored::is_sized(proof) {
+        text::number(2);
+    } else {
+        text::number(1);
+    }
+}
+
 // All that is asked of one proof.
 pub fn ask(proof: &[u8]) {
     match stored::read_shape(proof) {
@@ -54,6 +63,7 @@ pub fn ask(proof: &[u8]) {
             text::number(stored::first_bad_in_proof(proof, o) as u64);
             text::number(stored::word_count(proof, o) as u64);
             elements(proof, o.polys);
+            version(proof);
         }
         Shape::Refused(r) => text::number(number_of(r) as u64),
     }
@@ -76,48 +86,48 @@ pub fn prefixes(proof: &[u8]) {
     }
 }
 
-fn no_rows(out: &mut [u8]) {
+fn no_rows(out: &mut [u8], sized: bool) {
     if 23 <= out.len() {
-        text::number(stored_writer::put_no_rows(out) as u64);
+        text::number(stored_writer::put_no_rows(out, sized) as u64);
     }
 }
 
-fn one_round(out: &mut [u8], log: &[u32], cell: usize) {
+fn one_round(out: &mut [u8], log: &[u32], cell: usize, sized: bool) {
     if 87 <= out.len() {
         if 4 * (cell % 16) + 24 <= log.len() {
-            text::number(stored_writer::put_proof(out, log, cell % 16, 1) as u64);
+            text::number(stored_writer::put_proof(out, log, cell % 16, 1, sized) as u64);
         }
     }
 }
 
-fn two_rounds(out: &mut [u8], log: &[u32], cell: usize) {
+fn two_rounds(out: &mut [u8], log: &[u32], cell: usize, sized: bool) {
     if 200 <= out.len() {
         if 4 * (cell % 16) + 64 <= log.len() {
-            text::number(stored_writer::put_proof(out, log, cell % 16, 2) as u64);
+            text::number(stored_writer::put_proof(out, log, cell % 16, 2, sized) as u64);
         }
     }
 }
 
-fn three_rounds(out: &mut [u8], log: &[u32], cell: usize) {
+fn three_rounds(out: &mut [u8], log: &[u32], cell: usize, sized: bool) {
     if 361 <= out.len() {
         if 4 * (cell % 16) + 120 <= log.len() {
-            text::number(stored_writer::put_proof(out, log, cell % 16, 3) as u64);
+            text::number(stored_writer::put_proof(out, log, cell % 16, 3, sized) as u64);
         }
     }
 }
 
-fn write_rounds(rounds: u32, out: &mut [u8], log: &[u32], cell: usize) {
+fn write_rounds(rounds: u32, out: &mut [u8], log: &[u32], cell: usize, sized: bool) {
     match rounds {
-        1 => one_round(out, log, cell),
-        2 => two_rounds(out, log, cell),
-        3 => three_rounds(out, log, cell),
-        _ => no_rows(out),
+        1 => one_round(out, log, cell, sized),
+        2 => two_rounds(out, log, cell, sized),
+        3 => three_rounds(out, log, cell, sized),
+        _ => no_rows(out, sized),
     }
 }
 
-// The proof that stands in a log from a cell on, into the first bytes of a buffer: rounds, 0 for no rows, and the cell come first.
+// The proof that stands in a log from a cell on, into the first bytes of a buffer: rounds, 0 for no rows, the cell and the version come first.
 fn write_into(given: &[u32], out: &mut [u8], room: usize) {
-    if given.len() < 2 {
+    if given.len() < 3 {
         return;
     }
     if out.len() < room {
@@ -126,8 +136,9 @@ fn write_into(given: &[u32], out: &mut [u8], room: usize) {
     write_rounds(
         given[0],
         &mut out[..room],
-        &given[2..],
+        &given[3..],
         text::place(given[1]),
+        given[2] == 2,
     );
 }
 

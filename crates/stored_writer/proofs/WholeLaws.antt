@@ -1,6 +1,7 @@
 -- The whole proof, put together from the header, the front and the back; and the proof of no rows.
 -- Assumes nothing.
 use mathlib.Core.Path.{_≡_, refl, sym, _∙_, ap, ap₂, subst}
+use mathlib.Core.Bool.{Bool, false}
 use mathlib.Core.List.{List, [], _∷_, _++_, append-assoc}
 use Prim.Native.Nat.{ℕ, zero, suc, _+_, _*_, _-_, _%_, _<_, _≤_}
 use native.Mathlib.Nat.{mul-le-mul}
@@ -17,11 +18,14 @@ use Rattle.wire.specs.Words.{extWords}
 use Rattle.wire.specs.Written.{Wrote}
 use Rattle.wire.specs.WrittenLaws.{wrote-then, wrote-front}
 use Rattle.wire.specs.ByteLaws.{bytes-append}
-use Rattle.stored.specs.Layout.{cubicWords, claimWords, cubicsWords, claimsWords, entriesBytes, body, layout}
+use Rattle.stored.specs.Layout.{cubicWords, claimWords, cubicsWords, claimsWords, entriesBytes, body, versionOf, layout}
 use Rattle.stored.specs.Lengths.{upFrom, lengths, Rounds, proofSize, rounds-size}
 use Rattle.stored.specs.RoundTrip.{claims-size, cubics-size}
 use Rattle.stored_writer.specs.Messages.{storedCubic, storedClaims, storedPolys, storedLayers, storedEntries, storedProof, noRows, logWords}
 use Rattle.stored_writer.proofs.PutLaws.{layers-count, layers-length, entries-shape, entries-count}
+
+pub header-form : (l0 l1 l2 : List ℕ) (a b x v s : ℕ) → x ≡ v → Wrote l0 l1 0 a (x ∷ []) → Wrote l1 l2 a b (be4 s) → Wrote l0 l2 0 b (v ∷ be4 s)
+header-form l0 l1 l2 a b x v s e p q = subst (λ k. Wrote l0 l2 0 b (k ∷ be4 s)) e (wrote-then l0 l1 l2 0 a b (x ∷ []) (be4 s) p q)
 
 pub square-most : (n : ℕ) → 1 ≤ n → n < 256 → n * (n - 1) ≤ 64770
 square-most n g h = let a : n ≤ 255 = omega arith in let b : n - 1 ≤ 254 = omega arith in mul-le-mul a b
@@ -47,12 +51,12 @@ module _ (lg : List ℕ) (i n : ℕ) where
     shape : Rounds n (storedProof lg i (n - 1))
     shape = record { layers = omega (arith, layers-count lg (i + 6) 1 (n - 1)); subrounds = entries-shape lg (i + 6) 1 (n - 1) }
 
-    pub whole-size : length (layout (storedProof lg i (n - 1))) ≡ proofSize n
-    whole-size = rounds-size n (storedProof lg i (n - 1)) g shape
+    pub whole-size : (v : Bool) → length (layout v (storedProof lg i (n - 1))) ≡ proofSize n
+    whole-size v = rounds-size v n (storedProof lg i (n - 1)) g shape
 
     body-size : 5 + length (body (storedProof lg i (n - 1))) ≡ proofSize n
     unfolding layout
-    body-size = omega (arith, whole-size)
+    body-size = omega (arith, whole-size false)
 
     pub front-size : length front ≡ 64 * n + 17
     unfolding bytesOf
@@ -63,24 +67,24 @@ module _ (lg : List ℕ) (i n : ℕ) where
     pub back-size : length (entriesBytes (storedEntries lg (i + 6) 1 (n - 1))) + 1 + (64 * n + 17) + 5 ≡ proofSize n
     back-size = omega (arith, body-size, ap length body-form, length-append front back, front-size)
 
-    pub proof-form : (l0 l1 l2 l3 : List ℕ) (s a b c : ℕ) → s + 5 ≡ proofSize n → Wrote l0 l1 0 a (1 ∷ be4 s) → Wrote l1 l2 a b front → Wrote l2 l3 b c back
-        → (c ≡ proofSize n) × (l3 ≡ layout (storedProof lg i (n - 1)) ++ drop (proofSize n) l0)
+    pub proof-form : (v : Bool) (l0 l1 l2 l3 : List ℕ) (s a b c : ℕ) → s + 5 ≡ proofSize n → Wrote l0 l1 0 a (versionOf v ∷ be4 s) → Wrote l1 l2 a b front → Wrote l2 l3 b c back
+        → (c ≡ proofSize n) × (l3 ≡ layout v (storedProof lg i (n - 1)) ++ drop (proofSize n) l0)
     unfolding layout
-    proof-form l0 l1 l2 l3 s a b c z x y w =
+    proof-form v l0 l1 l2 l3 s a b c z x y w =
         let e : s ≡ length (body (storedProof lg i (n - 1))) = omega (arith, z, body-size) in
-        let p = wrote-then l0 l1 l2 0 a b (1 ∷ be4 s) front x y in
-        let q = wrote-then l0 l2 l3 0 b c ((1 ∷ be4 s) ++ front) back p w in
-        let f : ((1 ∷ be4 s) ++ front) ++ back ≡ layout (storedProof lg i (n - 1)) =
-        append-assoc (1 ∷ be4 s) front back ∙ ap₂ (λ (u : ℕ) (v : List ℕ). 1 ∷ (be4 u ++ v)) e body-form in
+        let p = wrote-then l0 l1 l2 0 a b (versionOf v ∷ be4 s) front x y in
+        let q = wrote-then l0 l2 l3 0 b c ((versionOf v ∷ be4 s) ++ front) back p w in
+        let f : ((versionOf v ∷ be4 s) ++ front) ++ back ≡ layout v (storedProof lg i (n - 1)) =
+        append-assoc (versionOf v ∷ be4 s) front back ∙ ap₂ (λ (k : ℕ) (l : List ℕ). versionOf v ∷ (be4 k ++ l)) e body-form in
         let t = subst (Wrote l0 l3 0 c) f q in
-        (omega (arith, t .ends, whole-size), wrote-front l0 l3 c (layout (storedProof lg i (n - 1))) t ∙ ap (λ k. layout (storedProof lg i (n - 1)) ++ drop k l0) whole-size)
+        (omega (arith, t .ends, whole-size v), wrote-front l0 l3 c (layout v (storedProof lg i (n - 1))) t ∙ ap (λ k. layout v (storedProof lg i (n - 1)) ++ drop k l0) (whole-size v))
 
-pub empty-form : (l0 l1 l2 l3 l4 : List ℕ) (a b c d : ℕ) → Wrote l0 l1 0 a (1 ∷ be4 18) → Wrote l1 l2 a b (bytesOf (extWords (record { c0 = 1; c1 = 0; c2 = 0; c3 = 0 })))
-    → Wrote l2 l3 b c (0 ∷ []) → Wrote l3 l4 c d (0 ∷ []) → (d ≡ 23) × (l4 ≡ layout noRows ++ drop 23 l0)
+pub empty-form : (v : Bool) (l0 l1 l2 l3 l4 : List ℕ) (a b c d : ℕ) → Wrote l0 l1 0 a (versionOf v ∷ be4 18) → Wrote l1 l2 a b (bytesOf (extWords (record { c0 = 1; c1 = 0; c2 = 0; c3 = 0 })))
+    → Wrote l2 l3 b c (0 ∷ []) → Wrote l3 l4 c d (0 ∷ []) → (d ≡ 23) × (l4 ≡ layout v noRows ++ drop 23 l0)
 unfolding layout bytesOf claimsWords entriesBytes E.one E.emb one of nil
-empty-form l0 l1 l2 l3 l4 a b c d x y z w =
+empty-form v l0 l1 l2 l3 l4 a b c d x y z w =
     let Q = bytesOf (extWords (record { c0 = 1; c1 = 0; c2 = 0; c3 = 0 })) in
-    let p = wrote-then l0 l1 l2 0 a b (1 ∷ be4 18) Q x y in
-    let q = wrote-then l0 l2 l3 0 b c ((1 ∷ be4 18) ++ Q) (0 ∷ []) p z in
-    let r = wrote-then l0 l3 l4 0 c d (((1 ∷ be4 18) ++ Q) ++ (0 ∷ [])) (0 ∷ []) q w in
-    (r .ends, wrote-front l0 l4 d (layout noRows) r)
+    let p = wrote-then l0 l1 l2 0 a b (versionOf v ∷ be4 18) Q x y in
+    let q = wrote-then l0 l2 l3 0 b c ((versionOf v ∷ be4 18) ++ Q) (0 ∷ []) p z in
+    let r = wrote-then l0 l3 l4 0 c d (((versionOf v ∷ be4 18) ++ Q) ++ (0 ∷ [])) (0 ∷ []) q w in
+    (r .ends, wrote-front l0 l4 d (layout v noRows) r)

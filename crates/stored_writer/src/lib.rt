@@ -8,7 +8,7 @@ ghost use Rattle.field.specs.Cells.{cell};
 ghost use Rattle.wire.specs.Bytes.{be4, bytesOf};
 ghost use Rattle.wire.specs.Words.{extWords};
 ghost use Rattle.wire.specs.Written.{Wrote};
-ghost use Rattle.stored.specs.Layout.{cubicWords, claimWords, cubicsWords, claimsWords, entriesBytes, layout};
+ghost use Rattle.stored.specs.Layout.{cubicWords, claimWords, cubicsWords, claimsWords, entriesBytes, versionOf, layout};
 ghost use Rattle.stored.specs.Lengths.{proofSize};
 ghost use Rattle.stored_writer.specs.Messages.{storedCubic, storedClaims, storedPolys, storedLayers, storedEntries, storedProof, noRows, logWords};
 use field::Base;
@@ -116,12 +116,22 @@ fn body_size(n: usize) -> u32
     17 + 65 * k + 24 * (k * (k - 1))
 }
 
-// The version, and the length of what follows.
-fn put_header(out: &mut [u8], size: u32) -> usize
-    requires { ⌜ 5 ≤ length (now out) ⌝ }
-    ensures { λ r. ⌜ Wrote (now (out .entry)) (now (out .exit)) 0 r (1 ∷ be4 size) ⌝ }
+// The version byte of a proof, by whether it binds its size.
+fn version(sized: bool) -> u8
+    ensures { λ r. ⌜ r ≡ versionOf sized ⌝ }
 {
-    let p = wire::put_byte(out, 0, 1);
+    if sized {
+        return 2;
+    }
+    1
+}
+
+// The version, and the length of what follows.
+fn put_header(out: &mut [u8], sized: bool, size: u32) -> usize
+    requires { ⌜ 5 ≤ length (now out) ⌝ }
+    ensures { λ r. ⌜ Wrote (now (out .entry)) (now (out .exit)) 0 r (versionOf sized ∷ be4 size) ⌝ }
+{
+    let p = wire::put_byte(out, 0, version(sized));
     wire::put_word(out, p, size)
 }
 
@@ -148,21 +158,21 @@ fn put_back(out: &mut [u8], at: usize, log: &[u32], i: usize, n: usize) -> usize
 }
 
 // The stored proof of a run over n rounds, whose log starts at cell i, to the front of the bytes.
-pub fn put_proof(out: &mut [u8], log: &[u32], i: usize, n: usize) -> usize
+pub fn put_proof(out: &mut [u8], log: &[u32], i: usize, n: usize, sized: bool) -> usize
     requires { ⌜ (1 ≤ n) × (n < 256) × (proofSize n ≤ length (now out)) × (4 * i + logWords n ≤ length (now log)) ⌝ }
-    ensures { λ r. ⌜ (r ≡ proofSize n) × (now (out .exit) ≡ layout (storedProof (now (log .entry)) i (n - 1)) ++ drop (proofSize n) (now (out .entry))) ⌝ }
+    ensures { λ r. ⌜ (r ≡ proofSize n) × (now (out .exit) ≡ layout sized (storedProof (now (log .entry)) i (n - 1)) ++ drop (proofSize n) (now (out .entry))) ⌝ }
 {
-    let a = put_header(out, body_size(n));
+    let a = put_header(out, sized, body_size(n));
     let b = put_front(out, a, log, i, n);
     put_back(out, b, log, i, n)
 }
 
 // The stored proof of no rows.
-pub fn put_no_rows(out: &mut [u8]) -> usize
+pub fn put_no_rows(out: &mut [u8], sized: bool) -> usize
     requires { ⌜ 23 ≤ length (now out) ⌝ }
-    ensures { λ r. ⌜ (r ≡ 23) × (now (out .exit) ≡ layout noRows ++ drop 23 (now (out .entry))) ⌝ }
+    ensures { λ r. ⌜ (r ≡ 23) × (now (out .exit) ≡ layout sized noRows ++ drop 23 (now (out .entry))) ⌝ }
 {
-    let a = put_header(out, 18);
+    let a = put_header(out, sized, 18);
     let b = put_element(out, a, Ext::ONE);
     let c = wire::put_byte(out, b, 0);
     wire::put_byte(out, c, 0)

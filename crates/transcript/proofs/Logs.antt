@@ -1,7 +1,7 @@
 -- Words written into the log, one step after the other.
 -- Assumes nothing.
 use mathlib.Core.Path.{_≡_, refl, sym, _∙_, ap, ap₂, subst}
-use mathlib.Core.Bool.{Bool}
+use mathlib.Core.Bool.{Bool, true, false, cond}
 use mathlib.Core.List.{List, [], _∷_, _++_, map}
 use Prim.Native.Nat.{ℕ, zero, suc, _+_, _*_, _-_, _^_, _<_, _≤_}
 use native.Mathlib.Nat.{mod-eq-of-lt}
@@ -23,7 +23,8 @@ use Rattle.shake.proofs.SpongeLaws.{holds-grown}
 use Rattle.transcript.specs.declared.Pos.{Pos}
 use Rattle.transcript.specs.declared.Drawn.{Drawn}
 use Rattle.transcript.specs.Source.{label, source}
-use Rattle.transcript.specs.Log.{Drawing, Enough, logOf, spongeOf, Steps}
+use Rattle.transcript.specs.Log.{Drawing, Enough, Observing, logOf, spongeOf, Steps}
+use Rattle.transcript.specs.Bound.{bound}
 
 abbrev pub four : List ℕ → ℕ → ℕ → ℕ → ℕ → ℕ → List ℕ
 four l put a b c d = set (set (set (set l put a) (put + 1) b) (put + 2) c) (put + 3) d
@@ -145,3 +146,15 @@ enough-after k i h s e = record {
 pub nothing-taken : (p : Pos) → p .blocks ≡ 0 → (m : List ℕ) → Holds (spongeOf (replicate 25 0) p) m
 unfolding absorbed
 nothing-taken p e m = record { within = omega (arith, e); state = ap (λ (k : ℕ). absorbed k m) (sym e) }
+
+-- THE SIZE, observed or not
+
+pub bound-not : (l : List ℕ) {ls : List ℕ} (p : Pos) (b : Bool) (n : ℕ) → b ≡ false → Steps l l ls ls p p (cond b 4 0) 0 (bound b n (logOf l p))
+bound-not l p b n h = rw h (no-steps l p)
+
+pub bound-so : (l l' : List ℕ) {ls ls' : List ℕ} (p : Pos) (b : Bool) (n : ℕ) (r : Pos) → b ≡ true → Steps l l' ls ls' p r 4 0 (Observing .observe (E.ext n 0 0 0) (logOf l p))
+    → Steps l l' ls ls' p r (cond b 4 0) 0 (bound b n (logOf l p))
+bound-so l l' p b n r h s = rw h s
+
+pub rounds-canon : (n : ℕ) → n < P → Canon (record { c0 = n; c1 = 0; c2 = 0; c3 = 0 })
+rounds-canon n h = record { c0 = h; c1 = omega arith; c2 = omega arith; c3 = omega arith }

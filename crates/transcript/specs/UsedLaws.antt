@@ -21,5 +21,7 @@ pub unmarked : (x : E.Ext) → sampled-words (words x) ≡ []
 unfolding sampled-words
 unmarked x =
     let c = canon-enc x in
-    passed-over (x .c0 .val) (x .c1 .val ∷ x .c2 .val ∷ x .c3 .val ∷ []) (c .c0) ∙ passed-over (x .c1 .val) (x .c2 .val ∷ x .c3 .val ∷ []) (c .c1)
-    ∙ passed-over (x .c2 .val) (x .c3 .val ∷ []) (c .c2) ∙ passed-over (x .c3 .val) [] (c .c3)
+    passed-over (x .c0 .val) (x .c1 .val ∷ x .c2 .val ∷ x .c3 .val ∷ []) (c .c0)
+    ∙ passed-over (x .c1 .val) (x .c2 .val ∷ x .c3 .val ∷ []) (c .c1)
+    ∙ passed-over (x .c2 .val) (x .c3 .val ∷ []) (c .c2)
+    ∙ passed-over (x .c3 .val) [] (c .c3)

@@ -1,5 +1,7 @@
 //! Lent buffers with a mark in every word and room to spare, so that what was written and what was not are both seen.
-use accudrina::{prove_into, rooms, row_words, verify_into, words_of, Claims, Done, Element, Fraction, Mode, Refusal, Rooms, Sum};
+use accudrina::{
+    prove_into, rooms, row_words, verify_into, words_of, Claims, Done, Element, Fraction, Mode, Refusal, Refused, Rooms, Sum, Used,
+};
 
 pub const BYTE: u8 = 0xa5;
 pub const WORD: u32 = 0xdead_beef;
@@ -40,12 +42,29 @@ impl Lent {
 
     pub fn prove_words(&mut self, rows: &[u32], mode: Mode, sum: Sum, challenges: &[u32]) -> Result<Done, Refusal> {
         let rooms = Rooms { proof: &mut self.proof, point: &mut self.point, log: &mut self.log, work: &mut self.work };
-        prove_into(rows, mode, sum, challenges, rooms)
+        let told = prove_into(rows, mode, sum, challenges, rooms);
+        self.seen(told.map(|d| (d, d.used)))
     }
 
     pub fn verify(&mut self, proof: &[u8], rounds: usize, mode: Mode, challenges: &[Element]) -> Result<Claims, Refusal> {
-        verify_into(proof, rounds, mode, &words_of(challenges), &mut self.point, &mut self.log)
+        let told = verify_into(proof, rounds, mode, &words_of(challenges), &mut self.point, &mut self.log);
+        self.seen(told.map(|v| (v.claims, v.used)))
     }
+
+    /// What was told as used up stands in the log before the marks.
+    fn seen<T>(&self, told: Result<(T, Used), Refused>) -> Result<T, Refusal> {
+        let (told, counted) = told.map_or_else(|r| (Err(r.refusal), r.used), |(t, u)| (Ok(t), u));
+        let written = self.log.iter().rposition(|&w| w != WORD).map_or(0, |last| last + 1);
+        assert_eq!(counted, used(&self.log[..written]));
+        told
+    }
+}
+
+/// What stands in a log: its words, and four sampled ones for each challenge.
+pub fn used(log: &[u32]) -> Used {
+    let sampled = log.iter().filter(|&w| w >> 31 == 1).count();
+    assert_eq!(sampled % 4, 0);
+    Used { challenges: sampled / 4, log_words: log.len() }
 }
 
 /// The words in front, and marks behind.

@@ -8,25 +8,25 @@ use Rattle.agreement.proofs.prove_and_verify.Tie as tie
 fractional-sumcheck-requires : tie.Need-fractional-sumcheck-requires
 fractional-sumcheck-requires c κs = search needs
 
-enum-known-rounds : tie.Need-enum-known-rounds
-enum-known-rounds c = search needs
+enum-known-answer : tie.Need-enum-known-answer
+enum-known-answer c = search needs
 
 proof-bytes-requires : tie.Need-proof-bytes-requires
-proof-bytes-requires c κs = done-few _ _ (c .before .before .before .before .before .before .before .before .before .before .before .fractional-sumcheck .ensures) (c .before .rounds .given .1)
+proof-bytes-requires c κs = done-few _ _ (c .before .before .before .before .before .before .before .before .before .before .before .before .fractional-sumcheck .ensures) (c .before .answer .given .1)
 
 slice-reshare-prefix-verify-gkr : tie.Need-slice-reshare-prefix-verify-gkr
-slice-reshare-prefix-verify-gkr c = done-there _ _ (c .before .before .before .before .before .before .before .before .before .before .before .before .fractional-sumcheck .ensures) (c .before .before .rounds .given .1) (c .proof-bytes .ensures) (c .before .before .before .before .before .before .before .before .before .before .before .before .fractional-sumcheck .kept .1 .1 .1 .0)
+slice-reshare-prefix-verify-gkr c = done-there _ _ (c .before .before .before .before .before .before .before .before .before .before .before .before .before .fractional-sumcheck .ensures) (c .before .before .answer .given .1) (c .proof-bytes .ensures) (c .before .before .before .before .before .before .before .before .before .before .before .before .before .fractional-sumcheck .kept .1 .1 .1 .0)
 
 slice-aggregate-verify-gkr : tie.Need-slice-aggregate-verify-gkr
 slice-aggregate-verify-gkr c =
-    let h = done-there _ _ (c .before .before .before .before .before .before .before .before .before .before .before .before .before .fractional-sumcheck .ensures) (c .before .before .before .rounds .given .1) (c .before .proof-bytes .ensures) (c .before .before .before .before .before .before .before .before .before .before .before .before .before .fractional-sumcheck .kept .1 .1 .1 .0) in
+    let h = done-there _ _ (c .before .before .before .before .before .before .before .before .before .before .before .before .before .before .fractional-sumcheck .ensures) (c .before .before .before .answer .given .1) (c .before .proof-bytes .ensures) (c .before .before .before .before .before .before .before .before .before .before .before .before .before .before .fractional-sumcheck .kept .1 .1 .1 .0) in
     all-taken _ _ h
 
 verify-gkr-requires : tie.Need-verify-gkr-requires
 verify-gkr-requires c κs = search needs
 
-enum-known-refusal : tie.Need-enum-known-refusal
-enum-known-refusal c = search needs
+enum-known-answer-2 : tie.Need-enum-known-answer-2
+enum-known-answer-2 c = search needs
 
 same-length : tie.Need-same-length
 same-length c = search needs
@@ -48,7 +48,7 @@ same-length-6 c = search needs
 
 returns : tie.Need-returns
 returns c =
-    let t = joined-proved _ _ _ _ (c .before .before .before .before .before .before .before .before .before .before .before .before .before .before .before .before .before .before .before .before .fractional-sumcheck .ensures) (c .before .before .before .before .before .before .before .before .before .before .rounds .given .1) (c .before .before .before .before .before .before .before .before .proof-bytes .ensures) (c .before .before .before .before .verify-gkr .ensures) in
+    let t = joined-proved _ _ _ _ (c .before .before .before .before .before .before .before .before .before .before .before .before .before .before .before .before .before .before .before .before .before .fractional-sumcheck .ensures) (c .before .before .before .before .before .before .before .before .before .before .answer .given .1) (c .before .before .before .before .before .before .before .before .proof-bytes .ensures) (c .before .before .before .before .verify-gkr .ensures) in
     (t, λ n h d a z r s. agrees _ _ _ _ _ t n h d a z r s)
 
 same-length-7 : tie.Need-same-length-7
@@ -64,19 +64,19 @@ same-length-10 : tie.Need-same-length-10
 same-length-10 c = search needs
 
 returns-2 : tie.Need-returns-2
-returns-2 c = let t = joined-refused _ _ _ _ (c .before .before .before .before .before .before .before .before .before .before .before .fractional-sumcheck .ensures) (c .before .refusal .given .1) in (t, λ n h d a z r s. agrees _ _ _ _ _ t n h d a z r s)
+returns-2 c = let t = joined-refused _ _ _ _ (c .before .before .before .before .before .before .before .before .before .before .before .before .fractional-sumcheck .ensures) (c .before .answer2 .given .1) in (t, λ n h d a z r s. agrees _ _ _ _ _ t n h d a z r s)
 
 pub prove-and-verify-spec : {M : Type 1} → statement M
 prove-and-verify-spec =
     tie.close
     (tie.spec
     fractional-sumcheck-requires
-    enum-known-rounds
+    enum-known-answer
     proof-bytes-requires
     slice-reshare-prefix-verify-gkr
     slice-aggregate-verify-gkr
     verify-gkr-requires
-    enum-known-refusal
+    enum-known-answer-2
     same-length
     same-length-2
     same-length-3

@@ -35,7 +35,7 @@ same-length c = search needs
 
 -- src/lib.rt:158:1
 returns : tie.Need-returns
-returns c = empty-form _ _ _ _ _ _ _ _ _ (c .before .before .before .before .before .before .before .before .before .before .before .before .before .before .put-header .ensures) (c .before .before .before .before .before .before .before .before .before .before .put-element .ensures) (c .before .before .before .before .before .before .put-byte .ensures) (c .before .before .put-byte2 .ensures)
+returns c = empty-form _ _ _ _ _ _ _ _ _ _ (c .before .before .before .before .before .before .before .before .before .before .before .before .before .before .put-header .ensures) (c .before .before .before .before .before .before .before .before .before .before .put-element .ensures) (c .before .before .before .before .before .before .put-byte .ensures) (c .before .before .put-byte2 .ensures)
 
 pub put-no-rows-spec : {M : Type 1} → statement M
 put-no-rows-spec =

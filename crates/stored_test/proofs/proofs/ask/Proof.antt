@@ -13,6 +13,7 @@ use Rattle.stored.proofs.first_bad_in_proof.Reads as first-bad-in-proof-reads
 use Rattle.stored.proofs.read_shape.Reads as read-shape-reads
 use Rattle.stored_test.proofs.number_of.Reads as number-of-reads
 use Rattle.stored_test.proofs.proofs.elements.Reads as elements-reads
+use Rattle.stored_test.proofs.proofs.version.Reads as version-reads
 use Rattle.stored_test.proofs.text.number.Reads as number-reads
 
 read-shape-requires : tie.Need-read-shape-requires
@@ -48,6 +49,9 @@ number-requires-6 c κs = search needs
 elements-requires : tie.Need-elements-requires
 elements-requires c κs = search needs
 
+version-requires : tie.Need-version-requires
+version-requires c κs = search needs
+
 enum-known-r : tie.Need-enum-known-r
 enum-known-r c = search needs
 
@@ -81,6 +85,7 @@ ask-spec =
     word-count-requires
     number-requires-6
     elements-requires
+    version-requires
     enum-known-r
     number-of-requires
     cast-number

@@ -40,6 +40,9 @@ shared-slice-read-place c = search needs
 place-requires : tie.Need-place-requires
 place-requires c κs = search needs
 
+shared-slice-read-write-rounds-2 : tie.Need-shared-slice-read-write-rounds-2
+shared-slice-read-write-rounds-2 c = search needs
+
 write-rounds-requires : tie.Need-write-rounds-requires
 write-rounds-requires c κs = search needs
 
@@ -63,6 +66,7 @@ write-into-spec =
     part-write-rounds-end
     shared-slice-read-place
     place-requires
+    shared-slice-read-write-rounds-2
     write-rounds-requires
     same-length
     returns-3)
