@@ -28,7 +28,7 @@ use Rattle.refusal.specs.TestLaws.{passed-all}
 use Rattle.sizes.specs.Sizes.{logRoom}
 use Rattle.stored.specs.Parse.{sized}
 use Rattle.verifier_round.specs.Verdicts.{Model, loggedBy}
-use Rattle.verifier.specs.Verified.{Asked, needed, sourceOf, tests, ended, fronts}
+use Rattle.verifier.specs.Verified.{Asked, Outcome, needed, sourceOf, tests, ended, fronts}
 use Rattle.log_replay.specs.Replayed.{Kept, kept, callOf, plain, ofRun, compared, same, told, replayed}
 use Rattle.log_replay.specs.Companions.{Held, Sampled, OneWord}
 use Rattle.log_replay.proofs.Comparing.{no-gap}
@@ -94,6 +94,9 @@ module _ (a : Asked) where
   left-at : (L : List ℕ) → Ran (sourceOf a) ran-by → L ≡ loggedBy (sourceOf a) ran-by → Gkr.log-after Extension (Drawing (sourceOf a)) (start a) ran-by .log ≡ L
   left-at L ran e = sym (e ∙ ap (λ (u : Words). u .log) (ran-left (sourceOf a) (start a) ran-by ran))
 
+still-ran : (x y : Outcome) → x ≡ y → ofRun (x .answer) ≡ true → ofRun (y .answer) ≡ true
+still-ran x y e h = sym (ap (λ o. ofRun (o .answer)) e) ∙ h
+
 pub one-word : OneWord
 one-word k point i w held h inside other held′ =
     let L = k .log in
@@ -107,9 +110,9 @@ one-word k point i w held h inside other held′ =
     let given = held-log k point held ran₀ in
     let q = some-rounds a L i inside (given ∙ ap (λ t. fronts a t .buffers .log) p) in
     let at = ended-at a q n logs p in
-    let ran : Ran (sourceOf a) (ran-by a) = sym (ap (λ o. ofRun (o .answer)) at) ∙ ran₀ in
+    let ran : Ran (sourceOf a) (ran-by a) = still-ran (plain k n) (ended (sourceOf a) (ran-by a)) at ran₀ in
     let at′ = ended-at a′ q n logs (let-through a n logs (set L i w) n p (wide a n logs p)) in
     let ran′ = both-ran (sourceOf a) (sourceOf a′) (a .rounds) (π a) (start a) ran in
-    let given′ = held-log k′ point held′ (ap (λ o. ofRun (o .answer)) at′ ∙ ran′) in
+    let given′ = held-log k′ point held′ (still-ran (ended (sourceOf a′) (ran-by a′)) (plain k′ n) (sym at′) ran′) in
     two-runs (k .modes .drawn) (needed a) (needed a′) (a .rounds) (π a) (start a) L i w
     (left-at a L ran (given ∙ ap (λ o. o .buffers .log) at)) (left-at a′ (set L i w) ran′ (given′ ∙ ap (λ o. o .buffers .log) at′)) inside other
