@@ -1,0 +1,8 @@
+-- What follows of a replay: the verifier's own log replays, and a log with another word does not.
+pub mod Comparing
+pub mod Values
+pub mod Runs
+pub mod Calls
+pub mod Sources
+pub mod Replays
+pub mod OneWord
