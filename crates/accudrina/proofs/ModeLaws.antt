@@ -8,7 +8,7 @@ use native.Mathlib.Nat.{div-eq-of-lt}
 use native.Mathlib.Omega.{arith}
 use borrow.Author.Tests.{eqb-true, eq-eqb, ne-eqb, leb-true, leb-false}
 use lib.Dec.{leb}
-use Rattle.refusal.specs.declared.Report.{Report}
+use Rattle.transcript.specs.Used.{unused}
 use Rattle.refusal.specs.declared.Proving.{Proving}
 use Rattle.refusal.specs.declared.Verifying.{Verifying}
 use Rattle.prover_gate.specs.Refusals.{call}
@@ -40,9 +40,9 @@ unfolding without
 left-alone bit modes test is = rw (sym test ∙ is)
 
 -- a word u of bits that are not taken is refused; with none, the run is what is answered
-pub refused-modes : {B : Type 0} {t : Told} {r : Report} {bits u : ℕ} (lent : B) (run : Returned B) → u ≡ bits → (u ≡ 0 → ⊥) → r ≡ unknownMode u → t ≡ tells r
+pub refused-modes : {B : Type 0} {t : Told} {bits u : ℕ} (lent : B) (run : Returned B) → u ≡ bits → (u ≡ 0 → ⊥) → t ≡ tells (unknownMode u) unused
     → _≡_ {A = Returned B} (record { told = t; buffers = lent }) (taking bits lent run)
-refused-modes {bits = bits} lent run e h r t = returned t (r ∙ ap unknownMode e) refl ∙ rw (ne-eqb bits 0 (λ z. h (e ∙ z)))
+refused-modes {bits = bits} lent run e h t = returned t (ap unknownMode e) refl refl ∙ rw (ne-eqb bits 0 (λ z. h (e ∙ z)))
 
 pub taken-modes : {B : Type 0} {bits u : ℕ} (lent : B) {run answer : Returned B} → u ≡ bits → u ≡ 0 → answer ≡ run → answer ≡ taking bits lent run
 taken-modes {bits = bits} lent e h a = a ∙ rw (eq-eqb bits 0 (sym e ∙ h))

@@ -1,17 +1,20 @@
--- What the three calls share: an answer told in words, beside the buffers.
+-- What the calls share: an answer and what was used up told in words, beside the buffers.
 -- Assumes nothing.
-use mathlib.Core.Path.{_≡_, ap, _∙_}
+use mathlib.Core.Path.{_≡_, ap₂, _∙_}
 use Prim.Native.Nat.{ℕ}
 use mathlib.Core.List.{[], _∷_, _++_}
 use Rattle.refusal.specs.declared.Report.{Report}
+use Rattle.transcript.specs.declared.Used.{Used}
 use Rattle.wire.specs.Words.{extWords}
 use Rattle.accudrina.specs.Answer.{Told, tells, fieldWord, answerWords}
 use Rattle.accudrina.specs.Calls.{Returned}
 
-pub returned : {B : Type 0} {t : Told} {r r′ : Report} {b b′ : B} → t ≡ tells r → r ≡ r′ → b ≡ b′ → _≡_ {A = Returned B} (record { told = t; buffers = b }) (record { told = tells r′; buffers = b′ })
-returned t r b = λ i. record { told = (t ∙ ap tells r) i; buffers = b i }
+pub returned : {B : Type 0} {t : Told} {r r′ : Report} {u u′ : Used} {b b′ : B} → t ≡ tells r u → r ≡ r′ → u ≡ u′ → b ≡ b′
+    → _≡_ {A = Returned B} (record { told = t; buffers = b }) (record { told = tells r′ u′; buffers = b′ })
+returned t r u b = λ i. record { told = (t ∙ ap₂ tells r u) i; buffers = b i }
 
--- words with the three plain fields in their places are the answer's
-pub told : (r : Report) {x y z : ℕ} → x ≡ fieldWord (r .first) → y ≡ fieldWord (r .second) → z ≡ fieldWord (r .third) → record { number = r .number; words = r .number ∷ x ∷ y ∷ z ∷ (extWords (r .left) ++ (extWords (r .right) ++ (0 ∷ 0 ∷ 0 ∷ 0 ∷ []))) } ≡ tells r
+-- words with the plain fields and the counts in their places are the answer's
+pub told : (r : Report) (u : Used) {x y z c w : ℕ} → x ≡ fieldWord (r .first) → y ≡ fieldWord (r .second) → z ≡ fieldWord (r .third) → c ≡ fieldWord (u .challenges) → w ≡ fieldWord (u .words)
+    → record { number = r .number; words = r .number ∷ x ∷ y ∷ z ∷ (extWords (r .left) ++ (extWords (r .right) ++ (c ∷ w ∷ 0 ∷ 0 ∷ []))) } ≡ tells r u
 unfolding answerWords
-told r x y z = λ i. record { number = r .number; words = r .number ∷ x i ∷ y i ∷ z i ∷ (extWords (r .left) ++ (extWords (r .right) ++ (0 ∷ 0 ∷ 0 ∷ 0 ∷ []))) }
+told r u x y z c w = λ i. record { number = r .number; words = r .number ∷ x i ∷ y i ∷ z i ∷ (extWords (r .left) ++ (extWords (r .right) ++ (c i ∷ w i ∷ 0 ∷ 0 ∷ []))) }

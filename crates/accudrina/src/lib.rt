@@ -53,8 +53,10 @@ fn prove_taken(
         (lent (now (proof .entry)) (now (point .entry)) (now (log .entry)) (now (work .entry))) ⌝ }
 {
     let proved = prover::fractional_sumcheck(rows, modes, challenges, proof, point, log, work);
-    let report = prover::number_and_values(proved.answer);
-    answer::tell(report, proved.used, answer)
+    let found = proved.answer;
+    let report = prover::number_and_values(found);
+    let used = proved.used;
+    answer::tell(report, used, answer)
 }
 
 // A sheet's proof, point and log: the number 0, the rounds and the sum, or the refusal with its fields; first of all 28, the bits of the modes that are not taken.
@@ -95,8 +97,10 @@ fn verify_taken(
         ≡ verifyingTaken (asked (now (proof .entry)) rounds modes (now (challenges .entry))) (again (now (point .entry)) (now (log .entry))) ⌝ }
 {
     let verified = verifier::verify_gkr(proof, rounds, modes, challenges, point, log);
-    let report = verifier_round::number_and_values(verified.verdict);
-    answer::tell(report, verified.used, answer)
+    let verdict = verified.verdict;
+    let report = verifier_round::number_and_values(verdict);
+    let used = verified.used;
+    answer::tell(report, used, answer)
 }
 
 // What the verifier says of a proof: the number 0 and both claims at the point written, or the refusal with its fields; first of all 28, the bits of the modes that are not taken.

@@ -10,6 +10,7 @@ use Rattle.field.specs.ExtRing.{arithmetic}
 use Rattle.field.specs.Element.{pointWords}
 use Rattle.field.specs.Cells.{cell}
 use Rattle.gkr.specs.Compute.{model, el, minus, frac}
+use Rattle.transcript.specs.Used.{used}
 use Rattle.refusal.specs.Tests.{firstOf}
 use Rattle.wire.specs.Words.{allCanonical}
 use Rattle.wire.specs.Bytes.{bytesOf, word}
@@ -90,7 +91,7 @@ K3-met live again =
       for-verifier = for-verifier again;
     }
 
-claims : (live again : Bool) → handed (in-mode live K3) (record { live = again; drawn = false; empty = false }) n (proves (in-mode live K3) (room n)) (room-again n) .told ≡ done 0 (frac (minus 25) (el 1))
+claims : (live again : Bool) → handed (in-mode live K3) (record { live = again; drawn = false; empty = false }) n (proves (in-mode live K3) (room n)) (room-again n) .told ≡ done 0 (frac (minus 25) (el 1)) (used 4 64)
 unfolding model arithmetic cell allCanonical bytesOf word claimsWords cubicsWords polysWords entriesBytes layout claimsFrom cubicsFrom entriesFrom entriesFit fits overZero roundsFrom isSize shortRoom degenerate lowest firstOf firstRefusal pointWords Prover.fronts Prover.proved Verifier.verified answerWords has without
 claims true true = refl
 claims true false = refl
@@ -104,4 +105,4 @@ sum = refl
 pub K3-accepted : K3Accepted
 K3-accepted live again =
     let e = demand-3-exported (in-mode live K3) (record { live = again; drawn = false; empty = false }) n (room n) (room-again n) (K3-met live again .premises) in
-    record { exchanged = e; proved = e .proved ∙ ap (done n) sum; accepted = claims live again }
+    record { exchanged = e; proved = e .proved ∙ ap (λ f. done n f (used 4 64)) sum; accepted = claims live again }

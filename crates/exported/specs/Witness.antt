@@ -4,6 +4,7 @@ use mathlib.Core.Path.{_≡_}
 use mathlib.Core.Bool.{Bool, false}
 use Prim.Native.Nat.{ℕ}
 use Rattle.gkr.specs.Compute.{el, minus, frac}
+use Rattle.transcript.specs.Used.{used}
 use Rattle.refusal.specs.declared.Verifying.{Verifying}
 use Rattle.prover_gate.specs.Refusals.{Call}
 use Rattle.prover.specs.Companions.{in-mode}
@@ -21,11 +22,11 @@ pub record Met (c : Call) (how : Verifying) : Type 0 where
   pub for-prover : ForProver (asked (c .rows)) (wordOf c) (c .challenges) (room n)
   pub for-verifier : ForVerifier (asked (c .rows)) (wordAgain how) (c .challenges) (room-again n)
 
--- both calls return 0; the prover's words say two rounds and the sum 0/1, the verifier's the claims −25 and 1
+-- both calls return 0; the prover's words say two rounds and the sum 0/1, the verifier's the claims −25 and 1, and both that four challenges were used up and 64 words logged
 pub record Accepted (c : Call) (how : Verifying) : Type 0 where
   pub exchanged : let P = proves c (room n) in Exchanged c n (room n) (room-again n) P (handed c how n P (room-again n))
-  pub proved : proves c (room n) .told ≡ done n (frac (el 0) (el 1))
-  pub accepted : handed c how n (proves c (room n)) (room-again n) .told ≡ done 0 (frac (minus 25) (el 1))
+  pub proved : proves c (room n) .told ≡ done n (frac (el 0) (el 1)) (used 4 64)
+  pub accepted : handed c how n (proves c (room n)) (room-again n) .told ≡ done 0 (frac (minus 25) (el 1)) (used 4 64)
 
 abbrev pub K3Met : Type 0
 K3Met = (live again : Bool) → Met (in-mode live K3) (record { live = again; drawn = false; empty = false })

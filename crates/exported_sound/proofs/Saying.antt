@@ -18,7 +18,7 @@ use Rattle.exported_sound.proofs.Telling.{taken, accepted-told, evaluat
 
 -- the call took all its modes
 runs : (h : Handed) (v : Lent) (rows : List ℕ) → Checked h v rows → returned h v ≡ verifyingTaken (call h) v
-runs h v rows c = taken (untaken verifyingBits (h .modes)) v (verifyingTaken (call h) v) 0 (c .claims) (c .accepted)
+runs h v rows c = taken (untaken verifyingBits (h .modes)) v (verifyingTaken (call h) v) 0 (c .claims) (c .spent) (c .accepted)
 
 -- so the call that it makes is checked against the sheet
 checked : (h : Handed) (v : Lent) (rows : List ℕ) → Checked h v rows → Verdict.Checked (call h) v rows
@@ -28,7 +28,7 @@ checked h v rows c =
       some = c .some;
       numer = enc (c .claims .p);
       denom = enc (c .claims .q);
-      accepted = accepted-told _ (c .claims) (sym (ap (λ r. r .told) e) ∙ c .accepted);
+      accepted = accepted-told _ (c .claims) _ (c .spent) (sym (ap (λ r. r .told) e) ∙ c .accepted);
       valued = evaluated-told rows _ (h .rounds) (c .claims) (sym (ap (λ r. evaluating rows (take (point-words (h .rounds)) (r .buffers .point))) e) ∙ c .valued);
     }
 

@@ -15,6 +15,8 @@ use Rattle.field.specs.Cells.{cells}
 use Rattle.field.specs.declared.Ext.{Ext}
 use Rattle.gkr.specs.Run.{Frac}
 use Rattle.gkr.specs.Tree as Tree
+use Rattle.transcript.specs.declared.Used.{Used}
+use Rattle.transcript.specs.Used.{unused}
 use Rattle.refusal.specs.declared.Refusal.{Refusal}
 use Rattle.refusal.specs.declared.Refusal.the-variants.{RaggedRows, TooManyRows, NotPowerOfTwo, ShortChallenges, ShortRoom, BadWord, ZeroDenominator, NonZeroRootSum, SingleRow, ZeroRounds, TooManyRounds, BadVersion, BadLength, IncorrectLayerCount, IncorrectSumcheckPolyCount, ZeroCheckFailed, RootConsistencyCheckFailed, IncorrectSubroundCount, LayerConsistencyCheckFailed, InvalidZeroRoundValue, ZeroRoot}
 use Rattle.refusal.specs.Numbers.{elements, reportOf}
@@ -62,11 +64,11 @@ not-zero (InvalidZeroRoundValue actual) h = omega (arith, h)
 not-zero ZeroRoot h = omega (arith, h)
 
 -- nor has 28
-pub taken : {B : Type 0} (bits : ℕ) (lent : B) (run : Returned B) (k : ℕ) (f : Frac E.Ext) → taking bits lent run .told ≡ done k f → taking bits lent run ≡ run
-taken {B} bits lent run k f h = go (eqb bits 0) refl
+pub taken : {B : Type 0} (bits : ℕ) (lent : B) (run : Returned B) (k : ℕ) (f : Frac E.Ext) (u : Used) → taking bits lent run .told ≡ done k f u → taking bits lent run ≡ run
+taken {B} bits lent run k f u h = go (eqb bits 0) refl
   where
     other : Returned B
-    other = record { told = tells (unknownMode bits); buffers = lent }
+    other = record { told = tells (unknownMode bits) unused; buffers = lent }
 
     go : (t : Bool) → eqb bits 0 ≡ t → taking bits lent run ≡ run
     go true e = ap (λ t. cond t run other) e
@@ -74,8 +76,8 @@ taken {B} bits lent run k f h = go (eqb bits 0) refl
 
 -- THE WORDS OF TWO ELEMENTS
 
-module _ (n k : ℕ) (p q : Ext) (f : Frac E.Ext) (h : tells (elements 0 n p q) ≡ done k f) where
-  word : (i : ℕ) → getD (tells (elements 0 n p q) .words) i 0 ≡ getD (done k f .words) i 0
+module _ (n k : ℕ) (p q : Ext) (f : Frac E.Ext) (u u′ : Used) (h : tells (elements 0 n p q) u ≡ done k f u′) where
+  word : (i : ℕ) → getD (tells (elements 0 n p q) u .words) i 0 ≡ getD (done k f u′ .words) i 0
   word i = ap (λ t. getD (t .words) i 0) h
 
   pub first-told : p ≡ enc (f .p)
@@ -92,12 +94,12 @@ module _ (n k : ℕ) (p q : Ext) (f : Frac E.Ext) (h : tells (elements 0 n p q) 
 
 -- WHAT WAS ANSWERED
 
-pub accepted-told : (x : Verdict) (f : Frac E.Ext) → tells (verdictReport x) ≡ done 0 f → x ≡ Accepted (enc (f .p)) (enc (f .q))
-accepted-told (Accepted p q) f h = λ i. Accepted (first-told 0 0 p q f h i) (second-told 0 0 p q f h i)
-accepted-told (Refused e) f h = absurd (not-zero e (ap (λ t. t .number) h))
+pub accepted-told : (x : Verdict) (f : Frac E.Ext) (u u′ : Used) → tells (verdictReport x) u ≡ done 0 f u′ → x ≡ Accepted (enc (f .p)) (enc (f .q))
+accepted-told (Accepted p q) f u u′ h = λ i. Accepted (first-told 0 0 p q f u u′ h i) (second-told 0 0 p q f u u′ h i)
+accepted-told (Refused e) f u u′ h = absurd (not-zero e (ap (λ t. t .number) h))
 
-done-told : (x : Evaluation) (k : ℕ) (f : Frac E.Ext) → ((n : ℕ) (p q : Ext) → x ≡ Done n p q → n ≤ 10) → tells (evaluationReport x) ≡ done k f → x ≡ Done k (enc (f .p)) (enc (f .q))
-done-told (Done n p q) k f few h = λ i. Done (field-told n k p q f h (few n p q refl) i) (first-told n k p q f h i) (second-told n k p q f h i)
+done-told : (x : Evaluation) (k : ℕ) (f : Frac E.Ext) → ((n : ℕ) (p q : Ext) → x ≡ Done n p q → n ≤ 10) → tells (evaluationReport x) unused ≡ done k f unused → x ≡ Done k (enc (f .p)) (enc (f .q))
+done-told (Done n p q) k f few h = λ i. Done (field-told n k p q f unused unused h (few n p q refl) i) (first-told n k p q f unused unused h i) (second-told n k p q f unused unused h i)
 done-told (Ends.Refused e) k f few h = absurd (not-zero e (ap (λ t. t .number) h))
 
 -- an evaluation has at most ten rounds
@@ -116,5 +118,5 @@ few-told rows point n p q h = by-tests (firstOf (tests rows point)) h
     by-tests (refused r) e = absurd (not-done n p q r e)
     by-tests passed e = by-rows (eqb (rowCount rows) 0) e
 
-pub evaluated-told : (rows point : List ℕ) (k : ℕ) (f : Frac E.Ext) → evaluating rows point ≡ done k f → evaluated rows point ≡ Done k (enc (f .p)) (enc (f .q))
+pub evaluated-told : (rows point : List ℕ) (k : ℕ) (f : Frac E.Ext) → evaluating rows point ≡ done k f unused → evaluated rows point ≡ Done k (enc (f .p)) (enc (f .q))
 evaluated-told rows point k f h = done-told (evaluated rows point) k f (few-told rows point) h

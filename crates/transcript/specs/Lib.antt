@@ -4,4 +4,5 @@ pub mod Log
 pub mod Bound
 pub mod Used
 pub mod UsedLaws
+pub mod BoundLaws
 pub mod LogLaws

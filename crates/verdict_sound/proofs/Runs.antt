@@ -25,6 +25,7 @@ use Rattle.gkr.specs.Tests.{fail}
 use Rattle.gkr.specs.VerifierCount.{accepted-point}
 use Rattle.soundness.specs.Challenges.{Accepts}
 use Rattle.transcript.specs.Log.{Drawing}
+use Rattle.transcript.specs.Used.{unused}
 use Rattle.refusal.specs.Fronts.{over}
 use Rattle.refusal.specs.Tests.{Tested, passed, refused, firstOf}
 use Rattle.refusal.specs.declared.Refusal.{Refusal}
@@ -113,7 +114,7 @@ module _ (a : Asked) (b : Lent) where
   unfolding verified
   laid-run some p q h =
       ap (λ w. laid (fronts a w) b) (opened p q h)
-      ∙ ap (λ x. laid x b) (fail (eqb (a .rounds) 0) (outcome (emptied (firstOf (emptyTests (a .proof)))) [] []) (ended (sourceOf a) run) (ne-eqb (a .rounds) 0 (λ e. none (a .rounds) e some)))
+      ∙ ap (λ x. laid x b) (fail (eqb (a .rounds) 0) (outcome (emptied (firstOf (emptyTests (a .proof)))) unused [] []) (ended (sourceOf a) run) (ne-eqb (a .rounds) 0 (λ e. none (a .rounds) e some)))
 
   -- the log left has the run's at its front
   pub log-left : 1 ≤ a .rounds → (p q : Ext) → verified a b .answer ≡ Accepted p q → verified a b .buffers .log ≡ over (loggedBy (sourceOf a) run) (b .log)

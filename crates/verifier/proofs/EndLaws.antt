@@ -91,6 +91,7 @@ ready-of a pt lg k points o drawn q h em ke r c =
     let l : length (take k (a .challenges)) ≡ k = length-take-le k (a .challenges) (omega (arith, g .chals, ke)) in
     record {
       some = some-rounds (a .rounds) (a .modes .empty) em (g .some);
+      few = g .few;
       shaped = h .shaped;
       canon = g .canon;
       room = omega (arith, g .few);

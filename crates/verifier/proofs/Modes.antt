@@ -85,7 +85,7 @@ module _ (a : Asked) (b : Lent) where
   root-of : front ≡ passed → ZeroRooted a → root ≡ true
   root-of p r =
       let m = passed-all (tests (in-mode false a) points logs) p in
-      let s = fits-reads (a .proof) (eqb-true _ 1 (not-false _ (m .1 .1 .1 .1 .0))) (not-false _ (m .1 .1 .1 .1 .1 .0)) in
+      let s = fits-reads (a .proof) (not-false _ (m .1 .1 .1 .0)) (not-false _ (m .1 .1 .1 .1 .1 .0)) in
       let z = root-there (a .proof) (omega (arith, s .room)) ∙ same-of _ E.nil (r .q0) in
       rw (ne-eqb (a .rounds) 0 (λ e. omega (arith, r .some)), eq-eqb _ _ (r .layers), eq-eqb _ _ (r .entries)) z
 

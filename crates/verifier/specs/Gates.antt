@@ -15,6 +15,7 @@ use Rattle.transcript.specs.declared.Used.{Used}
 use Rattle.transcript.specs.Log.{Drawing}
 use Rattle.transcript.specs.Bound.{bound}
 use Rattle.transcript.specs.Used.{usedAt}
+use Rattle.refusal.specs.Limits.{maxRounds}
 use Rattle.refusal.specs.declared.Verifying.{Verifying}
 use Rattle.refusal.specs.declared.Refusal.the-variants.{BadWord, ZeroRoot}
 use Rattle.refusal.specs.declared.Words.the-variants.{Proof, Challenges}
@@ -66,6 +67,7 @@ Gated a points logs (Shut e) = firstOf (tests a points logs) ≡ refused e
 -- what the run asks
 pub record Ready (bs pt lg ch : List ℕ) (drawn : Bool) (n : ℕ) (o : Outline) : Type 0 where
   pub some : 1 ≤ n
+  pub few : n ≤ maxRounds
   pub shaped : Shaped bs o
   pub canon : allCanonical (proofWords (proofOf bs)) ≡ true
   pub room : 4 * n ≤ length pt

@@ -6,14 +6,11 @@ use Rattle.accudrina.proofs.accudrina_prove.Tie as tie
 untaken-by-prover-requires : tie.Need-untaken-by-prover-requires
 untaken-by-prover-requires c κs = search needs
 
-unknown-mode-requires : tie.Need-unknown-mode-requires
-unknown-mode-requires c κs = search needs
-
-tell-requires : tie.Need-tell-requires
-tell-requires c κs = search needs
+refuse-modes-requires : tie.Need-refuse-modes-requires
+refuse-modes-requires c κs = search needs
 
 returns : tie.Need-returns
-returns c = refused-modes _ _ (c .before .before .before .before .untaken-by-prover .ensures) (c .before .before .before .if1 .taken) (c .before .before .unknown-mode .ensures) (c .tell .ensures)
+returns c = refused-modes _ _ (c .before .before .before .untaken-by-prover .ensures) (c .before .before .if1 .taken) (c .refuse-modes .ensures)
 
 proving-requires : tie.Need-proving-requires
 proving-requires c κs = search needs
@@ -45,8 +42,7 @@ accudrina-prove-spec =
     tie.close
     (tie.spec
     untaken-by-prover-requires
-    unknown-mode-requires
-    tell-requires
+    refuse-modes-requires
     returns
     proving-requires
     prove-taken-requires

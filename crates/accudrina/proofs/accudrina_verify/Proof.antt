@@ -6,14 +6,11 @@ use Rattle.accudrina.proofs.accudrina_verify.Tie as tie
 untaken-by-verifier-requires : tie.Need-untaken-by-verifier-requires
 untaken-by-verifier-requires c κs = search needs
 
-unknown-mode-requires : tie.Need-unknown-mode-requires
-unknown-mode-requires c κs = search needs
-
-tell-requires : tie.Need-tell-requires
-tell-requires c κs = search needs
+refuse-modes-requires : tie.Need-refuse-modes-requires
+refuse-modes-requires c κs = search needs
 
 returns : tie.Need-returns
-returns c = refused-modes _ _ (c .before .before .before .before .untaken-by-verifier .ensures) (c .before .before .before .if1 .taken) (c .before .before .unknown-mode .ensures) (c .tell .ensures)
+returns c = refused-modes _ _ (c .before .before .before .untaken-by-verifier .ensures) (c .before .before .if1 .taken) (c .refuse-modes .ensures)
 
 verifying-requires : tie.Need-verifying-requires
 verifying-requires c κs = search needs
@@ -39,8 +36,7 @@ accudrina-verify-spec =
     tie.close
     (tie.spec
     untaken-by-verifier-requires
-    unknown-mode-requires
-    tell-requires
+    refuse-modes-requires
     returns
     verifying-requires
     verify-taken-requires

@@ -28,8 +28,8 @@ same-length-4 c = search needs
 
 returns : tie.Need-returns
 returns c =
-    let proved = c .before .before .before .before .before .before .before .before .before .before .before .fractional-sumcheck .ensures in
-    returned (c .tell .ensures) (c .before .before .number-and-values .ensures ∙ ap (λ e. answerReport (e .answer)) proved) (ap (λ e. e .buffers) proved)
+    let proved = c .before .before .before .before .before .before .before .before .before .before .before .before .fractional-sumcheck .ensures in
+    returned (c .tell .ensures) (c .before .before .before .number-and-values .ensures ∙ ap (λ e. answerReport (e .answer)) proved) (ap (λ e. e .used) proved) (ap (λ e. e .buffers) proved)
 
 pub prove-taken-spec : {M : Type 1} → statement M
 prove-taken-spec =

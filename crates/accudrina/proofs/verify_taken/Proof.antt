@@ -22,8 +22,8 @@ same-length-2 c = search needs
 
 returns : tie.Need-returns
 returns c =
-    let verdict = c .before .before .before .before .before .before .before .verify-gkr .ensures in
-    returned (c .tell .ensures) (c .before .before .number-and-values .ensures ∙ ap (λ e. verdictReport (e .answer)) verdict) (ap (λ e. e .buffers) verdict)
+    let verdict = c .before .before .before .before .before .before .before .before .verify-gkr .ensures in
+    returned (c .tell .ensures) (c .before .before .before .number-and-values .ensures ∙ ap (λ e. verdictReport (e .answer)) verdict) (ap (λ e. e .used) verdict) (ap (λ e. e .buffers) verdict)
 
 pub verify-taken-spec : {M : Type 1} → statement M
 verify-taken-spec =
