@@ -39,6 +39,7 @@ extern "C" {
 #define ACCUDRINA_LIVE UINT32_C(1)        /* prover: a row with q = 0 is refused as 7; verifier: a proof whose q0 is 0, as 27 */
 #define ACCUDRINA_ASSERT_ZERO UINT32_C(2) /* prover: a sum whose p is not 0 is refused as 8 */
 #define ACCUDRINA_DRAWN UINT32_C(4)       /* both: challenges are drawn from the log, and those lent are not read */
+#define ACCUDRINA_SIZED UINT32_C(8)       /* prover: the new proof has version 2, and binds its size; the verifier goes by a proof's first byte */
 #define ACCUDRINA_EMPTY UINT32_C(16)      /* verifier: 0 rounds are valid, and not refused as 10 */
 
 /* The results, with the fields of each: plain ones in [1] to [3], elements in [4] to [7] and [8] to [11]. */
@@ -55,7 +56,7 @@ enum accudrina_result {
     ACCUDRINA_SINGLE_ROW = 9,                        /* one row, not refused as 8 */
     ACCUDRINA_ZERO_ROUNDS = 10,                      /* the verifier was given 0 rounds, without ACCUDRINA_EMPTY */
     ACCUDRINA_TOO_MANY_ROUNDS = 11,                  /* more than 10 */
-    ACCUDRINA_BAD_VERSION = 12,                      /* no first byte, or not 1 */
+    ACCUDRINA_BAD_VERSION = 12,                      /* no first byte, or no version: 1 of a sheet, 1 or 2 of a proof */
     ACCUDRINA_BAD_LENGTH = 13,                       /* a stored length or count disagrees with the bytes, or a point with the rows */
     ACCUDRINA_INCORRECT_LAYER_COUNT = 14,            /* plain: expected, actual */
     ACCUDRINA_INCORRECT_SUMCHECK_POLY_COUNT = 15,    /* plain: expected, actual */
@@ -85,7 +86,8 @@ size_t accudrina_rounds(size_t rows);
 size_t accudrina_proof_bytes(size_t rounds);
 /* The words of the point, four for each round. */
 size_t accudrina_point_words(size_t rounds);
-/* The words of the log: four more without ACCUDRINA_ASSERT_ZERO; other bits are not looked at. The verifier's is that with it. */
+/* The words of the log: four more without ACCUDRINA_ASSERT_ZERO, four more with ACCUDRINA_SIZED; other bits are not looked at; 0 for no
+ * rounds. The verifier asks with ASSERT_ZERO, and with SIZED for a proof of version 2. */
 size_t accudrina_log_words(size_t rounds, uint32_t modes);
 /* The words of the prover's workspace. */
 size_t accudrina_workspace_words(size_t rounds);
@@ -102,7 +104,8 @@ uint32_t accudrina_read_sheet(const uint8_t *sheet, size_t sheet_len,
 /* Proves the sum of the rows, with the challenges given or drawn; those past the needed ones are not read.
  * Modes. LIVE: a row with q = 0 is refused as 7, 0/0 too; an unused row is 0/1. Otherwise all rows are taken, and one row 0/0 makes
  * the whole sum 0/0. ASSERT_ZERO: a sum whose p is not 0 is refused as 8; otherwise p is put into the log. DRAWN: no challenges are needed,
- * and none that are lent are read.
+ * and none that are lent are read. SIZED: the proof has version 2, and the element n, the words n 0 0 0, goes into the log before anything else
+ * and so into every drawn challenge; otherwise version 1, whose log does not say how many rounds it belongs to. No rows: only the version byte.
  * Done: the rounds in [1], the sum's p in [4] to [7] and q in [8] to [11]. The proof, the point and the log (the top bit is set in a
  * word that was sampled) stand at the front of their buffers; the needed words of work are 0.
  * Refused as the first that fits of 28, 1 to 9: proof, point and log are as they were; work too, but for 8, which leaves its needed
@@ -116,7 +119,7 @@ uint32_t accudrina_prove(const uint32_t *rows, size_t rows_len,
                          uint32_t *work, size_t work_len,
                          uint32_t answer[ACCUDRINA_ANSWER_WORDS]);
 
-/* Verifies a proof that the sum of 2^rounds rows is zero. proof_len is the proof's exact length.
+/* Verifies a proof, of version 1 or 2, that the sum of 2^rounds rows is zero. proof_len is the proof's exact length.
  * Modes. LIVE: a proof whose q0, the sum's denominator, is 0 is refused as 27. Otherwise that is no reason to refuse, and such a proof
  * says nothing about the rows: q0 is the first element, in the proof's bytes 5 to 20. DRAWN: as in the prover.
  * EMPTY: 0 rounds are valid, for a sheet with no rows: both counts must be 0 and q0 must be 1; accepted, the claims are 0 and 1, and nothing
@@ -126,7 +129,7 @@ uint32_t accudrina_prove(const uint32_t *rows, size_t rows_len,
  * point, which accudrina_evaluate answers.
  * Of a proof that accudrina_prove wrote with ASSERT_ZERO, given the same challenges or both DRAWN, it is proved that it is accepted, that the claims are
  * these values, and that point and log equal the prover's; LIVE that is so where no row has q = 0, and so where the prover was LIVE too.
- * Refused as the first that fits of 28, 10, 11, 4, 5, 12, 13, 6, 14, 15, 22 (0 rounds), 27, then 16 to 19 as the run meets them: the point is as it was;
+ * Refused as the first that fits of 28, 10, 11, 4, 12, 5, 13, 6, 14, 15, 22 (0 rounds), 27, then 16 to 19 as the run meets them: the point is as it was;
  * so is the log, but for 16 to 19, which leave what the run observed and sampled until then, [13] words of it. */
 uint32_t accudrina_verify(const uint8_t *proof, size_t proof_len,
                           size_t rounds, uint32_t modes,

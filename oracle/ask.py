@@ -58,11 +58,16 @@ def source(modes, challenges):
     return "drawn" if modes & m.DRAWN else words(challenges)
 
 
+def prove_command(rows, modes, asserted, challenges):
+    """A proof binds its size where `sized` follows; of the verifier's the version byte says so."""
+    return f"prove {int(asserted)} {words(rows)} {source(modes, challenges)}{' sized' if modes & m.SIZED else ''}"
+
+
 def command(code, a):
     """What the Rust is asked for a case, with the lists as they are, or None where it has no such call."""
     name = FORMS[code][1]
     if code == 40:
-        return f"prove {int(a[1])} {words(a[2])} {source(a[0], a[3])}"
+        return prove_command(a[2], a[0], a[1], a[3])
     if code == 50:
         return f"verify {a[0]} {bytes(a[2]).hex() or '-'} {source(a[1], a[3])}"
     if code in (60, 70):

@@ -17,7 +17,7 @@ WORDS = {
     9: "SingleRow: a sheet of one row has no round to prove",
     10: "ZeroRounds: a proof of 0 rounds is not verified",
     11: "TooManyRounds: more than 10 rounds",
-    12: "BadVersion: the first byte is missing, or is not 1",
+    12: "BadVersion: the first byte is missing, or is no version: 1 of a sheet, 1 or 2 of a proof",
     13: "BadLength: a stored length or count disagrees with the bytes that are there",
     14: "IncorrectLayerCount: the number of layers in the proof: expected %s, actual %s",
     15: "IncorrectSumcheckPolyCount: the number of polynomial entries in the proof: expected %s, actual %s",
@@ -143,7 +143,7 @@ def show(files, sheet):
 
 def prove(files, sheet, proof, modes, asserted, challenges):
     rows = rows_of(files, sheet)
-    o = m.outcome(40, [modes, asserted, rows, challenges_of(files, modes, challenges), 2832, 40, 964, 32768, 0])
+    o = m.outcome(40, [modes, asserted, rows, challenges_of(files, modes, challenges), 2832, 40, 968, 32768, 0])
     if o.no:
         raise Refused(refusal(o))
     files[proof] = bytes(o.fronts[0])
@@ -172,7 +172,7 @@ def compare(files, sheet, rounds, point, claims):
 def verify(files, proof, rounds, modes, challenges, sheet):
     if len(files[proof]) > PROOF:
         raise Refused("refused: %s has more than %d bytes, and a proof of 10 rounds has 2832" % (proof, PROOF))
-    o = m.outcome(50, [rounds, modes, files[proof], challenges_of(files, modes, challenges), 40, 960, 0])
+    o = m.outcome(50, [rounds, modes, files[proof], challenges_of(files, modes, challenges), 40, 964, 0])
     if o.no:
         read = m.read_proof(files[proof])
         raise Refused(refusal(o, None if isinstance(read, int) else (len(read[1]), [len(entry) for entry in read[2]])), used_line(o))
@@ -186,7 +186,7 @@ def run(files, line):
     """What a command line of known words prints; `size NAME` tells the bytes of a file."""
     name, *args = line.split(" ")
     challenges, sheet = (args[args.index(option) + 1] if option in args else None for option in ("--challenges", "--sheet"))
-    modes = sum(bit for option, bit in (("--live", m.LIVE), ("--drawn", m.DRAWN), ("--empty", m.EMPTY)) if option in args)
+    modes = sum(bit for option, bit in (("--live", m.LIVE), ("--drawn", m.DRAWN), ("--sized", m.SIZED), ("--empty", m.EMPTY)) if option in args)
     try:
         if name == "size":
             return ["bytes %d" % len(files[args[0]]) if args[0] in files else "no such file"]

@@ -31,7 +31,7 @@ def verifier(make):
             yield case(f"prefix of {k} bytes, length repaired", 0, repaired(NONE[:k]), [])
     yield case("a byte more: 13", 0, NONE + [0], [])
     yield case("a byte more, length repaired: 13", 0, repaired(NONE + [0]), [])
-    yield case("version 2: 12", 0, [2] + NONE[1:], [])
+    yield case("version 129: 12", 0, [129] + NONE[1:], [])
     for at in range(5, 21, 4):
         yield case(f"proof word at byte {at} is the prime: 6", 0, NONE[:at] + m.word_bytes(P) + NONE[at + 4:], [])
     yield case("a bad word and a layer: 6", 0, m.write_proof((P, 0, 0, 0), [[m.ONE] * 4], []), [])

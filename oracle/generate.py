@@ -9,7 +9,7 @@ TOP = (1 << 32) - 1
 EDGE = [0, 1, 2, P - 1]
 BAD = [P, P + 1, 1 << 31, TOP]
 # The longest lists and buffers of a case, by its arguments, for programs that read them into arrays (lists of poly: 8,200).
-LARGEST = {40: (5, 1, 16400, 320, 2900, 48, 1000, 32800), 50: ((1 << 64) - 1, 21, 16400, 320, 48, 1000), 60: (65600, 16400), 70: (16400, 48)}
+LARGEST = {40: (13, 1, 16400, 320, 2900, 48, 1000, 32800), 50: ((1 << 64) - 1, 21, 16400, 320, 48, 1000), 60: (65600, 16400), 70: (16400, 48)}
 
 
 def within(code, a):
@@ -112,25 +112,25 @@ class Make:
         if self.r.random() < 0.003:
             rows = [1] * 8 * self.r.choice([m.ROWS + 1, 2 * m.ROWS, self.r.randrange(m.ROWS, 2 * m.ROWS)])
         modes, asserted = self.r.randrange(2), self.r.randrange(2)
-        modes |= self.r.choice([0, m.DRAWN])
+        modes |= self.r.choice([0, m.DRAWN]) | self.r.choice([0, m.SIZED])
         count = len(rows) // 8
         n = count.bit_length() - 1 if m.power_of_two(count) and count <= m.ROWS else 0
         needed = self.spoil(self.challenges(n), 0.04)
         challenges = (needed + [self.r.choice(BAD + EDGE) for _ in range(self.r.randrange(0, 6))])[:self.near(len(needed) + 4, 0.05)]
         return 40, [modes, asserted, self.spoil(rows, 0.04), challenges, self.near(m.proof_bytes(n), 0.03),
-                    self.near(4 * n, 0.03), self.near(m.log_words(n, asserted), 0.03), self.near(m.work_words(n), 0.03),
-                    self.filler()]
+                    self.near(4 * n, 0.03), self.near(m.log_words(n, asserted, modes & m.SIZED), 0.03),
+                    self.near(m.work_words(n), 0.03), self.filler()]
 
     def honest(self, sizes, modes=0):
         """(n, proof, challenges) of an honest run for each n, by the Rust; the challenges are those that stand in its log."""
         made = [([w for p, q in self.rows(n, self.r.choice(["pairs", "last"])) for w in (*p, *q)], self.challenges(n)) for n in sizes]
-        said = [ask.parts(s) for s in ask.replies([f"prove 1 {ask.words(rows)} {ask.source(modes, c)}" for rows, c in made])]
+        said = [ask.parts(s) for s in ask.replies([ask.prove_command(rows, modes, 1, c) for rows, c in made])]
         return [(n, ask.unhex(s["proof"]), sampled(ask.unwords(s["log"]))) for n, s in zip(sizes, said)]
 
     def verify(self, honest, modes=0):
         n, proof, challenges = honest
         proof, challenges, rounds = list(proof), list(challenges), n
-        kind = self.r.randrange(20)
+        kind = self.r.randrange(21)
         if kind < 8:
             proof = self.damage(proof)
         elif kind < 12:
@@ -143,9 +143,11 @@ class Make:
             challenges = self.spoil(challenges, 1)
         elif kind == 16:
             challenges = challenges[:self.near(len(challenges), 0.5)]
+        elif kind == 17:
+            proof[0] = self.r.choice([0, 1, 2, 2, 3, 255])
         challenges += [self.r.choice(BAD + EDGE) for _ in range(self.r.choice([0, 0, 1, 4]))]
         size = rounds if rounds <= m.ROUNDS else 1
-        rooms = [self.near(4 * size, 0.02), self.near(m.log_words(size), 0.02), self.filler()]
+        rooms = [self.near(4 * size, 0.02), self.near(m.log_words(size, True, m.is_sized(proof)), 0.02), self.filler()]
         live = self.r.randrange(2)
         if live and self.r.random() < 0.1:
             proof[5:21] = [0] * len(proof[5:21])
@@ -153,7 +155,7 @@ class Make:
 
     def damage(self, proof):
         """A proof that keeps the layout, with one to three things wrong."""
-        q0, layers, polys = m.read_proof(proof)
+        (q0, layers, polys), version = m.read_proof(proof), proof[0]
         layers, polys = [list(l) for l in layers], [[list(s) for s in e] for e in polys]
         for _ in range(self.r.choice([1, 1, 1, 2, 3])):
             kind = self.r.randrange(11)
@@ -180,7 +182,7 @@ class Make:
                 word = list(layer[0])
                 word[self.r.randrange(4)] = self.r.choice(BAD + EDGE)
                 layer[0] = tuple(word)
-        return m.write_proof(q0, layers, polys)
+        return m.write_proof(q0, layers, polys, version)
 
     def change_count(self, things, extra):
         if things and self.r.randrange(2):
@@ -284,8 +286,7 @@ def random_cases(kind, count, random):
     make = Make(random)
     if kind == "verifier":
         sizes = [max(1, make.size()) for _ in range(max(1, count // 4))]
-        honest = [(0, run) for run in make.honest(sizes)]
-        honest += [(m.DRAWN, run) for run in make.honest(sizes, m.DRAWN)]
+        honest = [(modes & m.DRAWN, run) for modes in (0, m.DRAWN, m.SIZED, m.DRAWN | m.SIZED) for run in make.honest(sizes, modes)]
         chosen = [random.choice(honest) for _ in range(count)]
         # One in ten is verified in the mode that it was not proved in.
         return [make.verify(run, modes ^ random.choice([m.DRAWN] + [0] * 9)) for modes, run in chosen]

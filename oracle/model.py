@@ -11,7 +11,7 @@ from hashlib import shake_128
 P = 2013265921
 ROWS, ROUNDS = 1024, 10
 SAMPLED = 1 << 31
-LIVE, DRAWN, EMPTY = 1, 4, 16
+LIVE, DRAWN, SIZED, EMPTY = 1, 4, 8, 16
 ROW_WORDS, PROOF_WORDS, CHALLENGE_WORDS, POINT_WORDS = 1, 2, 3, 4
 LABEL = b"frac-gkr/1"
 HALF, SIXTH = 1006632961, 1677721601
@@ -179,6 +179,11 @@ def used_up(ts):
     return ts.challenges, len(ts.log)
 
 
+def observe_size(ts, n):
+    """The element n, before anything else, of a proof that binds its size."""
+    ts.observe(const(n))
+
+
 def observe_root(ts, p, q, asserted):
     ts.observe(*([q] if asserted else [p, q]))
 
@@ -187,10 +192,15 @@ def new_point(mu, rhos):
     return [mu] + rhos
 
 
-def fractional_sumcheck(rows, asserted, source):
-    """Outcome 0 or 8 for 2^n rows, n >= 1, or none; fronts: proof, point, log, workspace."""
+def version(modes):
+    """Of a new proof: 2 where it binds its size."""
+    return 2 if modes & SIZED else 1
+
+
+def fractional_sumcheck(rows, asserted, source, modes=0):
+    """Outcome 0 or 8 for 2^n rows, n >= 1, or none; fronts: proof, point, log, workspace. Of the modes the version is taken."""
     if not rows:
-        return Outcome(0, [0], [ZERO, ONE], [write_proof(ONE, [], []), [], [], []])
+        return Outcome(0, [0], [ZERO, ONE], [write_proof(ONE, [], [], version(modes)), [], [], []])
     n = len(rows).bit_length() - 1
     wiped = [0] * work_words(n)
     tree = fraction_tree(rows)
@@ -198,6 +208,8 @@ def fractional_sumcheck(rows, asserted, source):
     if asserted and p != ZERO:
         return Outcome(8, fronts=[[], [], [], wiped])
     ts = Transcript(source)
+    if modes & SIZED:
+        observe_size(ts, n)
     observe_root(ts, p, q, asserted)
     layers, polys, point = [], [], []
     for r in range(n):
@@ -219,7 +231,7 @@ def fractional_sumcheck(rows, asserted, source):
         layers.append(claims)
         if r > 0:
             polys.append(entry)
-    return Outcome(0, [n], [p, q], [write_proof(q, layers, polys), flat(point), ts.log, wiped], used_up(ts))
+    return Outcome(0, [n], [p, q], [write_proof(q, layers, polys, version(modes)), flat(point), ts.log, wiped], used_up(ts))
 
 
 def cross(claims):
@@ -235,8 +247,8 @@ def root_checks(q0, p, q):
     return None
 
 
-def verify_gkr(proof, n, source):
-    """Outcome 0 or 14 to 19; fronts: point, log."""
+def verify_gkr(proof, n, source, sized=False):
+    """Outcome 0 or 14 to 19; fronts: point, log. The size is bound by a proof of version 2."""
     if n == 0:
         return Outcome(0, [], [ZERO, ONE], [[], []])
     q0, layers, polys = proof
@@ -245,6 +257,8 @@ def verify_gkr(proof, n, source):
     if len(polys) != n - 1:
         return Outcome(15, [n - 1, len(polys)])
     ts = Transcript(source)
+    if sized:
+        observe_size(ts, n)
     ts.observe(q0, *layers[0])
     failed = root_checks(q0, *cross(layers[0]))
     point, claims = [], layers[0]
@@ -294,21 +308,30 @@ def word_bytes(w):
     return list(w.to_bytes(4, "big"))
 
 
-def write_proof(q0, layers, polys):
+def write_proof(q0, layers, polys, version=1):
     out = flat_bytes([q0]) + [len(layers)] + [b for l in layers for b in flat_bytes(l)] + [len(polys)]
     for entry in polys:
         out += [len(entry)] + [b for s in entry for b in flat_bytes(s)]
-    return [1] + word_bytes(len(out)) + out
+    return [version] + word_bytes(len(out)) + out
 
 
 def flat_bytes(es):
     return [b for w in flat(es) for b in word_bytes(w)]
 
 
+def known(data):
+    """Whether the first byte is a version."""
+    return bytes(data[:1]) in (b"\1", b"\2")
+
+
+def is_sized(data):
+    return bytes(data[:1]) == b"\2"
+
+
 def read_proof(data):
-    """12, 13, or (q0, layers, polys) with words of any size."""
+    """12, 13, or (q0, layers, polys) with words of any size, of either version."""
     data = bytes(data)
-    if data[:1] != b"\1":
+    if not known(data):
         return 12
     if len(data) < 5 or int.from_bytes(data[1:5], "big") != len(data) - 5:
         return 13
@@ -346,8 +369,8 @@ def needed(modes, n):
     return 0 if modes & DRAWN else challenge_words(n)
 
 
-def log_words(n, asserted=True):
-    return 8 * n * n + 16 * n + (0 if asserted or not n else 4)
+def log_words(n, asserted=True, sized=False):
+    return 8 * n * n + 16 * n + (4 * (not asserted) + 4 * bool(sized) if n else 0)
 
 
 def proof_bytes(n):
@@ -394,7 +417,8 @@ def prove_refusal(modes, asserted, rows, challenges, proof, point, log, work):
     fractions = elements(rows)
     no = first(*row_tests(rows),
                (4, lambda: len(challenges) < needed(modes, n)),
-               (5, lambda: proof < proof_bytes(n) or point < 4 * n or log < log_words(n, asserted) or work < work_words(n)))
+               (5, lambda: proof < proof_bytes(n) or point < 4 * n or log < log_words(n, asserted, modes & SIZED)
+                or work < work_words(n)))
     if no:
         return Outcome(no)
     six = bad_word((ROW_WORDS, rows), (CHALLENGE_WORDS, challenges[:needed(modes, n)]))
@@ -410,7 +434,7 @@ def prove_refusal(modes, asserted, rows, challenges, proof, point, log, work):
 
 def verify_refusal(n, modes, proof, challenges, point, log):
     no = first((10, lambda: n == 0 and not modes & EMPTY), (11, lambda: n > ROUNDS), (4, lambda: len(challenges) < needed(modes, n)),
-               (5, lambda: point < 4 * n or log < log_words(n)))
+               (12, lambda: not known(proof)), (5, lambda: point < 4 * n or log < log_words(n, True, is_sized(proof))))
     if no:
         return Outcome(no)
     read = read_proof(proof)
@@ -542,9 +566,9 @@ def run(code, a):
         return Outcome(0, [], round_sums(a[0], [elements(c) for c in a[1:]]))
     if code == 40:
         rows = elements(a[2])
-        return fractional_sumcheck(list(zip(rows[::2], rows[1::2])), a[1], source(a[0], a[3]))
+        return fractional_sumcheck(list(zip(rows[::2], rows[1::2])), a[1], source(a[0], a[3]), a[0])
     if code == 50:
-        return verify_gkr(read_proof(a[2]), a[0], source(a[1], a[3]))
+        return verify_gkr(read_proof(a[2]), a[0], source(a[1], a[3]), is_sized(a[2]))
     if code == 70:
         return evaluate(elements(a[0]), elements(a[1]))
     raise ValueError(code)

@@ -48,12 +48,12 @@ def short_prover():
     for words, c in itertools.product(range(42), [0, 3, 4, 15, 16, 17]):
         yield 40, [0, 0, [2] * words, [3] * c, 200, 8, 68, 128, 6]
     row = [1, 0, 0, 0, 2, 0, 0, 0], [P - 1, 0, 0, 0, 2, 0, 0, 0]
-    for count, live, asserted in itertools.product([0, 1, 2, 4], (0, 1), (0, 1)):
+    for count, modes, asserted in itertools.product([0, 1, 2, 4], (0, 1, m.SIZED, m.SIZED | m.DRAWN), (0, 1)):
         rows, n = (row[0] + row[1]) * 2, {0: 0, 1: 0, 2: 1, 4: 2}[count]
-        sizes = [m.proof_bytes(n), 4 * n, m.log_words(n, asserted), m.work_words(n)]
+        sizes = [m.proof_bytes(n), 4 * n, m.log_words(n, asserted, modes & m.SIZED), m.work_words(n)]
         for by in itertools.product((-1, 0, 1), repeat=4):
             rooms = [max(0, s + d) for s, d in zip(sizes, by)]
-            yield 40, [live, asserted, rows[:8 * count], [4] * m.challenge_words(n), *rooms, 5]
+            yield 40, [modes, asserted, rows[:8 * count], [4] * m.challenge_words(n), *rooms, 5]
     kinds = [(0, 0), (0, 1), (1, 0), (1, 1), (P - 1, 1)]
     for count in (1, 2, 4):
         for rows in itertools.product(kinds, repeat=count):
@@ -67,6 +67,8 @@ def short_prover():
 def short_verifier():
     for proof in strings([0, 1, 2, 255], range(4)) + strings([0, 1], range(4, 8)):
         yield 50, [1, len(proof) & 1, proof, [5, 0, 0, 0], 4, 24, 7]
+    for version, modes, point, log in itertools.product(range(256), (0, m.DRAWN), (3, 4), (0, 23, 24, 27, 28)):
+        yield 50, [1, modes, [version] + K2_PROOF[1:], [5, 0, 0, 0], point, log, 7]
     for k in range(len(K2_PROOF) + 1):
         yield 50, [1, k & 1, K2_PROOF[:k], [5, 0, 0, 0], 4, 24, 7]
         yield 50, [1, k & 1, repaired(K2_PROOF[:k]), [5, 0, 0, 0], 4, 24, 7]

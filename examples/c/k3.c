@@ -1,4 +1,4 @@
-/* Proves and verifies 1/1 + 2/1 - 1/1 - 2/1 = 0, prints the claims on the sheet and the point, and compares them with the sheet: with supplied challenges, as document 01 has it, and with challenges drawn from the log, live. */
+/* Proves and verifies 1/1 + 2/1 - 1/1 - 2/1 = 0, prints the claims on the sheet and the point, and compares them with the sheet: with supplied challenges, as document 01 has it, and as a service should: live, with challenges drawn from the log, and a proof that binds its size. */
 #include "accudrina.h"
 #include <stdio.h>
 #include <string.h>
@@ -11,9 +11,9 @@ static void print(const char *name, const char *what, const uint32_t *e) {
 static int run(const char *name, const char *space, const uint32_t rows[32], uint32_t proving, uint32_t verifying,
                const uint32_t *challenges, size_t words) {
     uint8_t proof[200];
-    uint32_t point[8], log[64], work[128], answer[ACCUDRINA_ANSWER_WORDS], own[ACCUDRINA_ANSWER_WORDS]; /* accudrina_proof_bytes(2), .. */
-    if (accudrina_prove(rows, 32, proving, challenges, words, proof, 200, point, 8, log, 64, work, 128, answer) ||
-        accudrina_verify(proof, 200, 2, verifying, challenges, words, point, 8, log, 64, answer)) {
+    uint32_t point[8], log[68], work[128], answer[ACCUDRINA_ANSWER_WORDS], own[ACCUDRINA_ANSWER_WORDS]; /* accudrina_proof_bytes(2), .. */
+    if (accudrina_prove(rows, 32, proving, challenges, words, proof, 200, point, 8, log, 68, work, 128, answer) ||
+        accudrina_verify(proof, 200, 2, verifying, challenges, words, point, 8, log, 68, answer)) {
         printf("refused %u\n", (unsigned)answer[0]);
         return 1;
     }
@@ -40,5 +40,5 @@ int main(void) {
         challenges[4 * i] = supplied[i];
     }
     return run("", "", rows, modes, 0, challenges, 16) ||
-           run("drawn ", "      ", rows, modes | ACCUDRINA_DRAWN, ACCUDRINA_LIVE | ACCUDRINA_DRAWN, challenges, 0);
+           run("drawn ", "      ", rows, modes | ACCUDRINA_DRAWN | ACCUDRINA_SIZED, ACCUDRINA_LIVE | ACCUDRINA_DRAWN, challenges, 0);
 }

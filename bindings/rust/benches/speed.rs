@@ -1,5 +1,5 @@
 //! The best time of many calls over lent buffers, wiping, checks and log included; buffers are made and cleared before the clock starts.
-use accudrina::{prove_into, rooms, verify_into, Mode, Rooms, Sum, PRIME};
+use accudrina::{prove_into, rooms, verify_into, Mode, Rooms, Sum, Version, PRIME};
 use std::{hint::black_box, time::Instant};
 
 /// Microseconds of the fastest of many calls.
@@ -34,7 +34,7 @@ fn main() {
     for n in [1, 2, 4, 6, 8, 10] {
         let (rows, challenges) = (zero_sum(n), words(99, rooms::challenge_words(n)));
         let mut proof = vec![0; rooms::proof_bytes(n)];
-        let (mut point, mut log) = (vec![0; rooms::point_words(n)], vec![0; rooms::log_words(n, Sum::AssertZero)]);
+        let (mut point, mut log) = (vec![0; rooms::point_words(n)], vec![0; rooms::log_words(n, Sum::AssertZero, Version::One)]);
         let mut work = vec![0; rooms::workspace_words(n)];
         let proving = best(2000, || {
             let lent = Rooms { proof: &mut proof, point: &mut point, log: &mut log, work: &mut work };

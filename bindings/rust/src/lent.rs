@@ -1,7 +1,7 @@
 //! The calls over lent buffers, as C has them. They ask nothing of a slice: any content and any length gets an answer.
 use crate::{
     ffi,
-    modes::{self, Challenges, Mode, Sum, Verifying},
+    modes::{self, Challenges, Proving, Sum, Verifying},
     Element, Fraction, Refusal, Refused, Used,
 };
 
@@ -61,13 +61,13 @@ pub fn read_sheet_into(sheet: &[u8], rows: &mut [u32]) -> Result<usize, Refusal>
 /// Proves the rows, eight words each, with challenges that are drawn or given, four words each.
 pub fn prove_into<'a>(
     rows: &[u32],
-    mode: Mode,
+    how: impl Into<Proving>,
     sum: Sum,
     challenges: impl Into<Challenges<'a, u32>>,
     rooms: Rooms<'_>,
 ) -> Result<Done, Refused> {
     let challenges = challenges.into();
-    let modes = modes::proving(mode, sum, challenges);
+    let modes = modes::proving(how.into(), sum, challenges);
     let lent = challenges.lent();
     let mut answer = [0; 16];
     // Safe: as in `read_sheet_into`.

@@ -19,7 +19,7 @@ mod used;
 
 pub use element::{elements_of, row_words, words_of, Element, Fraction, PRIME};
 pub use lent::{evaluate_words, prove_into, read_sheet_into, verify_into, Claims, Done, Evaluated, Rooms, Verified};
-pub use modes::{Challenges, Mode, Sum, Verifying};
+pub use modes::{Challenges, Mode, Proving, Sum, Verifying, Version};
 pub use owned::{evaluate, prove, read_sheet, verify, Accepted, Proved};
 pub use refusal::{Refusal, Words};
 pub use used::{Refused, Used};

@@ -14,6 +14,45 @@ impl Mode {
     pub fn or_empty(self) -> Verifying {
         Verifying { mode: self, empty: true }
     }
+
+    /// The same for a prover whose proof binds its size: version 2. A verifier goes by the proof's own version.
+    pub fn sized(self) -> Proving {
+        Proving { mode: self, version: Version::Two }
+    }
+}
+
+/// The version of a proof, which is its first byte.
+#[derive(Clone, Copy, Debug, PartialEq, Eq)]
+pub enum Version {
+    /// Its log does not say how many rounds it belongs to.
+    One,
+    /// It binds its size: the number of rounds is observed before anything else, and so goes into every drawn challenge. The log is four words longer.
+    Two,
+}
+
+impl Version {
+    /// Of a stored proof; bytes of no known version, which are refused whatever the room, are taken for the first.
+    pub fn of(proof: &[u8]) -> Self {
+        if proof.first() == Some(&2) {
+            Version::Two
+        } else {
+            Version::One
+        }
+    }
+}
+
+/// How a sheet is proved. A [`Mode`] alone is taken for a proof of version 1.
+#[derive(Clone, Copy, Debug, PartialEq, Eq)]
+pub struct Proving {
+    pub mode: Mode,
+    /// Of the new proof.
+    pub version: Version,
+}
+
+impl From<Mode> for Proving {
+    fn from(mode: Mode) -> Self {
+        Proving { mode, version: Version::One }
+    }
 }
 
 /// How a proof is verified. A [`Mode`] alone is taken for one in which 0 rounds are refused.
@@ -86,6 +125,7 @@ impl<'a, T> Challenges<'a, T> {
 const LIVE: u32 = 1;
 const ASSERT_ZERO: u32 = 2;
 const DRAWN: u32 = 4;
+const SIZED: u32 = 8;
 const EMPTY: u32 = 16;
 
 /// The word of the verifier's modes.
@@ -96,17 +136,15 @@ pub(crate) fn verifying<T>(how: Verifying, challenges: Challenges<'_, T>) -> u32
 }
 
 /// The word of the prover's modes.
-pub(crate) fn proving<T>(mode: Mode, sum: Sum, challenges: Challenges<'_, T>) -> u32 {
-    verifying(mode.into(), challenges) | summing(sum)
+pub(crate) fn proving<T>(how: Proving, sum: Sum, challenges: Challenges<'_, T>) -> u32 {
+    verifying(how.mode.into(), challenges) | logging(sum, how.version)
 }
 
 /// What of it the room for the log looks at.
-pub(crate) fn summing(sum: Sum) -> u32 {
-    if sum == Sum::AssertZero {
-        ASSERT_ZERO
-    } else {
-        0
-    }
+pub(crate) fn logging(sum: Sum, version: Version) -> u32 {
+    let asserted = if sum == Sum::AssertZero { ASSERT_ZERO } else { 0 };
+    let sized = if version == Version::Two { SIZED } else { 0 };
+    asserted | sized
 }
 
 #[cfg(test)]
@@ -114,7 +152,7 @@ mod tests {
     use super::*;
     use crate::{ffi, Refusal};
 
-    const UNKNOWN: [u32; 10] = [8, 24, 32, 48, 64, 1 << 30, 1 << 31, 9, 12, u32::MAX];
+    const UNKNOWN: [u32; 8] = [24, 32, 48, 64, 1 << 30, 1 << 31, 33, u32::MAX];
 
     /// The call's number and answer over four marked buffers, which are as before; the answer was marked too.
     fn prove(rows: &[u32], modes: u32) -> (u32, ffi::Answer) {
@@ -180,10 +218,12 @@ mod tests {
         let zero_sum = [1, 0, 0, 0, 2, 0, 0, 0, crate::PRIME - 1, 0, 0, 0, 2, 0, 0, 0];
         for modes in [16, 17].into_iter().chain(UNKNOWN) {
             for rows in [&zero_sum[..], &zero_sum[..7], &[]] {
-                assert_eq!(prove(rows, modes), told(modes & !7));
+                assert_eq!(prove(rows, modes), told(modes & !15));
             }
         }
-        assert_eq!([0, 1, 2, 3, 4, 5, 6, 7].map(|modes| prove(&zero_sum, modes).0), [0; 8]);
+        for modes in 0..16 {
+            assert_eq!(prove(&zero_sum, modes).0, 0);
+        }
     }
 
     #[test]
@@ -191,7 +231,7 @@ mod tests {
         let half = |p| crate::Fraction::new(crate::Element::new(p), crate::Element::new(2));
         let rows = [half(1), half(crate::PRIME - 1)];
         let proof = crate::prove(&rows, Mode::Live, Sum::AssertZero, &[crate::Element::new(5)]).unwrap().proof;
-        for modes in [2, 3, 6, 7, 18].into_iter().chain(UNKNOWN) {
+        for modes in [2, 3, 6, 7, 8, 9, 12, 18].into_iter().chain(UNKNOWN) {
             for (bytes, rounds) in [(&proof[..], 1), (&[], 1), (&proof[..], 0), (&proof[..], 11)] {
                 assert_eq!(verify(bytes, rounds, modes), told(modes & !21));
             }
@@ -204,10 +244,11 @@ mod tests {
     }
 
     #[test]
-    fn room_for_the_log_looks_at_one_bit() {
-        for modes in [0, 1, 2, 3, 4, 5, 6, 7].into_iter().chain(UNKNOWN) {
+    fn room_for_the_log_looks_at_two_bits() {
+        for modes in (0..16).chain(UNKNOWN) {
             let asked = [0, 1, 2, 10, 11].map(|n| unsafe { ffi::accudrina_log_words(n, modes) });
-            assert_eq!(asked, if modes & 2 == 2 { [0, 24, 64, 960, 0] } else { [0, 28, 68, 964, 0] });
+            let more = if modes & 2 == 2 { 0 } else { 4 } + if modes & 8 == 8 { 4 } else { 0 };
+            assert_eq!(asked, [0, 24 + more, 64 + more, 960 + more, 0]);
         }
     }
 }

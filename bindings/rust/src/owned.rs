@@ -2,7 +2,7 @@
 use crate::{
     element::{elements_of, row_words, words_of},
     lent::{evaluate_words, prove_into, read_sheet_into, verify_into, Claims, Rooms, Verified},
-    modes::{Challenges, Mode, Sum, Verifying},
+    modes::{Challenges, Proving, Sum, Verifying, Version},
     rooms, Element, Fraction, Refusal, Refused, Used,
 };
 
@@ -48,26 +48,32 @@ pub fn read_sheet(sheet: &[u8]) -> Result<Vec<Fraction>, Refusal> {
     Ok(elements.chunks_exact(2).map(|e| Fraction::new(e[0], e[1])).collect())
 }
 
-/// A proof of the rows. A sum whose q is zero is proved too, and says nothing about the rows: look at [`Proved::sum`].
-pub fn prove<'a>(rows: &[Fraction], mode: Mode, sum: Sum, challenges: impl Into<Challenges<'a, Element>>) -> Result<Proved, Refused> {
-    let n = rooms::rounds(rows.len());
+/// A proof of the rows. A sum whose q is zero is proved too, and says nothing about the rows: look at [`Proved::sum`]. With [`crate::Mode::sized`] it has
+/// version 2.
+pub fn prove<'a>(
+    rows: &[Fraction],
+    how: impl Into<Proving>,
+    sum: Sum,
+    challenges: impl Into<Challenges<'a, Element>>,
+) -> Result<Proved, Refused> {
+    let (n, how) = (rooms::rounds(rows.len()), how.into());
     let mut proof = vec![0; rooms::proof_bytes(n)];
     let mut point = vec![0; rooms::point_words(n)];
-    let mut log = vec![0; rooms::log_words(n, sum)];
+    let mut log = vec![0; rooms::log_words(n, sum, how.version)];
     let mut work = vec![0; rooms::workspace_words(n)];
     let lent = Rooms { proof: &mut proof, point: &mut point, log: &mut log, work: &mut work };
     let words = words(challenges.into());
-    let done = prove_into(&row_words(rows), mode, sum, again(&words), lent)?;
+    let done = prove_into(&row_words(rows), how, sum, again(&words), lent)?;
     Ok(Proved { rounds: done.rounds, sum: done.sum, proof, point: elements_of(&point), log, used: done.used })
 }
 
-/// The claims of a proof of so many rounds, if it is accepted. The proof's exact bytes are asked for. In [`Mode::Live`] a sum whose q is zero
-/// is refused; in [`Mode::Sandbox`] it is accepted, and says nothing about the rows. The proof of a sheet with no rows, of 0 rounds, is accepted with
-/// [`Mode::or_empty`] alone.
+/// The claims of a proof of so many rounds, if it is accepted. The proof's exact bytes are asked for, of either version. In [`crate::Mode::Live`] a sum whose q is zero
+/// is refused; in [`crate::Mode::Sandbox`] it is accepted, and says nothing about the rows. The proof of a sheet with no rows, of 0 rounds, is accepted with
+/// [`crate::Mode::or_empty`] alone.
 ///
 /// The sheet is not seen: compare the claims with its own values at the point. Of a proof that [`prove`] made with
 /// [`Sum::AssertZero`] and the same challenges, or with both drawn, it is proved that it is accepted, that they are these values, and that point and log are the
-/// prover's; in [`Mode::Live`] where no row has q zero, and so where it was proved in that mode.
+/// prover's; in [`crate::Mode::Live`] where no row has q zero, and so where it was proved in that mode.
 pub fn verify<'a>(
     proof: &[u8],
     rounds: usize,
@@ -75,7 +81,7 @@ pub fn verify<'a>(
     challenges: impl Into<Challenges<'a, Element>>,
 ) -> Result<Accepted, Refused> {
     let mut point = vec![0; rooms::point_words(rounds)];
-    let mut log = vec![0; rooms::log_words(rounds, Sum::AssertZero)];
+    let mut log = vec![0; rooms::log_words(rounds, Sum::AssertZero, Version::of(proof))];
     let words = words(challenges.into());
     let Verified { claims, used } = verify_into(proof, rounds, how, again(&words), &mut point, &mut log)?;
     Ok(Accepted { claims, point: elements_of(&point), log, used })

@@ -43,7 +43,7 @@ pub enum Refusal {
     ZeroRounds,
     /// 11: more than 10 rounds.
     TooManyRounds,
-    /// 12: no first byte, or not 1.
+    /// 12: no first byte, or no version: 1 of a sheet, 1 or 2 of a proof.
     BadVersion,
     /// 13: a stored length or a list disagrees with the bytes, or a point with the rows.
     BadLength,

@@ -1,7 +1,7 @@
 //! How much room a run asks for. More than 10 rounds have room 0; the calls refuse them by number.
 use crate::{
     ffi,
-    modes::{self, Sum},
+    modes::{self, Sum, Version},
 };
 
 /// The rounds of so many rows: 0 for none and for one, 11 for a number of rows that is refused.
@@ -19,9 +19,9 @@ pub fn point_words(rounds: usize) -> usize {
     unsafe { ffi::accudrina_point_words(rounds) }
 }
 
-/// The words of the log; the verifier's is that of an asserted zero sum.
-pub fn log_words(rounds: usize, sum: Sum) -> usize {
-    unsafe { ffi::accudrina_log_words(rounds, modes::summing(sum)) }
+/// The words of the log; the verifier's is that of an asserted zero sum, and of the proof's own version ([`Version::of`]).
+pub fn log_words(rounds: usize, sum: Sum, version: Version) -> usize {
+    unsafe { ffi::accudrina_log_words(rounds, modes::logging(sum, version)) }
 }
 
 /// The words of the prover's workspace.

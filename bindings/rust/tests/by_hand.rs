@@ -1,7 +1,7 @@
 //! The cases checked by hand, and the room questions.
 mod plain;
 
-use accudrina::{prove, rooms, verify, Claims, Element, Fraction, Mode, Refusal, Refused, Sum, Used, PRIME};
+use accudrina::{prove, rooms, verify, Claims, Element, Fraction, Mode, Refusal, Refused, Sum, Used, Version, PRIME};
 
 fn word(k: i64) -> Element {
     Element::new(k.rem_euclid(i64::from(PRIME)) as u32)
@@ -103,8 +103,10 @@ fn k10_another_denominator() {
 fn rooms_in_range() {
     assert_eq!([0, 1, 2, 10].map(rooms::proof_bytes), [23, 87, 200, 2832]);
     assert_eq!([0, 1, 2, 10].map(rooms::point_words), [0, 4, 8, 40]);
-    assert_eq!([0, 1, 2, 10].map(|n| rooms::log_words(n, Sum::AssertZero)), [0, 24, 64, 960]);
-    assert_eq!([0, 1, 2, 10].map(|n| rooms::log_words(n, Sum::Observe)), [0, 28, 68, 964]);
+    assert_eq!([0, 1, 2, 10].map(|n| rooms::log_words(n, Sum::AssertZero, Version::One)), [0, 24, 64, 960]);
+    assert_eq!([0, 1, 2, 10].map(|n| rooms::log_words(n, Sum::Observe, Version::One)), [0, 28, 68, 964]);
+    assert_eq!([0, 1, 2, 10].map(|n| rooms::log_words(n, Sum::AssertZero, Version::Two)), [0, 28, 68, 964]);
+    assert_eq!([0, 1, 2, 10].map(|n| rooms::log_words(n, Sum::Observe, Version::Two)), [0, 32, 72, 968]);
     assert_eq!([0, 1, 2, 10].map(rooms::workspace_words), [0, 64, 128, 32768]);
     assert_eq!([0, 1, 2, 10].map(rooms::challenge_words), [0, 4, 16, 256]);
 }
@@ -113,7 +115,8 @@ fn rooms_in_range() {
 fn rooms_out_of_range() {
     for n in [11, 12, 64, 1 << 32, usize::MAX] {
         let asked = [rooms::proof_bytes(n), rooms::point_words(n), rooms::workspace_words(n), rooms::challenge_words(n)];
-        assert_eq!((asked, rooms::log_words(n, Sum::AssertZero), rooms::log_words(n, Sum::Observe)), ([0; 4], 0, 0));
+        let logs = [Sum::AssertZero, Sum::Observe].map(|sum| [Version::One, Version::Two].map(|v| rooms::log_words(n, sum, v)));
+        assert_eq!((asked, logs), ([0; 4], [[0; 2]; 2]));
     }
 }
 

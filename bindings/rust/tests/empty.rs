@@ -67,6 +67,6 @@ fn the_order() {
     assert_eq!(refused(&entry, how), Refusal::IncorrectSumcheckPolyCount { expected: 0, actual: 1 });
     entry[8] = 0;
     assert_eq!(refused(&entry, how), Refusal::IncorrectSumcheckPolyCount { expected: 0, actual: 1 });
-    entry[0] = 2;
+    entry[0] = 3;
     assert_eq!(refused(&entry, how), Refusal::BadVersion);
 }

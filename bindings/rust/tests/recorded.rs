@@ -1,7 +1,7 @@
 //! The Rust's recorded answers (oracle/README.md), through the exported functions: every number, field and word of every buffer.
 use accudrina::{
-    evaluate_words, prove_into, read_sheet_into, verify_into, Challenges, Done, Element, Evaluated, Mode, Refusal, Refused, Rooms, Sum,
-    Used, Verified, Verifying, Words,
+    evaluate_words, prove_into, read_sheet_into, verify_into, Challenges, Done, Element, Evaluated, Mode, Proving, Refusal, Refused, Rooms,
+    Sum, Used, Verified, Verifying, Version, Words,
 };
 use std::{fs, path::PathBuf};
 
@@ -77,7 +77,8 @@ fn listed(words: &[u32]) -> Vec<u32> {
     [&[words.len() as u32], words].concat()
 }
 
-/// The modes of a case: 1 where live, 4 where challenges are drawn; the verifier's 16, where 0 rounds are valid, is looked at beside them.
+/// The modes of a case: 1 where live, 4 where challenges are drawn; the prover's 8, where the proof binds its size, and the verifier's 16, where 0 rounds are valid, are looked at
+/// beside them.
 fn modes(word: u64) -> (Mode, bool) {
     (if word & 1 == 1 { Mode::Live } else { Mode::Sandbox }, word & 4 == 4)
 }
@@ -91,14 +92,16 @@ fn source(drawn: bool, lent: &[u32]) -> Challenges<'_, u32> {
 }
 
 fn prover(case: &mut Line<'_>) -> Vec<u32> {
-    let (mode, drawn) = modes(case.number());
+    let word = case.number();
+    let (mode, drawn) = modes(word);
+    let how = Proving { mode, version: if word & 8 == 8 { Version::Two } else { Version::One } };
     let sum = if case.number() == 1 { Sum::AssertZero } else { Sum::Observe };
     let (rows, challenges) = (case.words(), case.words());
     let [proof, mut point, mut log, mut work] = case.buffers();
     let mut proof: Vec<u8> = proof.iter().map(|&b| b as u8).collect();
     let rooms = Rooms { proof: &mut proof, point: &mut point, log: &mut log, work: &mut work };
     let done = |d: Done| counted(told(0, [d.rounds as u32, 0, 0], d.sum.p, d.sum.q), d.used);
-    let answer = prove_into(&rows, mode, sum, source(drawn, &challenges), rooms).map_or_else(stopped, done);
+    let answer = prove_into(&rows, how, sum, source(drawn, &challenges), rooms).map_or_else(stopped, done);
     let proof: Vec<u32> = proof.into_iter().map(u32::from).collect();
     [answer, listed(&proof), listed(&point), listed(&log), listed(&work)].concat()
 }

@@ -1,7 +1,7 @@
 //! The verifier's numbers, each at its boundary, and what point and log hold after each.
 mod plain;
 
-use accudrina::{rooms, verify_into, words_of, Claims, Element, Mode, Refusal, Sum, Words, PRIME};
+use accudrina::{rooms, verify_into, words_of, Claims, Element, Mode, Refusal, Sum, Version, Words, PRIME};
 use plain::{
     field::{add, mul},
     lent::{marked, Lent, WORD},
@@ -55,16 +55,21 @@ fn n4_and_n5_challenges_and_room() {
         let (bytes, words) = (proof.bytes(), words_of(&challenges));
         let told = |bytes: &[u8], words: &[u32], less_point: usize, less_log: usize| {
             let mut point = vec![WORD; rooms::point_words(n) - less_point];
-            let mut log = vec![WORD; rooms::log_words(n, Sum::AssertZero) - less_log];
+            let mut log = vec![WORD; rooms::log_words(n, Sum::AssertZero, Version::of(bytes)) - less_log];
             let told = verify_into(bytes, n, Mode::Live, words, &mut point, &mut log);
             assert!(told.is_ok() || (point.iter().chain(&log).all(|&w| w == WORD)));
             told.map(|_| ()).map_err(Refusal::from)
         };
         assert_eq!(told(&bytes, &words, 0, 0), Ok(()));
         assert_eq!(told(&[], &words[..words.len() - 1], 1, 1), Err(ShortChallenges));
-        assert_eq!(told(&[], &words, 1, 0), Err(ShortRoom));
-        assert_eq!(told(&[], &words, 0, 1), Err(ShortRoom));
-        assert_eq!(told(&[], &words, 0, 0), Err(BadVersion));
+        assert_eq!(told(&[], &words, 1, 1), Err(BadVersion));
+        assert_eq!(told(&[3], &words, 1, 1), Err(BadVersion));
+        for version in [1, 2] {
+            assert_eq!(told(&[version], &words, 1, 0), Err(ShortRoom));
+            assert_eq!(told(&[version], &words, 0, 1), Err(ShortRoom));
+            assert_eq!(told(&[version], &words, 0, 0), Err(BadLength));
+        }
+        assert_eq!(told(&[2], &words, 0, 4), Err(ShortRoom));
     }
 }
 
@@ -72,7 +77,7 @@ fn n4_and_n5_challenges_and_room() {
 fn n12_and_n13_bytes() {
     let (proof, challenges) = case(3);
     let bytes = proof.bytes();
-    for version in [0, 2, 129, 255] {
+    for version in [0, 3, 129, 255] {
         let mut bad = bytes.clone();
         bad[0] = version;
         assert_eq!(answer(&bad, 3, &challenges), Err(BadVersion));

@@ -19,10 +19,11 @@ use Rattle.command.specs.Arguments.{argument, wordOf}
 
 -- a mode that is set
 abbrev pub set : Flags → Mode → Flags
-set f M.Live = record { live = true; asserted = f .asserted; drawn = f .drawn; empty = f .empty }
-set f M.NoAssert = record { live = f .live; asserted = false; drawn = f .drawn; empty = f .empty }
-set f M.Drawn = record { live = f .live; asserted = f .asserted; drawn = true; empty = f .empty }
-set f M.NoRows = record { live = f .live; asserted = f .asserted; drawn = f .drawn; empty = true }
+set f M.Live = record { live = true; asserted = f .asserted; drawn = f .drawn; sized = f .sized; empty = f .empty }
+set f M.NoAssert = record { live = f .live; asserted = false; drawn = f .drawn; sized = f .sized; empty = f .empty }
+set f M.Drawn = record { live = f .live; asserted = f .asserted; drawn = true; sized = f .sized; empty = f .empty }
+set f M.Sized = record { live = f .live; asserted = f .asserted; drawn = f .drawn; sized = true; empty = f .empty }
+set f M.NoRows = record { live = f .live; asserted = f .asserted; drawn = f .drawn; sized = f .sized; empty = true }
 
 -- a name that is argument k
 abbrev pub named : Names → Name → ℕ → Names
@@ -40,9 +41,9 @@ abbrev pub isNothing : Awaits → Bool
 isNothing A.Nothing = true
 isNothing (A.Name n) = false
 
--- sandbox, zero asserted, challenges not drawn, 0 rounds not valid
+-- sandbox, zero asserted, challenges not drawn, the size not bound, 0 rounds not valid
 abbrev pub sandbox : Flags
-sandbox = record { live = false; asserted = true; drawn = false; empty = false }
+sandbox = record { live = false; asserted = true; drawn = false; sized = false; empty = false }
 
 -- and no name given
 abbrev pub none : ℕ → Options

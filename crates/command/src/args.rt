@@ -21,7 +21,7 @@ fn is_word(args: &[u8], k: usize, word: &[u8]) -> bool {
 fn usage() {
     io::write_all(
         2,
-        b"sheetproof prove SHEET PROOF [--live] [--no-assert] [--drawn | --challenges TEXT]\n",
+        b"sheetproof prove SHEET PROOF [--live] [--no-assert] [--sized] [--drawn | --challenges TEXT]\n",
     );
     io::write_all(
         2,
@@ -43,6 +43,7 @@ fn run_prove(args: &[u8], n: usize) {
         live: o.flags.live,
         assert_zero: o.flags.asserted,
         drawn: o.flags.drawn,
+        sized: o.flags.sized,
     };
     let sheet = part_at(args, 1);
     let proof = part_at(args, 2);

@@ -21,6 +21,7 @@ pub struct Flags {
     pub live: bool,
     pub asserted: bool,
     pub drawn: bool,
+    pub sized: bool,
     pub empty: bool,
 }
 
@@ -46,6 +47,7 @@ fn set_flag(flags: Flags, mode: Mode) -> Flags
         Mode::Live => next.live = true,
         Mode::NoAssert => next.asserted = false,
         Mode::Drawn => next.drawn = true,
+        Mode::Sized => next.sized = true,
         Mode::NoRows => next.empty = true,
     }
     next
@@ -130,6 +132,7 @@ fn no_options(n: usize) -> Options
             live: false,
             asserted: true,
             drawn: false,
+            sized: false,
             empty: false,
         },
         names: Names {
@@ -190,9 +193,16 @@ pub fn fit_prove(o: Options, n: usize) -> bool
     both(fit(o, n), is_provers(o, n))
 }
 
-// Whether they are those of `verify`: all known, challenges not both drawn and named, and nothing about the sum's numerator, which it always asks to be zero.
-pub fn fit_verify(o: Options, n: usize) -> bool
-    ensures { λ r. ⌜ r ≡ ((whole o && oneSource o n) && o .flags .asserted) ⌝ }
+// Nothing about the sum's numerator, which is always asked to be zero, or about the size, which the proof's version says.
+fn is_verifiers(o: Options) -> bool
+    ensures { λ r. ⌜ r ≡ (o .flags .asserted && not (o .flags .sized)) ⌝ }
 {
-    both(fit(o, n), o.flags.asserted)
+    both(o.flags.asserted, !o.flags.sized)
+}
+
+// Whether they are those of `verify`: all known, challenges not both drawn and named, and none that `prove` alone takes.
+pub fn fit_verify(o: Options, n: usize) -> bool
+    ensures { λ r. ⌜ r ≡ ((whole o && oneSource o n) && (o .flags .asserted && not (o .flags .sized))) ⌝ }
+{
+    both(fit(o, n), is_verifiers(o))
 }

@@ -3,7 +3,7 @@ ghost use mathlib.Core.Path.{_≡_};
 ghost use mathlib.Core.Bool.{cond};
 ghost use Prim.Native.Nat.{_-_, _≤_};
 ghost use lib.ListN.{length, take, drop};
-ghost use Rattle.command.specs.Arguments.{argument, sameText, modeWord, wordOf};
+ghost use Rattle.command.specs.Arguments.{argument, sameText, sizeWord, modeWord, wordOf};
 use sheet_text::list::beyond;
 use sheet_text::list::find;
 
@@ -17,6 +17,7 @@ pub enum Mode {
     Live,
     NoAssert,
     Drawn,
+    Sized,
     NoRows,
 }
 
@@ -73,11 +74,18 @@ fn pick(word: &[u8], text: &[u8], meant: Word, other: Word) -> Word
     other
 }
 
+fn read_size(word: &[u8]) -> Word
+    ensures { λ r. ⌜ r ≡ sizeWord (now (word .entry)) ⌝ }
+{
+    let no_rows = pick(word, b"--empty", Word::Mode(Mode::NoRows), Word::Other);
+    pick(word, b"--sized", Word::Mode(Mode::Sized), no_rows)
+}
+
 fn read_mode(word: &[u8]) -> Word
     ensures { λ r. ⌜ r ≡ modeWord (now (word .entry)) ⌝ }
 {
-    let no_rows = pick(word, b"--empty", Word::Mode(Mode::NoRows), Word::Other);
-    let drawn = pick(word, b"--drawn", Word::Mode(Mode::Drawn), no_rows);
+    let size = read_size(word);
+    let drawn = pick(word, b"--drawn", Word::Mode(Mode::Drawn), size);
     let no_assert = pick(word, b"--no-assert", Word::Mode(Mode::NoAssert), drawn);
     pick(word, b"--live", Word::Mode(Mode::Live), no_assert)
 }

@@ -31,7 +31,7 @@ fn keep_proof(path: &[u8], proof: &[u8], count: usize, rounds: usize, sum: Frac)
 fn prove_with(rows: &[u32], challenges: &[u32], counted: bool, modes: Proving, path: &[u8]) {
     let mut proof = [0u8; 2832];
     let mut point = [0u32; 40];
-    let mut log = [0u32; 964];
+    let mut log = [0u32; 968];
     let mut work = [0u32; 32768];
     let proved = prover::fractional_sumcheck(
         rows,

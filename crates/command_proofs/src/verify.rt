@@ -29,7 +29,7 @@ fn verify_with(
     sheet: &[u8],
 ) {
     let mut point = [0u32; 40];
-    let mut log = [0u32; 960];
+    let mut log = [0u32; 964];
     let verified = verifier::verify_gkr(proof, rounds, modes, challenges, &mut point, &mut log);
     let used = verified.used;
     match verified.verdict {

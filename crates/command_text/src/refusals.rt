@@ -53,7 +53,9 @@ fn too_many_rounds() {
 }
 
 fn bad_version() {
-    print(b"BadVersion: the first byte is missing, or is not 1");
+    print(
+        b"BadVersion: the first byte is missing, or is no version: 1 of a sheet, 1 or 2 of a proof",
+    );
 }
 
 fn bad_length() {

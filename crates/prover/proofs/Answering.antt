@@ -19,6 +19,7 @@ use Rattle.gkr.specs.Tree as Tree
 use Rattle.gkr.specs.Gkr as Gkr
 use Rattle.gkr.specs.Gkr.{done, non-zero-root-sum}
 use Rattle.transcript.specs.Log.{Drawing}
+use Rattle.transcript.specs.Bound.{bound}
 use Rattle.transcript.specs.declared.Used.{Used}
 use Rattle.transcript.specs.Used.{unused}
 use Rattle.step.specs.declared.Frac.{Frac as FracW}
@@ -52,29 +53,29 @@ deny-asserted b s h e = rw (h, e)
 pub deny-open : (b s : Bool) → b ≡ false → false ≡ (b && not s)
 deny-open b s h = rw h
 
-module _ (ch : Source E.Ext) (f : ℕ → Frac E.Ext) (m : ℕ) where
+module _ (ch : Source E.Ext) (f : ℕ → Frac E.Ext) (sized : Bool) (m : ℕ) where
   abbrev root : Frac E.Ext
   root = Tree.tree ExtRing f (suc m) 0
 
   abbrev model : Bool → Gkr.Answer Extension (Drawing ch)
-  model b = Gkr.fractional-sumcheck Extension (Drawing ch) b m f empty
+  model b = Gkr.fractional-sumcheck Extension (Drawing ch) b m f (bound sized (suc m) empty)
 
   pub sumcheck-refused : (b : Bool) → (b && not (E.same (root .p) E.nil)) ≡ true → model b ≡ non-zero-root-sum
   unfolding Gkr.fractional-sumcheck
-  sumcheck-refused true h = ap (λ t. cond t (done (runOf f true m ch)) non-zero-root-sum) (not-true (E.same (root .p) E.nil) h)
+  sumcheck-refused true h = ap (λ t. cond t (done (runOf f true sized m ch)) non-zero-root-sum) (not-true (E.same (root .p) E.nil) h)
   sumcheck-refused false h = absurd (let z : _≡_ {A = ℕ} 0 1 = cc in omega arith)
 
-  pub sumcheck-done : (b : Bool) → (b && not (E.same (root .p) E.nil)) ≡ false → model b ≡ done (runOf f b m ch)
+  pub sumcheck-done : (b : Bool) → (b && not (E.same (root .p) E.nil)) ≡ false → model b ≡ done (runOf f b sized m ch)
   unfolding Gkr.fractional-sumcheck
-  sumcheck-done true h = ap (λ t. cond t (done (runOf f true m ch)) non-zero-root-sum) (not-false (E.same (root .p) E.nil) h)
+  sumcheck-done true h = ap (λ t. cond t (done (runOf f true sized m ch)) non-zero-root-sum) (not-false (E.same (root .p) E.nil) h)
   sumcheck-done false h = refl
 
 pub zeros-length : (n : ℕ) → length (replicate {A = ℕ} n 0) ≡ n
 zeros-length n = let z : ℕ = 0 in length-replicate n z
 
 -- the same workspace room, and the same tree, under the other number
-pub rewritten : {f : ℕ → Frac E.Ext} {asserted : Bool} {m : ℕ} {ch : Source E.Ext} {pf pt lg ws ws₁ : List ℕ} {b' : Buffers} {u : Used} → length ws₁ ≡ length ws
-    → Written f asserted m ch (lent pf pt lg ws₁) b' u → Written f asserted m ch (lent pf pt lg ws) b' u
+pub rewritten : {f : ℕ → Frac E.Ext} {asserted sized : Bool} {m : ℕ} {ch : Source E.Ext} {pf pt lg ws ws₁ : List ℕ} {b' : Buffers} {u : Used} → length ws₁ ≡ length ws
+    → Written f asserted sized m ch (lent pf pt lg ws₁) b' u → Written f asserted sized m ch (lent pf pt lg ws) b' u
 rewritten e w = record { used = w .used; proof = w .proof; point = w .point; log = w .log; work = w .work ∙ ap (λ k. replicate k 0) e }
 
 pub levels-at : {f : ℕ → Frac E.Ext} {ws : List ℕ} {m n : ℕ} → n ≡ suc m → Levels f ws (suc m) 0 → Levels f ws n 0
@@ -86,7 +87,7 @@ whole-work ws ws' n k h =
     h ∙ ap (λ k. replicate k 0) k ∙ sym (append-nil (replicate (workRoom n) 0))
     ∙ ap (λ r. replicate (workRoom n) 0 ++ r) (sym (drop-all (length (replicate (workRoom n) 0)) ws (omega (arith, k, zeros-length (workRoom n)))))
 
-module _ (rows : List ℕ) (ch : Source E.Ext) (pf pt lg ws : List ℕ) (asserted : Bool) (m n : ℕ) (root : FracW) (e : n ≡ suc m) (lw : length ws ≡ workRoom n)
+module _ (rows : List ℕ) (ch : Source E.Ext) (pf pt lg ws : List ℕ) (asserted sized : Bool) (m n : ℕ) (root : FracW) (e : n ≡ suc m) (lw : length ws ≡ workRoom n)
     (R : IsFrac root (Tree.tree ExtRing (node rows) (suc m) 0)) {t : Bool} (te : t ≡ (asserted && not (E.same (dec (root .p)) E.nil))) where
   abbrev f : ℕ → Frac E.Ext
   f = node rows
@@ -98,20 +99,20 @@ module _ (rows : List ℕ) (ch : Source E.Ext) (pf pt lg ws : List ℕ) (asserte
   tested = te ∙ ap (λ x. asserted && not (E.same x E.nil)) (R .p .value)
 
   pub prove-refused : (ws₁ ws' : List ℕ) {r : Ending} → t ≡ true → length ws₁ ≡ length ws → ws' ≡ replicate (length ws₁) 0 → r ≡ ending (Refused NonZeroRootSum) unused
-      → outcome (r .answer) (r .used) pf pt lg ws' ≡ laid (modelled rows asserted ch m) before
+      → outcome (r .answer) (r .used) pf pt lg ws' ≡ laid (modelled rows asserted sized ch m) before
   prove-refused ws₁ ws' h l w q =
       let W = whole-work ws ws' (suc m) (lw ∙ ap workRoom e) (w ∙ ap (λ k. replicate k 0) l) in
       (λ i. outcome (q i .answer) (q i .used) pf pt lg (W i))
-      ∙ ap (λ a. laid (after ch (suc m) a) before) (sym (sumcheck-refused ch f m asserted (sym tested ∙ h)))
+      ∙ ap (λ a. laid (after ch sized (suc m) a) before) (sym (sumcheck-refused ch f sized m asserted (sym tested ∙ h)))
 
-  pub prove-done : (b' : Buffers) (u : Used) → t ≡ false → Written f asserted m ch before b' u
-      → _≡_ {A = Outcome} (record { answer = Done n root; used = u; buffers = b' }) (laid (modelled rows asserted ch m) before)
+  pub prove-done : (b' : Buffers) (u : Used) → t ≡ false → Written f asserted sized m ch before b' u
+      → _≡_ {A = Outcome} (record { answer = Done n root; used = u; buffers = b' }) (laid (modelled rows asserted sized ch m) before)
   unfolding Gkr.run
   prove-done b' u h w =
-      let S : root ≡ encFrac (runOf f asserted m ch .sum) = (λ i. record { p = enc-of-is (R .p) i; q = enc-of-is (R .q) i }) in
+      let S : root ≡ encFrac (runOf f asserted sized m ch .sum) = (λ i. record { p = enc-of-is (R .p) i; q = enc-of-is (R .q) i }) in
       let W = whole-work ws (b' .work) (suc m) (lw ∙ ap workRoom e) (w .work) in
       (λ i. outcome (Done (e i) (S i)) (w .used i) (w .proof i) (w .point i) (w .log i) (W i))
-      ∙ ap (λ a. laid (after ch (suc m) a) before) (sym (sumcheck-done ch f m asserted (sym tested ∙ h)))
+      ∙ ap (λ a. laid (after ch sized (suc m) a) before) (sym (sumcheck-done ch f sized m asserted (sym tested ∙ h)))
 
 -- NO ROUNDS
 
@@ -129,11 +130,11 @@ one-words : enc E.one ≡ record { c0 = 1; c1 = 0; c2 = 0; c3 = 0 }
 unfolding E.one E.emb B.nil B.one B.of
 one-words = refl
 
-pub none-done : (rows pf pf' : List ℕ) (modes : Proving) {u : Used} → u ≡ unused → rowCount rows ≡ 0 → 23 ≤ length pf → length pf' ≡ length pf → pf' ≡ layout noRows ++ drop 23 pf → (pt lg ws : List ℕ)
+pub none-done : (rows pf pf' : List ℕ) (modes : Proving) {u : Used} → u ≡ unused → rowCount rows ≡ 0 → 23 ≤ length pf → length pf' ≡ length pf → pf' ≡ layout (modes .sized) noRows ++ drop 23 pf → (pt lg ws : List ℕ)
     → outcome (Done 0 (record { p = record { c0 = 0; c1 = 0; c2 = 0; c3 = 0 }; q = record { c0 = 1; c1 = 0; c2 = 0; c3 = 0 } })) u pf' pt lg ws ≡ laid (ran rows modes [] 0) (lent pf pt lg ws)
 unfolding pointWords
 none-done rows pf pf' modes q h l k e pt lg ws =
-    let P = whole-proof pf pf' (layout noRows) 23 l k e in
+    let P = whole-proof pf pf' (layout (modes .sized) noRows) 23 l k e in
     (λ i. outcome (Done 0 (record { p = sym zero-words i; q = sym one-words i })) (q i) (P i) pt lg ws)
     ∙ sym (rw (eq-eqb (rowCount rows) 0 h))
 

@@ -49,7 +49,7 @@ module _ (c : Call) (r : Rooms) where
   four : Ends (λ f. f .answer ≡ Refused ShortChallenges → ⊥) rounds
   four =
       record {
-        finishes = λ ch P h. done-refused _ _ _ h;
+        finishes = λ ch b P h. done-refused _ _ _ h;
         eight = unlike (Refused NonZeroRootSum) (Refused ShortChallenges) (λ z. omega arith);
         nine = unlike (Refused SingleRow) (Refused ShortChallenges) (λ z. omega arith);
       }
@@ -70,7 +70,7 @@ module _ (c : Call) (r : Rooms) where
 
     runs : (lent : List ℕ) (n : ℕ) → ran (c .rows) (c .modes) lent n ≡ ran (c .rows) (c .modes) (c .challenges) n
     runs lent zero = refl
-    runs lent (suc m) = ap (λ l. modelled (c .rows) (c .modes .«assert_zero») (source (c .modes .drawn) l) m) (taken (suc m) lent ∙ sym (taken (suc m) (c .challenges)))
+    runs lent (suc m) = ap (λ l. modelled (c .rows) (c .modes .«assert_zero») (c .modes .sized) (source (c .modes .drawn) l) m) (taken (suc m) lent ∙ sym (taken (suc m) (c .challenges)))
 
     enters : (lent : List ℕ) (t : Tested) → entered (lending lent) t ≡ entered c t
     enters lent passed = runs lent rounds

@@ -81,7 +81,7 @@ module _ (c : Call) (r : Rooms) where
   seven : (i : ℕ) → Ends (λ f. f .answer ≡ Refused (ZeroDenominator i) → ⊥) (roundsOf count)
   seven i =
       record {
-        finishes = λ ch P h. done-refused _ _ _ h;
+        finishes = λ ch b P h. done-refused _ _ _ h;
         eight = unlike (Refused NonZeroRootSum) (Refused (ZeroDenominator i)) (λ z. omega arith);
         nine = unlike (Refused SingleRow) (Refused (ZeroDenominator i)) (λ z. omega arith);
       }

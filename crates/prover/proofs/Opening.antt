@@ -39,7 +39,7 @@ gate-opens c r h =
     let p1 = passed-all (tests c r) h in
     let p3 = p1 .1 .1 in
     let p5 = p3 .1 .1 in
-    let s1 : shortRoom (c .modes .«assert_zero») n r ≡ false = p5 .0 in
+    let s1 : shortRoom (c .modes .«assert_zero») (c .modes .sized) n r ≡ false = p5 .0 in
     let s2 = or-right (ltb (r .proof) (Sizes.proof-bytes n)) _ s1 in
     let s3 = or-right (ltb (r .point) (Sizes.point-words n)) _ s2 in
     let e : length (c .rows) % 8 ≡ 0 = eqb-true _ _ (not-false _ (p1 .0)) in
@@ -52,8 +52,8 @@ gate-opens c r h =
       challenges = ltb-false _ _ (p3 .1 .0);
       proof = ltb-false _ _ (or-left (ltb (r .proof) (Sizes.proof-bytes n)) _ s1);
       point = ltb-false _ _ (or-left (ltb (r .point) (Sizes.point-words n)) _ s2);
-      log = ltb-false _ _ (or-left (ltb (r .log) (logRoom (c .modes .«assert_zero») n)) _ s3);
-      work = ltb-false _ _ (or-right (ltb (r .log) (logRoom (c .modes .«assert_zero») n)) _ s3);
+      log = ltb-false _ _ (or-left (ltb (r .log) (logRoom (c .modes .«assert_zero») (c .modes .sized) n)) _ s3);
+      work = ltb-false _ _ (or-right (ltb (r .log) (logRoom (c .modes .«assert_zero») (c .modes .sized) n)) _ s3);
       clean = record { below = canonical-below (c .rows) (not-false _ (p5 .1 .0)) };
       supplied = record { below = canonical-below _ (not-false _ (p5 .1 .1 .0)) };
     }
@@ -83,7 +83,7 @@ work-enough {n = suc m} l s e = omega (arith, s, e)
 -- over the needed parts of challenges, point and workspace
 module _ (rows : List ℕ) (modes : Proving) (ch : List ℕ) (r : Rooms) where
   pub run-room : (n size need w : ℕ) {c p x l k : ℕ} → Opens rows modes ch r n size → (n ≡ 0 → ⊥) → need ≡ neededWords (modes .drawn) n → w ≡ workRoom n
-      → c ≡ need → p ≡ r .proof → x ≡ 4 * n → l ≡ r .log → k ≡ w → Room (modes .«assert_zero») (modes .drawn) n size c p x l k
+      → c ≡ need → p ≡ r .proof → x ≡ 4 * n → l ≡ r .log → k ≡ w → Room (modes .«assert_zero») (modes .sized) (modes .drawn) n size c p x l k
   run-room zero size need w O z d we ec ep ex el ew = absurd (z refl)
   run-room (suc m) size need w O z d we ec ep ex el ew = record {
     some = omega arith;

@@ -1,7 +1,7 @@
 -- What follows from the definition of a call: no second outcome fits, what buffers held before does not matter, and the workspace is wiped.
 -- Assumes nothing.
 use mathlib.Core.Path.{_≡_, refl, sym, _∙_, ap}
-use mathlib.Core.Bool.{not, _&&_}
+use mathlib.Core.Bool.{Bool, not, _&&_}
 use mathlib.Core.List.{List, []}
 use Prim.Native.Nat.{ℕ, zero, suc}
 use native.Mathlib.Omega.{arith}
@@ -15,6 +15,7 @@ use Rattle.gkr.specs.Gkr as Gkr
 use Rattle.gkr.specs.Gkr.{done, non-zero-root-sum}
 use Rattle.transcript.specs.Source.{supplied, source}
 use Rattle.transcript.specs.Log.{Drawing, Observing}
+use Rattle.transcript.specs.Bound.{bound}
 use Rattle.transcript.specs.Used.{unused}
 use Rattle.step.specs.declared.Frac.{Frac}
 use Rattle.prover_tree.specs.Nodes.{node}
@@ -48,20 +49,20 @@ isolation c b b′ e = (laid-over c b, laid-over c b′ ∙ ap (λ r. laid (fron
 
 -- Q of each end of a run over n rounds
 pub record Ends (Q : Outcome → Type 0) (n : ℕ) : Type 0 where
-  pub finishes : (ch : Source E.Ext) (P : Gkr.Proved Extension (Drawing ch)) → Q (finished ch n P)
+  pub finishes : (ch : Source E.Ext) (sized : Bool) (P : Gkr.Proved Extension (Drawing ch)) → Q (finished ch sized n P)
   pub eight : Q (outcome (Refused NonZeroRootSum) unused [] [] [] (replicate (workRoom n) 0))
   pub nine : Q (untouched SingleRow)
 
 pub each-end : (Q : Outcome → Type 0) (rows : List ℕ) (modes : Proving) (ch : List ℕ) (n : ℕ) → Ends Q n → Q (ran rows modes ch n)
 each-end Q rows modes ch zero w =
-    either Q (eqb (rowCount rows) 0) _ _ (λ e. w .finishes (supplied []) (Gkr.no-rows Extension Observing empty))
+    either Q (eqb (rowCount rows) 0) _ _ (λ e. w .finishes (supplied []) (modes .sized) (Gkr.no-rows Extension Observing empty))
     (λ e. either (λ r. Q (untouched r)) (modes .«assert_zero» && not (E.same (node rows 0 .p) E.nil)) NonZeroRootSum SingleRow (λ h. w .eight) (λ h. w .nine))
 each-end Q rows modes ch (suc m) w =
     let needed = source (modes .drawn) (take (neededWords (modes .drawn) (suc m)) ch) in
-    model needed (Gkr.fractional-sumcheck Extension (Drawing needed) (modes .«assert_zero») m (node rows) empty)
+    model needed (Gkr.fractional-sumcheck Extension (Drawing needed) (modes .«assert_zero») m (node rows) (bound (modes .sized) (suc m) empty))
   where
-    model : (ch : Source E.Ext) (a : Gkr.Answer Extension (Drawing ch)) → Q (after ch (suc m) a)
-    model ch (done P) = w .finishes ch P
+    model : (ch : Source E.Ext) (a : Gkr.Answer Extension (Drawing ch)) → Q (after ch (modes .sized) (suc m) a)
+    model ch (done P) = w .finishes ch (modes .sized) P
     model ch non-zero-root-sum = w .eight
 
 -- Q of each refusal of the gate, and of a call that passes it
@@ -90,7 +91,7 @@ module _ (n : ℕ) where
   ends-left : Ends (Left n) n
   ends-left =
       record {
-        finishes = λ ch P. record {
+        finishes = λ ch b P. record {
           done = λ k s h. let e : n ≡ k = cc in ap (λ (j : ℕ). replicate (workRoom j) 0) e;
           eight = λ h. absurd (done-refused n _ NonZeroRootSum h);
           other = λ x q h. absurd (done-refused n _ x h);

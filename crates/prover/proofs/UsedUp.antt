@@ -3,15 +3,15 @@
 use mathlib.Core.Path.{_≡_, refl, sym, _∙_, ap}
 use mathlib.Core.Bool.{Bool}
 use mathlib.Core.List.{List, []}
-use Prim.Native.Nat.{ℕ, zero, suc}
+use Prim.Native.Nat.{ℕ, zero, suc, _+_}
 use native.Mathlib.Nat.{zero-add}
 use native.Mathlib.Omega.{arith}
 use lib.Dec.{eqb}
-use lib.ListN.{take}
+use lib.ListN.{length, take}
 use Rattle.field.specs.Ext as E
 use Rattle.field.specs.Element.{words}
 use Rattle.field.specs.Extension.{Extension}
-use Rattle.gkr.specs.Sizes.{challenges}
+use Rattle.gkr.specs.Sizes.{challenges, log-words}
 use Rattle.gkr.specs.Tests.{either}
 use Rattle.gkr.specs.Transcripts.{empty, Source}
 use Rattle.gkr.specs.TranscriptLaws as TranscriptLaws
@@ -20,6 +20,8 @@ use Rattle.gkr.specs.Gkr as Gkr
 use Rattle.gkr.specs.Gkr.{done, non-zero-root-sum}
 use Rattle.transcript.specs.Source.{supplied, source}
 use Rattle.transcript.specs.Log.{Drawing, Observing}
+use Rattle.transcript.specs.Bound.{bound}
+use Rattle.transcript.specs.BoundLaws.{bound-used, bound-words, bound-marked}
 use Rattle.transcript.specs.Used.{used, unused}
 use Rattle.transcript.specs.UsedLaws.{unmarked}
 use Rattle.prover_tree.specs.Nodes.{node}
@@ -37,30 +39,34 @@ module _ (c : Call) where
   abbrev asserted : Bool
   asserted = c .modes .«assert_zero»
 
+  abbrev sized : Bool
+  sized = c .modes .sized
+
   -- a refusal logs nothing, whatever it leaves of the workspace
   refuses : (e : Refusal) (work : List ℕ) → UsedUp c (outcome (Refused e) unused [] [] [] work)
   unfolding sampled-words
   refuses e work = record { words = refl; sampled = refl; done = λ n s h. absurd (done-refused n s e (sym h)); none = λ x h. refl }
 
-  no-rows : UsedUp c (finished (supplied []) 0 (Gkr.no-rows Extension Observing empty))
+  no-rows : UsedUp c (finished (supplied []) sized 0 (Gkr.no-rows Extension Observing empty))
   unfolding sampled-words
   no-rows =
       record {
         words = refl;
         sampled = refl;
-        done = λ n s h. let k : 0 ≡ n = cc in ap (λ (j : ℕ). used (challenges j) (logRoom asserted j)) k;
+        done = λ n s h. let k : 0 ≡ n = cc in ap (λ (j : ℕ). used (challenges j) (logRoom asserted sized j)) k;
         none = λ x h. absurd (done-refused 0 _ x h);
       }
 
-  run-uses : (ch : Source E.Ext) (m : ℕ) (a : Gkr.Answer Extension (Drawing ch)) → Gkr.fractional-sumcheck Extension (Drawing ch) asserted m (node (c .rows)) empty ≡ a → UsedUp c (after ch (suc m) a)
+  run-uses : (ch : Source E.Ext) (m : ℕ) (a : Gkr.Answer Extension (Drawing ch)) → Gkr.fractional-sumcheck Extension (Drawing ch) asserted m (node (c .rows)) (bound sized (suc m) empty) ≡ a → UsedUp c (after ch sized (suc m) a)
   unfolding sampled-words
   run-uses ch m (done P) e =
-      let drew : P .log .used ≡ challenges (suc m) = TranscriptLaws.done-draws Extension words ch asserted m (node (c .rows)) empty P e ∙ zero-add _ in
-      let wrote = TranscriptLaws.done-words Extension words ch (λ x. refl) asserted m (node (c .rows)) empty P e ∙ zero-add _ in
+      let start = bound sized (suc m) empty in
+      let drew : P .log .used ≡ challenges (suc m) = TranscriptLaws.done-draws Extension words ch asserted m (node (c .rows)) start P e ∙ ap (λ k. k + challenges (suc m)) (bound-used sized (suc m)) ∙ zero-add _ in
+      let wrote : length (P .log .log) ≡ logRoom asserted sized (suc m) = TranscriptLaws.done-words Extension words ch (λ x. refl) asserted m (node (c .rows)) start P e ∙ ap (λ k. k + log-words asserted (suc m)) (bound-words sized (suc m)) in
       record {
         words = refl;
-        sampled = TranscriptLaws.done-marked Extension words ch (λ x. refl) unmarked asserted m (node (c .rows)) empty P e refl;
-        done = λ n s h. let k : suc m ≡ n = cc in (λ i. used (drew i) (wrote i)) ∙ ap (λ (j : ℕ). used (challenges j) (logRoom asserted j)) k;
+        sampled = TranscriptLaws.done-marked Extension words ch (λ x. refl) unmarked asserted m (node (c .rows)) start P e (bound-marked sized (suc m));
+        done = λ n s h. let k : suc m ≡ n = cc in (λ i. used (drew i) (wrote i)) ∙ ap (λ (j : ℕ). used (challenges j) (logRoom asserted sized j)) k;
         none = λ x h. absurd (done-refused (suc m) _ x h);
       }
   run-uses ch m non-zero-root-sum e = refuses NonZeroRootSum _

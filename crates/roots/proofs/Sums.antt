@@ -19,6 +19,7 @@ use Rattle.gkr.specs.Gkr as Gkr
 use Rattle.gkr.specs.Gkr.{done, non-zero-root-sum}
 use Rattle.gkr.specs.Count as Count
 use Rattle.transcript.specs.Log.{Drawing}
+use Rattle.transcript.specs.Bound.{bound}
 use Rattle.transcript.specs.Source.{source}
 use Rattle.step.specs.declared.Frac.{Frac as FracW}
 use Rattle.refusal.specs.Tests.{Tested, passed, refused}
@@ -46,18 +47,18 @@ Tells rows o = (n : ℕ) (s : FracW) → o .answer ≡ Done n s → Told rows n 
 
 module _ (rows : List ℕ) where
   -- the sum of a model's run is the root
-  run-sum : (ch : Source E.Ext) (asserted : Bool) (m : ℕ) (P : Gkr.Proved Extension (Drawing ch))
-      → Gkr.fractional-sumcheck Extension (Drawing ch) asserted m (node rows) empty ≡ done P → P .sum ≡ Tree.tree ExtRing (node rows) (suc m) 0
+  run-sum : (ch : Source E.Ext) (asserted b : Bool) (m : ℕ) (P : Gkr.Proved Extension (Drawing ch))
+      → Gkr.fractional-sumcheck Extension (Drawing ch) asserted m (node rows) (bound b (suc m) empty) ≡ done P → P .sum ≡ Tree.tree ExtRing (node rows) (suc m) 0
   unfolding Gkr.run
-  run-sum ch asserted m P e = ap (λ Q. Q .sum) (Count.done-run Extension (Drawing ch) asserted m (node rows) empty P e)
+  run-sum ch asserted b m P e = ap (λ Q. Q .sum) (Count.done-run Extension (Drawing ch) asserted m (node rows) (bound b (suc m) empty) P e)
 
-  after-tells : (ch : Source E.Ext) (m : ℕ) → rowCount rows ≡ 2 ^ suc m → (a : Gkr.Answer Extension (Drawing ch))
-      → ((P : Gkr.Proved Extension (Drawing ch)) → a ≡ done P → P .sum ≡ Tree.tree ExtRing (node rows) (suc m) 0) → Tells rows (after ch (suc m) a)
-  after-tells ch m size (done P) h n s d =
+  after-tells : (ch : Source E.Ext) (b : Bool) (m : ℕ) → rowCount rows ≡ 2 ^ suc m → (a : Gkr.Answer Extension (Drawing ch))
+      → ((P : Gkr.Proved Extension (Drawing ch)) → a ≡ done P → P .sum ≡ Tree.tree ExtRing (node rows) (suc m) 0) → Tells rows (after ch b (suc m) a)
+  after-tells ch b m size (done P) h n s d =
       let k : suc m ≡ n = cc in
       let e : encFrac (P .sum) ≡ s = cc in
       inr (size ∙ ap (λ j. 2 ^ j) k, sym e ∙ ap encFrac (h P refl) ∙ ap (λ j. encFrac (Tree.tree ExtRing (node rows) j 0)) k)
-  after-tells ch m size non-zero-root-sum h n s d = absurd (done-refused n s NonZeroRootSum (sym d))
+  after-tells ch b m size non-zero-root-sum h n s d = absurd (done-refused n s NonZeroRootSum (sym d))
 
   ran-tells : (modes : Proving) (ch : List ℕ) (n : ℕ) → (n ≡ 0) ⊎ (rowCount rows ≡ 2 ^ n) → Tells rows (ran rows modes ch n)
   ran-tells modes ch zero size =
@@ -68,7 +69,7 @@ module _ (rows : List ℕ) where
   ran-tells modes ch (suc m) (inr size) =
       let needed = source (modes .drawn) (take (neededWords (modes .drawn) (suc m)) ch) in
       let asserted = modes .«assert_zero» in
-      after-tells needed m size (Gkr.fractional-sumcheck Extension (Drawing needed) asserted m (node rows) empty) (run-sum needed asserted m)
+      after-tells needed (modes .sized) m size (Gkr.fractional-sumcheck Extension (Drawing needed) asserted m (node rows) (bound (modes .sized) (suc m) empty)) (run-sum needed asserted (modes .sized) m)
 
 -- no rounds, or a power of two
 sized : (k : ℕ) → ((k ≡ 0 → ⊥) → k ≡ 2 ^ roundsOf k) → (roundsOf k ≡ 0) ⊎ (k ≡ 2 ^ roundsOf k)

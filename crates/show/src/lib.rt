@@ -67,7 +67,8 @@ fn show_rows(rows: &[u32], count: usize, work: &mut [u32]) {
             print_number(b"rows ", count as u64);
             print_number(b"rounds ", rounds as u64);
             print_sum(sum);
-            print_verdict(verified.verdict, &point_again, rounds);
+            let verdict = verified.verdict;
+            print_verdict(verdict, &point_again, rounds);
         }
         Joint::Refused(refusal) => print_refusal(refusal),
     }

@@ -1,6 +1,6 @@
 //! Lent buffers with a mark in every word and room to spare, so that what was written and what was not are both seen.
 use accudrina::{
-    prove_into, rooms, row_words, verify_into, words_of, Claims, Done, Element, Fraction, Mode, Refusal, Refused, Rooms, Sum, Used,
+    prove_into, rooms, row_words, verify_into, words_of, Claims, Done, Element, Fraction, Mode, Refusal, Refused, Rooms, Sum, Used, Version,
 };
 
 pub const BYTE: u8 = 0xa5;
@@ -16,23 +16,25 @@ pub struct Lent {
 }
 
 impl Lent {
-    /// Buffers of exactly the room that is asked for.
+    /// Buffers of exactly the room that is asked for, for a proof of version 1.
     pub fn exact(rounds: usize, assert_zero: bool) -> Self {
         let sum = if assert_zero { Sum::AssertZero } else { Sum::Observe };
         Self {
             proof: vec![BYTE; rooms::proof_bytes(rounds)],
             point: vec![WORD; rooms::point_words(rounds)],
-            log: vec![WORD; rooms::log_words(rounds, sum)],
+            log: vec![WORD; rooms::log_words(rounds, sum, Version::One)],
             work: vec![WORD; rooms::workspace_words(rounds)],
         }
     }
 
+    /// And with room to spare, in the log for version 2 too.
     pub fn spare(rounds: usize, assert_zero: bool) -> Self {
         let mut lent = Self::exact(rounds, assert_zero);
         lent.proof.extend([BYTE; SPARE]);
         for words in [&mut lent.point, &mut lent.log, &mut lent.work] {
             words.extend([WORD; SPARE]);
         }
+        lent.log.extend([WORD; 4]);
         lent
     }
 

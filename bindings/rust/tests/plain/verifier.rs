@@ -50,7 +50,7 @@ fn gate(bytes: &[u8], rounds: usize, mode: Mode, challenges: &[Element]) -> Resu
     if challenges.len() < needed {
         return Err(Refusal::ShortChallenges);
     }
-    if bytes.first() != Some(&1) {
+    if ![Some(&1), Some(&2)].contains(&bytes.first()) {
         return Err(Refusal::BadVersion);
     }
     let proof = parse(bytes).ok_or(Refusal::BadLength)?;
@@ -136,6 +136,9 @@ pub fn verify(bytes: &[u8], rounds: usize, mode: Mode, challenges: &[Element]) -
         Err(refusal) => return (Err(refusal), vec![]),
     };
     let mut t = Transcript { log: vec![], left: challenges };
+    if bytes[0] == 2 {
+        t.observe(Element::new(rounds as u32));
+    }
     let verdict = run(&mut t, &proof);
     (verdict, t.log)
 }

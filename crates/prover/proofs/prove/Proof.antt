@@ -41,7 +41,7 @@ returns c =
     let a = r .before .before .before .before .before .before .before .before in
     let p = a .pre .0 in
     let s = r .sum-rows .ensures in
-    λ m e. prove-refused (a .args .rows .now) _ _ _ _ (a .args .work .now) _ m _ _ e (p .work) (s .sum m (p .pow ∙ ap (λ k. 2 ^ k) e)) (k .before .contradicts .ensures) (r .sum-rows .last .1 .1 .0) _ (k .if1 .taken) (omega (arith, r .sum-rows .kept)) (l .clear .ensures) (c .refuse .ensures)
+    λ m e. prove-refused (a .args .rows .now) _ _ _ _ (a .args .work .now) _ (a .args .sized) m _ _ e (p .work) (s .sum m (p .pow ∙ ap (λ k. 2 ^ k) e)) (k .before .contradicts .ensures) (r .sum-rows .last .1 .1 .0) _ (k .if1 .taken) (omega (arith, r .sum-rows .kept)) (l .clear .ensures) (c .refuse .ensures)
 
 write-run-requires : tie.Need-write-run-requires
 write-run-requires c κs =
@@ -73,7 +73,7 @@ returns-2 c =
     let s = r .sum-rows .ensures in
     λ m e.
     let z = p .pow ∙ ap (λ k. 2 ^ k) e in
-    prove-done (a .args .rows .now) _ _ _ _ (a .args .work .now) _ m _ _ e (p .work) (s .sum m z) (l .before .contradicts .ensures) _ _ (l .if1 .left) (rewritten {ws = a .args .work .now} {ws₁ = r .sum-rows .last .1 .1 .0} (omega (arith, r .sum-rows .kept)) (w .write-run .ensures (node (a .args .rows .now)) m e (levels-at e (s .levels m z)) (s .sum m z)))
+    prove-done (a .args .rows .now) _ _ _ _ (a .args .work .now) _ (a .args .sized) m _ _ e (p .work) (s .sum m z) (l .before .contradicts .ensures) _ _ (l .if1 .left) (rewritten {ws = a .args .work .now} {ws₁ = r .sum-rows .last .1 .1 .0} (omega (arith, r .sum-rows .kept)) (w .write-run .ensures (node (a .args .rows .now)) m e (levels-at e (s .levels m z)) (s .sum m z)))
 
 pub prove-spec : {M : Type 1} → statement M
 prove-spec =

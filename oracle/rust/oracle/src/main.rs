@@ -1,10 +1,12 @@
 //! The Rust as a process: one command a line on standard input, one answer a line on standard output.
 //! Words are decimal and comma-separated, bytes are hexadecimal, `-` is an empty list; oracle/README.md has the commands.
 //! An answer begins with `ok`, `err` (a refusal of the Rust or of the stored form), or `panic` with the panic's text.
+mod bound;
 mod drawn;
 mod stored;
 mod transcript;
 
+use bound::Bound;
 use drawn::{Carried, Drawn};
 use p3_field::{BabyBear, Ext, Field, PrimeCharacteristicRing};
 use stark_backend::{
@@ -110,9 +112,10 @@ impl Kept for Carried {
     }
 }
 
-/// prove ASSERT ROWS CHALLENGES: rows are p, q.
-fn prove(assert_zero: bool, rows: Vec<Ext>, mut ts: impl Kept) -> String {
+/// prove ASSERT ROWS CHALLENGES [sized]: rows are p, q.
+fn prove(assert_zero: bool, rows: Vec<Ext>, version: u8, ts: impl Kept) -> String {
     let rows: Vec<Frac<Ext>> = rows.chunks(2).map(|c| Frac::new(c[0], c[1])).collect();
+    let mut ts = Bound::new(ts, version, rows.len().max(1).ilog2() as usize);
     let run = catch_unwind(AssertUnwindSafe(|| {
         fractional_sumcheck::<SC, _>(&mut ts, &rows, assert_zero)
     }));
@@ -122,7 +125,7 @@ fn prove(assert_zero: bool, rows: Vec<Ext>, mut ts: impl Kept) -> String {
         Ok(Err(LogupZerocheckError::NonZeroRootSum)) => format!("err no=8 {left}"),
         Ok(Ok((proof, xi))) => {
             let (p, q) = proof.fractional_sum;
-            let stored = stored::store(q, &proof.claims_per_layer, &proof.sumcheck_polys);
+            let stored = stored::store(version, q, &proof.claims_per_layer, &proof.sumcheck_polys);
             format!(
                 "ok p={p} q={q} proof={} point={} {left}",
                 hex(&stored),
@@ -133,11 +136,12 @@ fn prove(assert_zero: bool, rows: Vec<Ext>, mut ts: impl Kept) -> String {
 }
 
 /// verify ROUNDS PROOF CHALLENGES
-fn verify(rounds: usize, proof: &[u8], mut ts: impl Kept) -> String {
-    let proof = match stored::load(proof) {
-        Ok(proof) => proof,
+fn verify(rounds: usize, proof: &[u8], ts: impl Kept) -> String {
+    let (version, proof) = match stored::load(proof) {
+        Ok(loaded) => loaded,
         Err(no) => return format!("err no={no} used=0 log=-"),
     };
+    let mut ts = Bound::new(ts, version, rounds);
     let run = catch_unwind(AssertUnwindSafe(|| {
         verify_gkr::<SC, _>(&proof, &mut ts, rounds)
     }));
@@ -263,7 +267,12 @@ fn answer(t: &[&str]) -> String {
 
 fn run(t: &[&str], ts: impl Kept) -> String {
     match t[0] {
-        "prove" => prove(t[1] == "1", ext(t[2]), ts),
+        "prove" => prove(
+            t[1] == "1",
+            ext(t[2]),
+            if t.get(4) == Some(&"sized") { 2 } else { 1 },
+            ts,
+        ),
         _ => verify(number(t[1]), &bytes(t[2]), ts),
     }
 }

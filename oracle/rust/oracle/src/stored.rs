@@ -4,7 +4,12 @@ use p3_field::{BabyBear, Ext, PrimeCharacteristicRing, P};
 use stark_backend::proof::{GkrLayerClaims, GkrProof};
 
 /// Version, length of what follows, q0, layers (p0, q0, p1, q1), entries of sub-rounds.
-pub fn store(q0: Ext, layers: &[GkrLayerClaims<SC>], polys: &[Vec<[Ext; 3]>]) -> Vec<u8> {
+pub fn store(
+    version: u8,
+    q0: Ext,
+    layers: &[GkrLayerClaims<SC>],
+    polys: &[Vec<[Ext; 3]>],
+) -> Vec<u8> {
     let mut body = vec![];
     put(&mut body, q0);
     body.push(layers.len() as u8);
@@ -20,7 +25,7 @@ pub fn store(q0: Ext, layers: &[GkrLayerClaims<SC>], polys: &[Vec<[Ext; 3]>]) ->
             put(&mut body, e);
         }
     }
-    let mut proof = vec![1];
+    let mut proof = vec![version];
     proof.extend((body.len() as u32).to_be_bytes());
     proof.extend(body);
     proof
@@ -32,13 +37,14 @@ fn put(out: &mut Vec<u8>, e: Ext) {
     }
 }
 
-/// The proof that the bytes hold, or document 01's number: 12, 13, or 6 once the whole layout is known to be good.
-pub fn load(bytes: &[u8]) -> Result<GkrProof<SC>, u32> {
+/// The version and the proof that the bytes hold, or the number: 12, 13, or 6 once the whole layout is known to be good.
+pub fn load(bytes: &[u8]) -> Result<(u8, GkrProof<SC>), u32> {
     let mut c = Cursor {
         rest: bytes,
         bad_word: false,
     };
-    if c.byte() != Ok(1) {
+    let version = c.byte().unwrap_or(0);
+    if version != 1 && version != 2 {
         return Err(12);
     }
     let length = c.word()?;
@@ -70,12 +76,13 @@ pub fn load(bytes: &[u8]) -> Result<GkrProof<SC>, u32> {
     if c.bad_word {
         return Err(6);
     }
-    Ok(GkrProof {
+    let proof = GkrProof {
         logup_pow_witness: BabyBear::ZERO,
         q0_claim,
         claims_per_layer,
         sumcheck_polys,
-    })
+    };
+    Ok((version, proof))
 }
 
 struct Cursor<'a> {

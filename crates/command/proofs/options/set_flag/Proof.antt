@@ -18,6 +18,9 @@ enum-told-3 c = search needs
 enum-told-4 : tie.Need-enum-told-4
 enum-told-4 c = search needs
 
+enum-told-5 : tie.Need-enum-told-5
+enum-told-5 c = search needs
+
 returns : tie.Need-returns
 returns c = sym (ap (set (c .before .before .args .flags)) (c .enum-told .given .1))
 
@@ -30,5 +33,8 @@ returns-3 c = sym (ap (set (c .before .before .args .flags)) (c .enum-told3 .giv
 returns-4 : tie.Need-returns-4
 returns-4 c = sym (ap (set (c .before .before .args .flags)) (c .enum-told4 .given .1))
 
+returns-5 : tie.Need-returns-5
+returns-5 c = sym (ap (set (c .before .before .args .flags)) (c .enum-told5 .given .1))
+
 pub set-flag-spec : {M : Type 1} → statement M
-set-flag-spec = tie.close (tie.spec enum-told enum-told-2 enum-told-3 enum-told-4 returns returns-2 returns-3 returns-4)
+set-flag-spec = tie.close (tie.spec enum-told enum-told-2 enum-told-3 enum-told-4 enum-told-5 returns returns-2 returns-3 returns-4 returns-5)

@@ -4,6 +4,9 @@ use borrow.Author.Needs.{needs}
 use Rattle.command.proofs.words.read_mode.Statement.{statement}
 use Rattle.command.proofs.words.read_mode.Tie as tie
 
+read-size-requires : tie.Need-read-size-requires
+read-size-requires c κs = search needs
+
 slice-aggregate-pick : tie.Need-slice-aggregate-pick
 slice-aggregate-pick c = search needs
 
@@ -22,12 +25,6 @@ slice-aggregate-pick-3 c = search needs
 pick-requires-3 : tie.Need-pick-requires-3
 pick-requires-3 c κs = search needs
 
-slice-aggregate-pick-4 : tie.Need-slice-aggregate-pick-4
-slice-aggregate-pick-4 c = search needs
-
-pick-requires-4 : tie.Need-pick-requires-4
-pick-requires-4 c κs = search needs
-
 returns : tie.Need-returns
 returns c = cc
 
@@ -35,12 +32,11 @@ pub read-mode-spec : {M : Type 1} → statement M
 read-mode-spec =
     tie.close
     (tie.spec
+    read-size-requires
     slice-aggregate-pick
     pick-requires
     slice-aggregate-pick-2
     pick-requires-2
     slice-aggregate-pick-3
     pick-requires-3
-    slice-aggregate-pick-4
-    pick-requires-4
     returns)
