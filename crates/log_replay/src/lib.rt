@@ -1,17 +1,18 @@
 // The verdict of a proof from a stored log alone: the plain verifier runs on the log's own challenges, into a log of its own, and both logs must be the same.
 ghost use mathlib.Core.Path.{_≡_};
-ghost use mathlib.Core.List.{List};
-ghost use Prim.Native.Nat.{ℕ, _^_, _≤_};
-ghost use lib.ListN.{length, take, replicate};
-ghost use Rattle.log_replay.specs.Replayed.{kept, plainWord, mostWords, challengesOf, ofRun, compared, outcome, replayed};
-ghost use Rattle.transcript.specs.Used.{unused};
+ghost use mathlib.Core.List.{_++_};
+ghost use Prim.Native.Nat.{_^_, _≤_};
+ghost use lib.Dec.{eqb};
+ghost use lib.ListN.{length, take, drop, replicate};
 ghost use Rattle.verifier_round.specs.declared.Verdict.the-variants.{Refused};
-ghost use Rattle.log_replay.specs.Inner.{asCompared, gap, fits};
+ghost use Rattle.log_replay.specs.Replayed.{kept, plainWord, mostWords, challengesOf, ofRun, compared, outcome, replayed};
+ghost use Rattle.log_replay.specs.Inner.{placed, nextPlace, asCompared, gap, fits, wordsLeft, endOf, settled};
 use field::Base;
 use refusal::MAX_ROUNDS;
 use refusal::Refusal;
 use refusal::Verifying;
 use verifier::Ending;
+use verifier::end::at_once;
 use verifier::end::copy_point;
 use verifier_round::Verdict;
 
@@ -33,6 +34,20 @@ fn plain_word(w: u32) -> u32
     0
 }
 
+// A word of the log goes to place k of the challenges, if it was sampled and there is room; the next place comes back.
+fn take_word(w: u32, challenges: &mut [u32], k: usize) -> usize
+    ensures { λ r. ⌜ (now (challenges .exit) ≡ placed w (now (challenges .entry)) k) × (r ≡ nextPlace w (now (challenges .entry)) k) ⌝ }
+{
+    if w < 2147483648 {
+        return k;
+    }
+    if challenges.len() <= k {
+        return k;
+    }
+    challenges[k] = plain_word(w);
+    k + 1
+}
+
 // The sampled words of a log go to the front of the challenges, as many as there is room for.
 fn take_challenges(log: &[u32], challenges: &mut [u32])
     requires { ⌜ now challenges ≡ replicate mostWords 0 ⌝ }
@@ -40,13 +55,15 @@ fn take_challenges(log: &[u32], challenges: &mut [u32])
 {
     let mut k = 0;
     for i in 0..log.len() {
-        if 2147483648 <= log[i] {
-            if k < challenges.len() {
-                challenges[k] = plain_word(log[i]);
-                k += 1;
-            }
-        }
+        k = take_word(log[i], challenges, k);
     }
+}
+
+// Whether a word is the one left: all of its bits, observed or sampled.
+fn alike(given: u32, left: u32) -> bool
+    ensures { λ r. ⌜ r ≡ eqb given left ⌝ }
+{
+    given == left
 }
 
 // The first place where the log given is not the log left.
@@ -57,7 +74,7 @@ fn compare_logs(given: &[u32], left: &[u32]) -> Gap
         if left.len() <= i {
             return Gap::At(Refusal::LogLong { place: i });
         }
-        if given[i] != left[i] {
+        if !alike(given[i], left[i]) {
             return Gap::At(Refusal::LogMismatch { place: i });
         }
     }
@@ -67,18 +84,25 @@ fn compare_logs(given: &[u32], left: &[u32]) -> Gap
     Gap::Closed
 }
 
-// Whether a verdict comes of a run, or of no rounds that are accepted.
-fn of_run(verdict: Verdict) -> bool
-    ensures { λ r. ⌜ r ≡ ofRun verdict ⌝ }
+// Whether a refusal comes of a run: 16 to 19.
+fn in_run(refusal: Refusal) -> bool
+    ensures { λ r. ⌜ r ≡ ofRun (Refused refusal) ⌝ }
 {
-    let number = verifier_round::number_and_values(verdict).number;
-    if number == 0 {
-        return true;
-    }
+    let number = refusal::number_and_fields(refusal).number;
     if number < 16 {
         return false;
     }
     number <= 19
+}
+
+// Whether a verdict comes of a run, or of no rounds that are accepted.
+fn of_run(verdict: Verdict) -> bool
+    ensures { λ r. ⌜ r ≡ ofRun verdict ⌝ }
+{
+    match verdict {
+        Verdict::Accepted { numer, denom } => true,
+        Verdict::Refused(refusal) => in_run(refusal),
+    }
 }
 
 // The gap between the log given and the log left, where the verdict comes of a run; else the log is not looked at.
@@ -91,16 +115,6 @@ fn gap_of(verdict: Verdict, given: &[u32], left: &[u32]) -> Gap
     Gap::Closed
 }
 
-// A refusal that has used up nothing.
-fn refuse(refusal: Refusal) -> Ending
-    ensures { λ r. ⌜ (r .verdict ≡ Refused refusal) × (r .used ≡ unused) ⌝ }
-{
-    Ending {
-        verdict: Verdict::Refused(refusal),
-        used: transcript::unused(),
-    }
-}
-
 // The words of a point that are looked at: all, but no more than any run writes.
 fn fitting(points: usize) -> usize
     ensures { λ r. ⌜ r ≡ fits points ⌝ }
@@ -109,6 +123,45 @@ fn fitting(points: usize) -> usize
         return points;
     }
     4 * MAX_ROUNDS
+}
+
+// How many of k words of a point are written: none where there is a gap.
+fn words_left(gap: Gap, k: usize) -> usize
+    ensures { λ r. ⌜ r ≡ wordsLeft (asCompared gap) k ⌝ }
+{
+    match gap {
+        Gap::Closed => k,
+        Gap::At(refusal) => 0,
+    }
+}
+
+// How a replay ends where the plain verifier ends so: by the refusal of a gap, which has used up nothing, or so.
+fn end_of(gap: Gap, ending: Ending) -> Ending
+    ensures { λ r. ⌜ r ≡ endOf (asCompared gap) ending ⌝ }
+{
+    match gap {
+        Gap::Closed => ending,
+        Gap::At(refusal) => at_once(Verdict::Refused(refusal)),
+    }
+}
+
+// How a replay ends, with the first k words of the point that the plain verifier found, where there is no gap.
+fn settle(
+    ending: Ending,
+    given: &[u32],
+    left: &[u32],
+    xi: &[u32],
+    point: &mut [u32],
+    k: usize,
+) -> Ending
+    requires { ⌜ (k ≤ length (now xi)) × (k ≤ length (now point)) ⌝ }
+    ensures { λ r. ⌜ outcome (r .verdict) (r .used) (now (point .exit)) ≡ settled (gap (ending .verdict) (now (given .entry)) (now (left .entry)))
+        ending (take k (now (xi .entry)) ++ drop k (now (point .entry))) (now (point .entry)) ⌝ }
+{
+    let verdict = ending.verdict;
+    let gap = gap_of(verdict, given, left);
+    copy_point(xi, point, words_left(gap, k));
+    end_of(gap, ending)
 }
 
 // The verdict of a proof of so many rounds from a log alone: accepted with both claims and the point written, or refused; where the log is not the one that the verifier
@@ -131,11 +184,5 @@ pub fn replay(
     copy_point(point, &mut xi, k);
     let ending = verifier::verify_gkr(proof, rounds, modes, &challenges, &mut xi[..k], &mut own);
     let n = ending.used.words;
-    match gap_of(ending.verdict, log, &own[..n]) {
-        Gap::Closed => {
-            copy_point(&xi, point, k);
-            ending
-        }
-        Gap::At(refusal) => refuse(refusal),
-    }
+    settle(ending, log, &own[..n], &xi, point, k)
 }
