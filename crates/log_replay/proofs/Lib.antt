@@ -1,8 +1,7 @@
--- The turns of a replay's loops, and what its call of the verifier leaves.
+-- The turns of a replay's loops, and how it is settled; and what follows of a replay: the verifier's own log replays, and a log with another word does not.
 pub mod Turns
 pub mod Taking
-pub mod Called
--- What follows of a replay: the verifier's own log replays, and a log with another word does not.
+pub mod Settling
 pub mod Comparing
 pub mod Values
 pub mod Runs

@@ -1,5 +1,5 @@
 use mathlib.Core.Path.{sym}
-use Rattle.log_replay.proofs.Called.{fits-few, fits-many}
+use Rattle.log_replay.proofs.Settling.{fits-few, fits-many}
 use borrow.Author.Needs.{needs}
 use Rattle.log_replay.proofs.fitting.Statement.{statement}
 use Rattle.log_replay.proofs.fitting.Tie as tie

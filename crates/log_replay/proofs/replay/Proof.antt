@@ -3,7 +3,7 @@ use Prim.Native.Nat.{_≤_}
 use lib.ListN.{length, drop}
 use lib.Seq.{length-take-le, length-front}
 use Rattle.log_replay.specs.Replayed.{kept}
-use Rattle.log_replay.proofs.Called.{fits-most, fits-in, own-holds, replayed-so}
+use Rattle.log_replay.proofs.Settling.{fits-most, fits-in, own-holds, replayed-so}
 use native.Mathlib.Omega.{arith}
 use borrow.Author.Needs.{needs}
 use Rattle.log_replay.proofs.replay.Statement.{statement}

@@ -1,5 +1,5 @@
 use Rattle.log_replay.specs.Inner.{asCompared, gap}
-use Rattle.log_replay.proofs.Called.{few-left, settled-so}
+use Rattle.log_replay.proofs.Settling.{few-left, settled-so}
 use native.Mathlib.Omega.{arith}
 use borrow.Author.Needs.{needs}
 use Rattle.log_replay.proofs.settle.Statement.{statement}
