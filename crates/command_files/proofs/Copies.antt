@@ -1,13 +1,16 @@
--- The turns of the copy of a log's words.
+-- The turns of the copy of a log's words, and the ends of its reading.
 -- Assumes nothing.
 use mathlib.Core.Path.{_≡_, refl, sym, _∙_, ap}
 use mathlib.Core.List.{List, [], _∷_, _++_, append-assoc}
-use Prim.Native.Nat.{ℕ, _+_, _*_, _<_}
+use Prim.Native.Nat.{ℕ, _+_, _*_, _/_, _%_, _<_, _≤_}
 use native.Mathlib.Numerals.{add-one}
+use borrow.Author.Tests.{eq-eqb, ne-eqb, lt-ltb, le-ltb}
 use lib.ListN.{length, getD, drop, set}
 use lib.Seq.{drop-cons, set-at}
 use Rattle.wire.specs.Bytes.{word, wordsFrom}
 use Rattle.wire.specs.ByteLaws.{words-length, words-add}
+use Rattle.command_files.specs.Given.{some, nothing}
+use Rattle.command_files.specs.Logs.{logOf}
 
 module _ (bs old : List ℕ) where
   pub copy-none : old ≡ wordsFrom 0 bs ++ drop 0 old
@@ -25,3 +28,17 @@ module _ (bs old : List ℕ) where
       ∙ set-at ws (getD old i 0) (drop (i + 1) old) w i (words-length i bs)
       ∙ sym (append-assoc ws (w ∷ []) (drop (i + 1) old))
       ∙ ap (λ l. l ++ drop (i + 1) old) (sym s)
+
+  -- bytes that are no whole words, more words than there is room for, and words that were copied
+  pub log-split : (length bs % 4 ≡ 0 → ⊥) → nothing old ≡ logOf bs old
+  unfolding logOf
+  log-split h = rw (ne-eqb (length bs % 4) 0 h)
+
+  module _ (h : length bs % 4 ≡ 0) where
+    pub log-over : length old < length bs / 4 → nothing old ≡ logOf bs old
+    unfolding logOf
+    log-over l = rw (eq-eqb (length bs % 4) 0 h, lt-ltb (length old) (length bs / 4) l)
+
+    pub log-whole : (new : List ℕ) → length bs / 4 ≤ length old → new ≡ wordsFrom (length bs / 4) bs ++ drop (length bs / 4) old → some (length bs / 4) new ≡ logOf bs old
+    unfolding logOf
+    log-whole new l e = ap (some (length bs / 4)) e ∙ rw (eq-eqb (length bs % 4) 0 h, le-ltb (length old) (length bs / 4) l)

@@ -13,7 +13,7 @@ abbrev pub logWords : (n : ℕ) (bytes old : List ℕ) → End
 logWords n bytes old = cond (ltb (length old) n) (nothing old) (some n (wordsFrom n bytes ++ drop n old))
 
 -- whole words alone, and no more than there is room for
-abbrev pub logOf : (bytes old : List ℕ) → End
+unfoldable pub logOf : (bytes old : List ℕ) → End
 logOf bytes old = cond (eqb (length bytes % 4) 0) (logWords (length bytes / 4) bytes old) (nothing old)
 
 abbrev pub logGiven : List ℕ → Contents → End

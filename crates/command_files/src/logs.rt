@@ -9,6 +9,7 @@ ghost use Rattle.wire.specs.Written.{Wrote};
 ghost use Rattle.command_files.specs.Given.{FromFile};
 ghost use Rattle.command_files.specs.Logs.{logOf, logGiven};
 use crate::After;
+use crate::front;
 use crate::inputs::Given;
 use crate::read;
 use crate::replace;
@@ -39,15 +40,6 @@ fn split_word(path: &[u8], bytes: usize) {
     print(b" bytes, and each word of a log has 4\n");
 }
 
-fn none() -> Given
-    ensures { λ r. ⌜ r ≡ record { count = 0; good = false } ⌝ }
-{
-    Given {
-        count: 0,
-        good: false,
-    }
-}
-
 fn log_of(path: &[u8], bytes: &[u8], words: &mut [u32]) -> Given
     ensures { λ r. ⌜ Counts (r .count) (now (words .exit)) ⌝ }
     ensures given { λ r. ⌜ record { given = r; words = now (words .exit) } ≡ logOf (now (bytes .entry)) (now (words .entry)) ⌝ }
@@ -55,11 +47,17 @@ fn log_of(path: &[u8], bytes: &[u8], words: &mut [u32]) -> Given
     let n = bytes.len() / 4;
     if bytes.len() % 4 != 0 {
         split_word(path, bytes.len());
-        return none();
+        return Given {
+            count: 0,
+            good: false,
+        };
     }
     if words.len() < n {
         too_long(path);
-        return none();
+        return Given {
+            count: 0,
+            good: false,
+        };
     }
     copy_log(bytes, words, n);
     Given {
@@ -84,7 +82,10 @@ pub fn read_log(path: &[u8], words: &mut [u32]) -> Given
             return log_of(path, &bytes[..n], words);
         }
     }
-    none()
+    Given {
+        count: 0,
+        good: false,
+    }
 }
 
 // The words go to the front of the bytes.
@@ -99,25 +100,26 @@ fn put_log(out: &mut [u8], words: &[u32]) -> usize
     p
 }
 
+fn at_most(n: usize, most: usize) -> usize
+    ensures { λ r. ⌜ r ≡ min n most ⌝ }
+{
+    if n < most { n } else { most }
+}
+
 // So many words of a log, as many as there are, and no more than any run writes.
 fn log_front(words: usize, log: &[u32]) -> usize
     ensures { λ r. ⌜ (r ≡ min words (min (length (now (log .entry))) 968)) × Counts r (now (log .entry)) × (r ≤ 968) ⌝ }
 {
-    let mut n = log.len();
-    if 968 < n {
-        n = 968;
-    }
-    if words < n {
-        n = words;
-    }
-    n
+    let most = at_most(log.len(), 968);
+    if words < most { words } else { most }
 }
 
 fn write_log(path: &[u8], log: &[u32]) -> bool
     requires { ⌜ length (now log) ≤ 968 ⌝ }
 {
     let mut bytes = [0u8; 3872];
-    let n = put_log(&mut bytes, log);
+    let end = put_log(&mut bytes, log);
+    let n = front(end, &bytes);
     replace(path, &bytes[..n])
 }
 

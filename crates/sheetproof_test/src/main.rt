@@ -153,7 +153,25 @@ fn print_differs(place: usize, sized: bool) {
 
 // Each kind of word of a log, at its first and its last place.
 fn print_log_words() {
-    let places = [0usize, 3usize, 4usize, 19usize, 20usize, 23usize, 24usize, 28usize, 36usize, 40usize, 44usize, 59usize, 60usize, 64usize, 80usize, 84usize, 959usize];
+    let places = [
+        0usize,
+        3usize,
+        4usize,
+        19usize,
+        20usize,
+        23usize,
+        24usize,
+        28usize,
+        36usize,
+        40usize,
+        44usize,
+        59usize,
+        60usize,
+        64usize,
+        80usize,
+        84usize,
+        959usize,
+    ];
     for i in 0..places.len() {
         print_differs(places[i], false);
     }
