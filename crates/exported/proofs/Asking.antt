@@ -3,6 +3,7 @@
 use mathlib.Core.Path.{_≡_, sym, _∙_, ap, ap₂, subst}
 use Prim.Native.Nat.{ℕ, _+_, _^_}
 use native.Mathlib.Omega.{arith}
+use lib.ListN.{length}
 use Rattle.gkr.specs.Tests.{pass}
 use Rattle.gkr.specs.Sizes.{point-words}
 use Rattle.refusal.specs.Limits.{maxRounds}
@@ -36,7 +37,7 @@ module _ (c : Call) (how : Verifying) (n : ℕ) (b : Buffers) (v : Lent) (s : Sh
         room = record {
           prover = ap₂ (λ a z. shortRoom a z n (roomsOf b)) (sym (ap (λ m. m .«assert_zero») read ∙ s .asserted)) (sym (ap (λ m. m .sized) read)) ∙ roomy (wordOf c) (c .challenges) b n few h;
           point-again = fits n (point-words n) _ few (k .point);
-          log-again = log-lent (c .modes .sized) n _ few (k .log);
+          log-again = log-lent (c .modes .sized) n (length (v .log)) few (omega (arith, k .log));
         };
       }
 

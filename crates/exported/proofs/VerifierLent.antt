@@ -56,7 +56,7 @@ run-not-short proof n modes ch v h =
     either P (eqb n 0 && not (a .modes .empty)) _ _ (λ e. other 10 refl refl) (λ some.
     either P (ltb maxRounds n) _ _ (λ e. other 11 refl refl) (λ e.
     let few = ltb-false maxRounds n e in
-    let logs = le-ltb _ _ (log-lent (Parse.sized (a .proof)) n (length (v .log)) few (h .log)) in
+    let logs = le-ltb _ _ (log-lent (Parse.sized proof) n (length (v .log)) few (omega (arith, h .log))) in
     either P (ltb (length (a .challenges)) (neededWords (has DRAWN modes) n)) _ _ (never (challenges-lent (has DRAWN modes) n _ few (h .challenges))) (λ e3.
     either P (not (Parse.known (a .proof))) _ _ (λ e. other 12 refl refl) (λ e4.
     either P (ltb (length (v .point)) (4 * n) || ltb (length (v .log)) (logRoom true (Parse.sized (a .proof)) n)) _ _ (never (ap₂ _||_ (lent n (4 * n) _ few (h .point)) logs)) (λ e5.

@@ -25,7 +25,7 @@ use Rattle.verifier.specs.Verified as Verifier
 use Rattle.agreement.specs.Demand3.{root}
 use Rattle.agreement.specs.KTable.{K3, room}
 use Rattle.accudrina.specs.Answer.{answerWords}
-use Rattle.accudrina.specs.Modes.{ASSERT-ZERO, SIZED, has, without}
+use Rattle.accudrina.specs.Modes.{has, without}
 use Rattle.accudrina.specs.Rooms.{logWords}
 use Rattle.exported.specs.Exported.{Sheet, done, wordOf, wordAgain, proves, handed}
 use Rattle.exported.specs.Asked.{ForProver, ForVerifier}
@@ -81,11 +81,8 @@ for-prover sized live =
 
 for-verifier : (sized live-again : Bool) → ForVerifier sized n (wordAgain (again live-again)) (K3 .challenges) (lent sized)
 unfolding pointWords has
-for-verifier sized live-again = record { point = leb-true _ _ refl; log = logs sized; challenges = λ _. leb-true _ _ refl }
-  where
-    logs : (sized : Bool) → logWords n (ASSERT-ZERO + cond sized SIZED 0) ≤ length (lent sized .log)
-    logs true = leb-true _ _ refl
-    logs false = leb-true _ _ refl
+for-verifier true live-again = record { point = leb-true _ _ refl; log = leb-true _ _ refl; challenges = λ _. leb-true _ _ refl }
+for-verifier false live-again = record { point = leb-true _ _ refl; log = leb-true _ _ refl; challenges = λ _. leb-true _ _ refl }
 
 pub K3-met : K3Met
 unfolding roundsFrom isSize
