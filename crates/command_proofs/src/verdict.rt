@@ -28,6 +28,7 @@ pub fn print_good(
     print_notes(stored::is_over_zero(proof), counted);
 }
 
+// What was refused, and what was used up until then.
 pub fn print_bad(proof: &[u8], refusal: Refusal, used: Used) {
     print_refused(proof, refusal);
     print_used(used);

@@ -25,17 +25,20 @@ fn layer(r: usize) {
     print_count(r);
 }
 
+// One of the four claims of a layer.
 pub fn claim(r: usize, which: usize) {
     layer(r);
     claim_name(which);
 }
 
+// A sub-round of a layer.
 pub fn subround(at: SubroundAt) {
     layer(at.layer);
     print(b", sub-round ");
     print_count(at.subround);
 }
 
+// One of its three sums.
 pub fn sum(at: SubroundAt, which: usize) {
     subround(at);
     sum_name(which);
