@@ -3,9 +3,8 @@
 use mathlib.Core.Path.{_≡_, refl, sym, _∙_, ap, ap₂, subst}
 use mathlib.Core.Bool.{Bool, true, false, not, _&&_, and-eq-true-iff}
 use mathlib.Core.List.{List}
-use Prim.Native.Nat.{ℕ, zero, suc, _*_, _^_, _<_, _≤_}
+use Prim.Native.Nat.{ℕ, zero, suc, _+_, _*_, _^_, _<_, _≤_}
 use native.Mathlib.Omega.{arith}
-use native.Mathlib.Nat.{zero-add}
 use borrow.Author.Tests.{ne-eqb}
 use lib.Dec.{eqb}
 use lib.ListN.{length, take, drop}
@@ -26,6 +25,7 @@ use Rattle.gkr.specs.Honest as Honest
 use Rattle.gkr.specs.Count as Count
 use Rattle.gkr.specs.TranscriptLaws as TranscriptLaws
 use Rattle.transcript.specs.Log.{Drawing}
+use Rattle.transcript.specs.Bound.{bound}
 use Rattle.transcript.specs.Source as Source
 use Rattle.sizes.specs.SizeLaws.{counted}
 use Rattle.wire.specs.Words.{allCanonical}
@@ -34,7 +34,7 @@ use Rattle.stored.specs.ParseLaws.{Answered, parse-reads}
 use Rattle.stored.specs.RoundTrip.{write-read}
 use Rattle.stored.specs.Elements.{encoded, decoded, overZero}
 use Rattle.prover_tree.specs.Nodes.{node}
-use Rattle.sizes.specs.Sizes.{rowCount, roundsOf, neededWords}
+use Rattle.sizes.specs.Sizes.{rowCount, roundsOf, neededWords, logRoom}
 use Rattle.refusal.specs.declared.Verifying.{Verifying}
 use Rattle.refusal.specs.Tests.{passed, firstOf}
 use Rattle.prover_gate.specs.Refusals.{Call}
@@ -62,7 +62,7 @@ abbrev pub like : (c : Call) (live : Bool) → Verifying
 like c live = record { live = live; drawn = c .modes .drawn; empty = false }
 
 -- The run over a sheet that is taken, zero asserted or not: t is the log before root q.
-module _ (c : Call) (live : Bool) (m : ℕ) (b : Prover.Buffers) (v : Lent) (h : Taken c (suc m)) (r : Room (c .modes .«assert_zero») (suc m) b v) (sound : live ≡ true → Sound (c .rows)) where
+module _ (c : Call) (live : Bool) (m : ℕ) (b : Prover.Buffers) (v : Lent) (h : Taken c (suc m)) (r : Room (c .modes .«assert_zero») (c .modes .sized) (suc m) b v) (sound : live ≡ true → Sound (c .rows)) where
   abbrev how : Verifying
   how = like c live
 
@@ -75,32 +75,36 @@ module _ (c : Call) (live : Bool) (m : ℕ) (b : Prover.Buffers) (v : Lent) (h :
   abbrev S : Transcript E.Ext
   S = Drawing source
 
+  -- the log that both sides begin with
+  abbrev begin : Words
+  begin = bound (c .modes .sized) (suc m) empty
+
   abbrev ended : Lent → Gkr.Verdict Extension S → Verifier.Outcome
   ended v w = Verifier.laid (Verifier.ended source w) v
 
-  module _ (t : Words) (e : Gkr.fractional-sumcheck Extension S (c .modes .«assert_zero») m rows empty ≡ done (Gkr.run Extension S m rows t)) where
+  module _ (t : Words) (e : Gkr.fractional-sumcheck Extension S (c .modes .«assert_zero») m rows begin ≡ done (Gkr.run Extension S m rows t)) where
     abbrev run : Gkr.Proved Extension S
     run = Gkr.run Extension S m rows t
 
     -- the prover is done with the model's run
-    pub proved-run : Prover.proved c b ≡ Prover.laid (Prover.finished source (suc m) run) b
+    pub proved-run : Prover.proved c b ≡ Prover.laid (Prover.finished source (c .modes .sized) (suc m) run) b
     unfolding Prover.proved Prover.fronts
     proved-run =
         ap (λ t. Prover.laid (Prover.entered c t) b) (opens c m b v h r)
         ∙ ap (λ (n : ℕ). Prover.laid (Prover.ran (c .rows) (c .modes) (c .challenges) n) b) (rounds-taken-are c m b v h r)
-        ∙ ap (λ a. Prover.laid (Prover.after source (suc m) a) b) e
+        ∙ ap (λ a. Prover.laid (Prover.after source (c .modes .sized) (suc m) a) b) e
 
     abbrev bytes : List ℕ
-    bytes = layout (encoded (run .proof))
+    bytes = layout (c .modes .sized) (encoded (run .proof))
 
     -- the front of its proof buffer is the proof's layout
     pub front : take (proof-bytes (suc m)) (Prover.proved c b .buffers .proof) ≡ bytes
     front =
         ap (λ o. take (proof-bytes (suc m)) (o .buffers .proof)) proved-run
-        ∙ take-at bytes (drop (length bytes) (b .proof)) (proof-bytes (suc m)) (honest-size S m rows t)
+        ∙ take-at bytes (drop (length bytes) (b .proof)) (proof-bytes (suc m)) (honest-size S m rows t (c .modes .sized))
 
-    pub back : Answered bytes (encoded (run .proof))
-    back = parse-reads bytes (encoded (run .proof)) (write-read (encoded (run .proof)))
+    pub back : Answered bytes (c .modes .sized) (encoded (run .proof))
+    back = parse-reads bytes (c .modes .sized) (encoded (run .proof)) (write-read (c .modes .sized) (encoded (run .proof)))
 
     -- there are rounds
     some : eqb (suc m) 0 ≡ false
@@ -121,18 +125,18 @@ module _ (c : Call) (live : Bool) (m : ℕ) (b : Prover.Buffers) (v : Lent) (h :
     opened-run =
         let canon = ap (λ π. allCanonical (proofWords π)) (back .proof) ∙ encoded-canonical (run .proof) in
         opens-all (Verifier.asked bytes (suc m) how (c .challenges)) _ _ (back .reads)
-        (record { some = ap (λ x. x && true) some; few = h .few; chals = h .enough; room = r .point-again; log-room = r .log-again; canon = canon; clean = h .valid-challenges }) (root-passes _ refl)
+        (record { some = ap (λ x. x && true) some; few = h .few; chals = h .enough; room = r .point-again; log-room = subst (λ s. logRoom true s (suc m) ≤ length (v .log)) (sym (back .sized)) (r .log-again); canon = canon; clean = h .valid-challenges }) (root-passes _ refl)
 
     -- which the verifier reads as that proof
-    verified-run : Verifier.verified (Verifier.asked bytes (suc m) how (c .challenges)) v ≡ ended v (Gkr.verify-gkr Extension S (suc m) (run .proof) empty)
+    verified-run : Verifier.verified (Verifier.asked bytes (suc m) how (c .challenges)) v ≡ ended v (Gkr.verify-gkr Extension S (suc m) (run .proof) begin)
     unfolding Verifier.verified
     verified-run =
         ap (λ w. Verifier.laid (Verifier.fronts (Verifier.asked bytes (suc m) how (c .challenges)) w) v) opened-run
         ∙ ap (λ f. Verifier.laid f v) (fail (eqb (suc m) 0) _ _ some)
-        ∙ ap (λ π. ended v (Gkr.verify-gkr Extension S (suc m) (decoded π) empty)) (back .proof)
-        ∙ ap (λ π. ended v (Gkr.verify-gkr Extension S (suc m) π empty)) (decoded-encoded (run .proof))
+        ∙ ap₂ (λ s π. ended v (Gkr.verify-gkr Extension S (suc m) (decoded π) (bound s (suc m) empty))) (back .sized) (back .proof)
+        ∙ ap (λ π. ended v (Gkr.verify-gkr Extension S (suc m) π begin)) (decoded-encoded (run .proof))
 
-    pub verdict-run : verdict c how (suc m) (Prover.proved c b) v ≡ ended v (Gkr.verify-gkr Extension S (suc m) (run .proof) empty)
+    pub verdict-run : verdict c how (suc m) (Prover.proved c b) v ≡ ended v (Gkr.verify-gkr Extension S (suc m) (run .proof) begin)
     verdict-run = ap (λ bs. Verifier.verified (Verifier.asked bs (suc m) how (c .challenges)) v) front ∙ verified-run
 
     pub sum-run : Prover.proved c b .answer ≡ Done (suc m) (Prover.encFrac (root c (suc m)))
@@ -141,41 +145,49 @@ module _ (c : Call) (live : Bool) (m : ℕ) (b : Prover.Buffers) (v : Lent) (h :
 
 -- ZERO ASSERTED, AND THE ROOT NUMERATOR ZERO
 
-module _ (c : Call) (live : Bool) (m : ℕ) (b : Prover.Buffers) (v : Lent) (h : Taken c (suc m)) (a : c .modes .«assert_zero» ≡ true) (z : root c (suc m) .p ≡ E.nil) (r : Room true (suc m) b v)
+-- the log begins with the size, or with nothing
+begun-words : (sized : Bool) (m : ℕ) → length (bound sized (suc m) empty .log) + log-words true (suc m) ≡ logRoom true sized (suc m)
+begun-words true m = refl
+begun-words false m = refl
+
+module _ (c : Call) (live : Bool) (m : ℕ) (b : Prover.Buffers) (v : Lent) (h : Taken c (suc m)) (a : c .modes .«assert_zero» ≡ true) (z : root c (suc m) .p ≡ E.nil) (r : Room true (c .modes .sized) (suc m) b v)
     (sound : live ≡ true → Sound (c .rows)) where
   abbrev ch : Source E.Ext
   ch = sourceOf c (suc m)
 
+  abbrev start : Words
+  start = bound (c .modes .sized) (suc m) empty
+
   abbrev P : Gkr.Proved Extension (Drawing ch)
-  P = Gkr.run Extension (Drawing ch) m (node (c .rows)) empty
+  P = Gkr.run Extension (Drawing ch) m (node (c .rows)) start
 
-  theorem : (Gkr.fractional-sumcheck Extension (Drawing ch) true m (node (c .rows)) empty ≡ done P)
-      × (Gkr.verify-gkr Extension (Drawing ch) (suc m) (P .proof) empty ≡ accepted (Tree.value ExtRing (node (c .rows)) (P .point)) (P .point) (P .log))
-  theorem = Honest.honest Extension (Drawing ch) m (node (c .rows)) empty z
+  theorem : (Gkr.fractional-sumcheck Extension (Drawing ch) true m (node (c .rows)) start ≡ done P)
+      × (Gkr.verify-gkr Extension (Drawing ch) (suc m) (P .proof) start ≡ accepted (Tree.value ExtRing (node (c .rows)) (P .point)) (P .point) (P .log))
+  theorem = Honest.honest Extension (Drawing ch) m (node (c .rows)) start z
 
-  pub is-done : Gkr.fractional-sumcheck Extension (Drawing ch) (c .modes .«assert_zero») m (node (c .rows)) empty ≡ done P
-  is-done = ap (λ s. Gkr.fractional-sumcheck Extension (Drawing ch) s m (node (c .rows)) empty) a ∙ theorem .0
+  pub is-done : Gkr.fractional-sumcheck Extension (Drawing ch) (c .modes .«assert_zero») m (node (c .rows)) start ≡ done P
+  is-done = ap (λ s. Gkr.fractional-sumcheck Extension (Drawing ch) s m (node (c .rows)) start) a ∙ theorem .0
 
-  pub r′ : Room (c .modes .«assert_zero») (suc m) b v
-  r′ = subst (λ s. Room s (suc m) b v) (sym a) r
+  pub r′ : Room (c .modes .«assert_zero») (c .modes .sized) (suc m) b v
+  r′ = subst (λ s. Room s (c .modes .sized) (suc m) b v) (sym a) r
 
-  run-is : Prover.proved c b ≡ Prover.laid (Prover.finished ch (suc m) P) b
-  run-is = proved-run c live m b v h r′ sound empty is-done
+  run-is : Prover.proved c b ≡ Prover.laid (Prover.finished ch (c .modes .sized) (suc m) P) b
+  run-is = proved-run c live m b v h r′ sound start is-done
 
   verdict-is : verdict c (like c live) (suc m) (Prover.proved c b) v ≡ Verifier.laid (Verifier.ended ch (accepted (Tree.value ExtRing (node (c .rows)) (P .point)) (P .point) (P .log))) v
-  verdict-is = verdict-run c live m b v h r′ sound empty is-done ∙ ap (λ w. Verifier.laid (Verifier.ended ch w) v) (theorem .1)
+  verdict-is = verdict-run c live m b v h r′ sound start is-done ∙ ap (λ w. Verifier.laid (Verifier.ended ch w) v) (theorem .1)
 
   pub agreed : Agreed c (suc m) b v (Prover.proved c b) (verdict c (like c live) (suc m) (Prover.proved c b) v)
   agreed =
       record {
         point = P .point;
         logged = P .log .log;
-        done = sum-run c live m b v h r′ sound empty is-done;
+        done = sum-run c live m b v h r′ sound start is-done;
         accepted = ap (λ o. o .answer) verdict-is;
-        coordinates = Count.point-length Extension (Drawing ch) m (node (c .rows)) empty;
+        coordinates = Count.point-length Extension (Drawing ch) m (node (c .rows)) start;
         proved-point = ap (λ o. o .buffers .point) run-is;
         verified-point = ap (λ o. o .buffers .point) verdict-is;
-        size = TranscriptLaws.done-words Extension words _ (λ x. refl) true m (node (c .rows)) empty P (theorem .0) ∙ zero-add _;
+        size = TranscriptLaws.done-words Extension words _ (λ x. refl) true m (node (c .rows)) start P (theorem .0) ∙ begun-words (c .modes .sized) m;
         proved-log = ap (λ o. o .buffers .log) run-is;
         verified-log = ap (λ o. o .buffers .log) verdict-is;
       }
@@ -209,11 +221,12 @@ other-sum c how zero b v h d a z r sound = absurd (none 0 refl (h .some))
 other-sum c how (suc m) b v h d a z r sound =
     let ch = sourceOf c (suc m) in
     let f = node (c .rows) in
-    let t = Drawing ch .observe (root c (suc m) .p) empty in
-    let e : Gkr.fractional-sumcheck Extension (Drawing ch) (c .modes .«assert_zero») m f empty ≡ done (Gkr.run Extension (Drawing ch) m f t) =
-    ap (λ s. Gkr.fractional-sumcheck Extension (Drawing ch) s m f empty) a in
-    let r′ : Room (c .modes .«assert_zero») (suc m) b v = subst (λ s. Room s (suc m) b v) (sym a) r in
-    let n = Honest.not-zero Extension (Drawing ch) m f t empty (differs (root c (suc m) .p) z) in
+    let start = bound (c .modes .sized) (suc m) empty in
+    let t = Drawing ch .observe (root c (suc m) .p) start in
+    let e : Gkr.fractional-sumcheck Extension (Drawing ch) (c .modes .«assert_zero») m f start ≡ done (Gkr.run Extension (Drawing ch) m f t) =
+    ap (λ s. Gkr.fractional-sumcheck Extension (Drawing ch) s m f start) a in
+    let r′ : Room (c .modes .«assert_zero») (c .modes .sized) (suc m) b v = subst (λ s. Room s (c .modes .sized) (suc m) b v) (sym a) r in
+    let n = Honest.not-zero Extension (Drawing ch) m f t start (differs (root c (suc m) .p) z) in
     (sum-run c (how .live) m b v h r′ sound t e, ap (λ o. o .answer) (alike c how m (Prover.proved c b) v d) ∙ ap (λ o. o .answer) (verdict-run c (how .live) m b v h r′ sound t e ∙ ap (λ w. Verifier.laid (Verifier.ended ch w) v) n))
 
 -- PROVED LIVE

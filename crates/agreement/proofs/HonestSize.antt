@@ -1,6 +1,7 @@
 -- An honest proof has as many bytes as document 01 says.
 -- Assumes nothing.
 use mathlib.Core.Path.{_≡_, refl, sym, _∙_, ap, ap₂}
+use mathlib.Core.Bool.{Bool}
 use mathlib.Core.List.{List, [], _∷_, map}
 use Prim.Native.Nat.{ℕ, zero, suc, _-_}
 use native.Mathlib.Omega.{arith}
@@ -38,5 +39,5 @@ module _ (S : Transcript E.Ext) (m : ℕ) (f : ℕ → Frac E.Ext) (t : S .Log) 
         subrounds = counts (π .polys) ∙ Count.polys-lengths Extension S m f t ∙ upward m 1 ∙ ap (upFrom 1) (sym z);
       }
 
-  pub honest-size : length (layout (encoded π)) ≡ proof-bytes (suc m)
-  honest-size = rounds-size (suc m) (encoded π) (omega arith) shape
+  pub honest-size : (sized : Bool) → length (layout sized (encoded π)) ≡ proof-bytes (suc m)
+  honest-size sized = rounds-size sized (suc m) (encoded π) (omega arith) shape

@@ -43,7 +43,7 @@ module _ (c : Call) (b : Buffers) (n : ℕ) (s : Frac) where
     pub rounds : n ≡ roundsOf (rowCount (c .rows))
 
   rounds-told : (k : ℕ) → Ends (λ f. f .answer ≡ Done n s → n ≡ k) k
-  rounds-told k = record { finishes = λ ch P h. cc; eight = λ h. absurd (done-refused n s _ (sym h)); nine = λ h. absurd (done-refused n s _ (sym h)) }
+  rounds-told k = record { finishes = λ ch v P h. cc; eight = λ h. absurd (done-refused n s _ (sym h)); nine = λ h. absurd (done-refused n s _ (sym h)) }
 
   admitted : proved c b .answer ≡ Done n s → Admitted
   unfolding proved fronts
@@ -99,7 +99,7 @@ module _ (c : Call) (how : Verifying) (b : Buffers) (v : Lent) where
       ∙ ap (λ o. follow c how v o (o .answer)) h
 
   -- DEMAND 3
-  pub agrees : (j : Joined) → j ≡ together c how b v → (n : ℕ) → Taken c n → how .drawn ≡ c .modes .drawn → c .modes .«assert_zero» ≡ true → root c n .p ≡ E.nil → Room true n b v → (how .live ≡ true → Sound (c .rows)) → Agrees c n b v j
+  pub agrees : (j : Joined) → j ≡ together c how b v → (n : ℕ) → Taken c n → how .drawn ≡ c .modes .drawn → c .modes .«assert_zero» ≡ true → root c n .p ≡ E.nil → Room true (c .modes .sized) n b v → (how .live ≡ true → Sound (c .rows)) → Agrees c n b v j
   unfolding together
   agrees j e n h d a z r s =
       let A = demand-3 c how n b v h d a z r s in

@@ -30,7 +30,7 @@ use Rattle.sizes.specs.Sizes.{roundsFrom, isSize, neededWords}
 use Rattle.wire.specs.Words.{allCanonical}
 use Rattle.wire.specs.Bytes.{bytesOf, word}
 use Rattle.stored.specs.Layout.{claimsWords, polysWords, entriesBytes, layout}
-use Rattle.stored.specs.Parse.{claimsFrom, entriesFrom, entriesFit, fits}
+use Rattle.stored.specs.Parse.{known, claimsFrom, entriesFrom, entriesFit, fits}
 use Rattle.stored.specs.Elements.{encoded}
 use Rattle.prover_gate.specs.Refusals.{Call, call, shortRoom, lowest, tests, firstRefusal}
 use Rattle.prover.specs.Proved as Prover
@@ -56,8 +56,8 @@ never false = refl
 abbrev proof : Proof E.Ext
 proof = Gkr.no-rows Extension (Drawing (supplied [])) empty .proof
 
-abbrev bytes : List ℕ
-bytes = layout (encoded proof)
+abbrev bytes : (sized : Bool) → List ℕ
+bytes sized = layout sized (encoded proof)
 
 module _ (modes : Proving) (challenges : List ℕ) (b : Prover.Buffers) (r : proof-bytes 0 ≤ length (b .proof)) where
   abbrev none : Call
@@ -76,19 +76,25 @@ module _ (modes : Proving) (challenges : List ℕ) (b : Prover.Buffers) (r : pro
       (both (ap (λ k. not (allCanonical (take k challenges))) (no-need (modes .drawn)))
       (both (never (modes .live)) tt))))))))
 
-  is-done : Prover.proved none b ≡ Prover.laid (Prover.finished (supplied []) 0 (Gkr.no-rows Extension (Drawing (supplied [])) empty)) b
+  is-done : Prover.proved none b ≡ Prover.laid (Prover.finished (supplied []) (modes .sized) 0 (Gkr.no-rows Extension (Drawing (supplied [])) empty)) b
   unfolding Prover.proved Prover.fronts roundsFrom
   is-done = ap (λ t. Prover.laid (Prover.entered none t) b) opens
 
-  front : take (proof-bytes 0) (Prover.proved none b .buffers .proof) ≡ bytes
+  front : take (proof-bytes 0) (Prover.proved none b .buffers .proof) ≡ bytes (modes .sized)
   unfolding layout bytesOf claimsWords polysWords entriesBytes
-  front = ap (λ o. take (proof-bytes 0) (o .buffers .proof)) is-done ∙ take-at bytes (drop (length bytes) (b .proof)) (proof-bytes 0) refl
+  front = ap (λ o. take (proof-bytes 0) (o .buffers .proof)) is-done ∙ take-at (bytes (modes .sized)) (drop (length (bytes (modes .sized))) (b .proof)) (proof-bytes 0) refl
 
 -- THE VERIFIER
 
-module _ (how : Verifying) (challenges : List ℕ) (v : Lent) (h : how .empty ≡ true) where
+-- either version is read
+is-known : (sized : Bool) → not (known (bytes sized)) ≡ false
+unfolding layout
+is-known true = refl
+is-known false = refl
+
+module _ (sized : Bool) (how : Verifying) (challenges : List ℕ) (v : Lent) (h : how .empty ≡ true) where
   abbrev given : Verifier.Asked
-  given = Verifier.asked bytes 0 how challenges
+  given = Verifier.asked (bytes sized) 0 how challenges
 
   passes : firstOf (Verifier.tests given (length (v .point)) (length (v .log))) ≡ passed
   unfolding model arithmetic layout bytesOf word claimsWords polysWords entriesBytes claimsFrom entriesFrom entriesFit fits allCanonical
@@ -97,8 +103,8 @@ module _ (how : Verifying) (challenges : List ℕ) (v : Lent) (h : how .empty �
       (both (ap not h)
       (both refl
       (both (ap (ltb (length challenges)) (no-need (how .drawn)) ∙ enough (length challenges))
+      (both (is-known sized)
       (both (ap₂ _||_ (enough (length (v .point))) (enough (length (v .log))))
-      (both refl
       (both refl
       (both refl
       (both (ap (λ k. not (allCanonical (take k challenges))) (no-need (how .drawn)))
@@ -119,7 +125,7 @@ without-rows modes challenges how again b v r h =
       done = ap (λ o. o .answer) d;
       point = ap (λ o. o .buffers .point) d;
       log = ap (λ o. o .buffers .log) d;
-      accepted = ap (λ bs. Verifier.verified (Verifier.asked bs 0 how again) v) (front modes challenges b r) ∙ accepts how again v h;
+      accepted = ap (λ bs. Verifier.verified (Verifier.asked bs 0 how again) v) (front modes challenges b r) ∙ accepts (modes .sized) how again v h;
     }
 
 pub no-rows : NoRows

@@ -21,12 +21,12 @@ use Rattle.agreement.specs.Demand3.{Taken, Room}
 use Rattle.sizes.specs.SizeLaws.{rounds-taken, size-taken, whole, counted}
 use Rattle.sizes.specs.LimitLaws.{rows-taken}
 
-module _ (c : Call) (m : ℕ) (b : Buffers) (v : Lent) (h : Taken c (suc m)) (r : Room (c .modes .«assert_zero») (suc m) b v) where
+module _ (c : Call) (m : ℕ) (b : Buffers) (v : Lent) (h : Taken c (suc m)) (r : Room (c .modes .«assert_zero») (c .modes .sized) (suc m) b v) where
   rounds-are : roundsOf (rowCount (c .rows)) ≡ suc m
   rounds-are = ap roundsOf (counted (c .rows) (suc m) (h .rows)) ∙ rounds-taken (suc m) (h .few)
 
-  sized : isSize (rowCount (c .rows)) ≡ true
-  sized = ap isSize (counted (c .rows) (suc m) (h .rows)) ∙ size-taken (suc m) (h .few)
+  whole-size : isSize (rowCount (c .rows)) ≡ true
+  whole-size = ap isSize (counted (c .rows) (suc m) (h .rows)) ∙ size-taken (suc m) (h .few)
 
   within : rowCount (c .rows) ≤ maxRows
   within = omega (arith, counted (c .rows) (suc m) (h .rows), rows-taken (suc m) (h .few))
@@ -46,9 +46,9 @@ module _ (c : Call) (m : ℕ) (b : Buffers) (v : Lent) (h : Taken c (suc m)) (r 
       all-passed (tests c (roomsOf b))
       (both (ap not (eq-eqb _ _ (whole (c .rows) (suc m) (h .rows))))
       (both (le-ltb _ _ within)
-      (both (ap not sized)
+      (both (ap not whole-size)
       (both (ap (λ k. ltb (length (c .challenges)) (neededWords (c .modes .drawn) k)) n ∙ le-ltb _ _ (h .enough))
-      (both (ap (λ k. shortRoom (c .modes .«assert_zero») k (roomsOf b)) n ∙ r .prover)
+      (both (ap (λ k. shortRoom (c .modes .«assert_zero») (c .modes .sized) k (roomsOf b)) n ∙ r .prover)
       (both (ap not (h .valid-rows))
       (both (ap (λ k. not (allCanonical (take (neededWords (c .modes .drawn) k) (c .challenges)))) n ∙ ap not (h .valid-challenges))
       (both (checked (c .modes .live) refl) tt))))))))

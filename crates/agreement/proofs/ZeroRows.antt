@@ -17,6 +17,7 @@ use Rattle.gkr.specs.Count as Count
 use Rattle.gkr.specs.Gkr as Gkr
 use Rattle.gkr.specs.Gkr.{done}
 use Rattle.transcript.specs.Log.{Drawing}
+use Rattle.transcript.specs.Bound.{bound}
 use Rattle.refusal.specs.declared.Verifying.{Verifying}
 use Rattle.refusal.specs.declared.Refusal.the-variants.{ZeroRoot}
 use Rattle.stored.specs.Layout.{layout}
@@ -40,7 +41,7 @@ use Rattle.agreement.specs.Companions.{RowOverZero}
 use Rattle.agreement.proofs.Agreeing.{sourceOf, like, alike, front, back, opened-run, is-done, r′}
 
 -- The run over a sheet that is taken, zero asserted or not, as in `Agreeing`: t is the log before root q.
-module _ (c : Call) (m : ℕ) (b : Prover.Buffers) (v : Lent) (h : Taken c (suc m)) (r : Room (c .modes .«assert_zero») (suc m) b v) where
+module _ (c : Call) (m : ℕ) (b : Prover.Buffers) (v : Lent) (h : Taken c (suc m)) (r : Room (c .modes .«assert_zero») (c .modes .sized) (suc m) b v) where
   abbrev S : Transcript E.Ext
   S = Drawing (sourceOf c (suc m))
 
@@ -48,12 +49,12 @@ module _ (c : Call) (m : ℕ) (b : Prover.Buffers) (v : Lent) (h : Taken c (suc 
   none : false ≡ true → Sound (c .rows)
   none e = absurd (false≢true e)
 
-  module _ (t : Words) (e : Gkr.fractional-sumcheck Extension S (c .modes .«assert_zero») m (node (c .rows)) empty ≡ done (Gkr.run Extension S m (node (c .rows)) t)) where
+  module _ (t : Words) (e : Gkr.fractional-sumcheck Extension S (c .modes .«assert_zero») m (node (c .rows)) (bound (c .modes .sized) (suc m) empty) ≡ done (Gkr.run Extension S m (node (c .rows)) t)) where
     abbrev π : Proof E.Ext
     π = Gkr.run Extension S m (node (c .rows)) t .proof
 
     abbrev asked : Verifier.Asked
-    asked = Verifier.asked (layout (encoded π)) (suc m) (like c false) (c .challenges)
+    asked = Verifier.asked (layout (c .modes .sized) (encoded π)) (suc m) (like c false) (c .challenges)
 
     -- the proof that the bytes are of
     is : proofOf (asked .proof) ≡ encoded π
@@ -80,6 +81,6 @@ module _ (c : Call) (m : ℕ) (b : Prover.Buffers) (v : Lent) (h : Taken c (suc 
 pub row-over-zero : RowOverZero
 row-over-zero c how zero b v h l d a z r s = absurd (let k = h .some in omega arith)
 row-over-zero c how (suc m) b v h l d a z r s =
-    let n = none c m b v h (subst (λ x. Room x (suc m) b v) (sym a) r) in
-    refused-live c m b v h (r′ c false m b v h a z r n) empty (is-done c false m b v h a z r n) how l d
+    let n = none c m b v h (subst (λ x. Room x (c .modes .sized) (suc m) b v) (sym a) r) in
+    refused-live c m b v h (r′ c false m b v h a z r n) (bound (c .modes .sized) (suc m) empty) (is-done c false m b v h a z r n) how l d
     (⊎-elim (λ (l : (i : ℕ) × Lowest (c .rows) i). lowest-sum (c .rows) (suc m) (counted (c .rows) (suc m) (h .rows)) (l .0) (l .1)) (λ (k : Sound (c .rows)). absurd (s k)) (lowest-or-sound (c .rows)))

@@ -1,11 +1,8 @@
 -- Demand 3 for a caller who asked: what was lent is room enough for both.
 -- Assumes nothing.
-use mathlib.Core.Path.{_≡_, sym, _∙_, ap, subst}
-use mathlib.Core.Bool.{false}
-use Prim.Native.Nat.{ℕ, _+_, _^_, _≤_}
+use mathlib.Core.Path.{_≡_, sym, _∙_, ap, ap₂, subst}
+use Prim.Native.Nat.{ℕ, _+_, _^_}
 use native.Mathlib.Omega.{arith}
-use borrow.Author.Tests.{ne-eqb}
-use lib.Dec.{eqb}
 use lib.ListN.{length}
 use Rattle.gkr.specs.Tests.{pass}
 use Rattle.gkr.specs.Sizes.{point-words}
@@ -20,7 +17,7 @@ use Rattle.accudrina.specs.Rooms.{rounds}
 use Rattle.exported.specs.Exported.{Sheet, Premises, wordOf, wordAgain}
 use Rattle.exported.specs.Asked.{asked, ForProver, ForVerifier, Demand3Asked}
 use Rattle.exported.proofs.Wording.{read-back}
-use Rattle.exported.proofs.Lending.{fits, log-lent, log-room}
+use Rattle.exported.proofs.Lending.{fits, log-lent}
 use Rattle.exported.proofs.ProverLent.{roomy}
 use Rattle.exported.proofs.Exporting.{demand-3-exported}
 
@@ -31,18 +28,16 @@ module _ (c : Call) (how : Verifying) (n : ℕ) (b : Buffers) (v : Lent) (s : Sh
       let few = s .taken .few in
       ap rounds (counted (c .rows) n (s .taken .rows)) ∙ pass (isSize (2 ^ n)) (roundsOf (2 ^ n)) (maxRounds + 1) (size-taken n few) ∙ rounds-taken n few
 
-  one-or-more : eqb n 0 ≡ false
-  one-or-more = ne-eqb n 0 (λ e. omega (arith, s .taken .some))
-
-  pub premises : ForProver n (wordOf c) (c .challenges) b → ForVerifier n (wordAgain how) (c .challenges) v → Premises c how n b v
+  pub premises : ForProver n (wordOf c) (c .challenges) b → ForVerifier (c .modes .sized) n (wordAgain how) (c .challenges) v → Premises c how n b v
   premises h k =
       let few = s .taken .few in
+      let read = read-back (c .modes) .modes in
       record {
         sheet = s;
         room = record {
-          prover = ap (λ a. shortRoom a n (roomsOf b)) (sym (ap (λ m. m .«assert_zero») (read-back (c .modes) .modes) ∙ s .asserted)) ∙ roomy (wordOf c) (c .challenges) b n few h;
+          prover = ap₂ (λ a z. shortRoom a z n (roomsOf b)) (sym (ap (λ m. m .«assert_zero») read ∙ s .asserted)) (sym (ap (λ m. m .sized) read)) ∙ roomy (wordOf c) (c .challenges) b n few h;
           point-again = fits n (point-words n) _ few (k .point);
-          log-again = subst (λ (w : ℕ). w ≤ length (v .log)) (log-room n one-or-more) (log-lent n _ few (omega (arith, k .log)));
+          log-again = log-lent (c .modes .sized) n (length (v .log)) few (omega (arith, k .log));
         };
       }
 
@@ -50,4 +45,4 @@ module _ (c : Call) (how : Verifying) (n : ℕ) (b : Buffers) (v : Lent) (s : Sh
 pub demand-3-asked : Demand3Asked
 demand-3-asked c how n b v s h k =
     let e = answers-n c how n b v s in
-    demand-3-exported c how n b v (premises c how n b v s (subst (λ j. ForProver j (wordOf c) (c .challenges) b) e h) (subst (λ j. ForVerifier j (wordAgain how) (c .challenges) v) e k))
+    demand-3-exported c how n b v (premises c how n b v s (subst (λ j. ForProver j (wordOf c) (c .challenges) b) e h) (subst (λ j. ForVerifier (c .modes .sized) j (wordAgain how) (c .challenges) v) e k))

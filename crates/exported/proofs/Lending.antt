@@ -1,15 +1,14 @@
 -- Rooms that the questions answer are the needed ones, for rounds that are taken; and numbers other than 4 and 5.
 -- Assumes nothing.
 use mathlib.Core.Path.{_≡_, refl, sym, _∙_, subst}
-use mathlib.Core.Bool.{Bool, true, false}
-use Prim.Native.Nat.{ℕ, zero, suc, _≤_}
+use mathlib.Core.Bool.{Bool, true, false, cond}
+use Prim.Native.Nat.{ℕ, _+_, _≤_}
 use native.Mathlib.Omega.{arith}
 use borrow.Author.Tests.{le-ltb, eqb-false}
 use lib.Dec.{eqb, ltb}
-use Rattle.gkr.specs.Sizes.{log-words}
 use Rattle.refusal.specs.Limits.{maxRounds}
 use Rattle.sizes.specs.Sizes.{neededWords, logRoom}
-use Rattle.accudrina.specs.Modes.{ASSERT-ZERO, has}
+use Rattle.accudrina.specs.Modes.{ASSERT-ZERO, SIZED, has}
 use Rattle.accudrina.specs.Rooms.{taken, logWords, challengeWords}
 use Rattle.accudrina.proofs.RoomLaws.{within}
 use Rattle.exported.specs.Asked.{NotShort}
@@ -30,14 +29,10 @@ challenges-lent true n have few h = le-ltb have 0 (omega arith)
 challenges-lent false n have few h = lent n (neededWords false n) have few (h refl)
 
 -- the log, where zero is asserted
-pub log-lent : (n have : ℕ) → n ≤ maxRounds → logWords n ASSERT-ZERO ≤ have → logRoom true n ≤ have
+pub log-lent : (sized : Bool) (n have : ℕ) → n ≤ maxRounds → logWords n (ASSERT-ZERO + cond sized SIZED 0) ≤ have → logRoom true sized n ≤ have
 unfolding has
-log-lent n have few l = fits n (logRoom true n) have few l
-
--- of one round or more
-pub log-room : (n : ℕ) → eqb n 0 ≡ false → logRoom true n ≡ log-words true n
-log-room zero h = never h refl
-log-room (suc m) h = refl
+log-lent true n have few l = fits n (logRoom true true n) have few l
+log-lent false n have few l = fits n (logRoom true false n) have few l
 
 pub other : (k : ℕ) → eqb k 4 ≡ false → eqb k 5 ≡ false → NotShort k
 other k h l = record { challenges = eqb-false k 4 h; room = eqb-false k 5 l }

@@ -16,7 +16,7 @@ use Rattle.prover.specs.Proved as Prover
 use Rattle.prover.specs.Report.{answerReport}
 use Rattle.prover.proofs.Theorems.{Ends, each-end, each-front}
 use Rattle.sizes.specs.SizeLaws.{few-rounds}
-use Rattle.accudrina.specs.Modes.{ASSERT-ZERO, DRAWN, provingBits, has, untaken, provingOf}
+use Rattle.accudrina.specs.Modes.{ASSERT-ZERO, DRAWN, SIZED, provingBits, has, untaken, provingOf}
 use Rattle.accudrina.specs.Calls.{Returned, provingTaken}
 use Rattle.exported.specs.Asked.{asked, ForProver, NotShort, ProverNotShort}
 use Rattle.exported.proofs.Lending.{never, lent, challenges-lent, other}
@@ -25,17 +25,17 @@ use Rattle.exported.proofs.Lending.{never, lent, challenges-lent, other
 none : {p q r s : Bool} → p ≡ false → q ≡ false → r ≡ false → s ≡ false → (p || (q || (r || s))) ≡ false
 none p q r s = λ i. p i || (q i || (r i || s i))
 
-pub roomy : (modes : ℕ) (ch : List ℕ) (b : Prover.Buffers) (n : ℕ) → n ≤ maxRounds → ForProver n modes ch b → shortRoom (has ASSERT-ZERO modes) n (Prover.roomsOf b) ≡ false
+pub roomy : (modes : ℕ) (ch : List ℕ) (b : Prover.Buffers) (n : ℕ) → n ≤ maxRounds → ForProver n modes ch b → shortRoom (has ASSERT-ZERO modes) (has SIZED modes) n (Prover.roomsOf b) ≡ false
 unfolding shortRoom
 roomy modes ch b n few asks =
     none (lent n (Sizes.proof-bytes n) _ few (asks .proof)) (lent n (Sizes.point-words n) _ few (asks .point))
-    (lent n (logRoom (has ASSERT-ZERO modes) n) _ few (asks .log)) (lent n (workRoom n) _ few (asks .work))
+    (lent n (logRoom (has ASSERT-ZERO modes) (has SIZED modes) n) _ few (asks .log)) (lent n (workRoom n) _ few (asks .work))
 
 abbrev Fine : Prover.Outcome → Type 0
 Fine f = NotShort (answerReport (f .answer) .number)
 
 ends : (n : ℕ) → Ends Fine n
-ends n = record { finishes = λ ch P. other 0 refl refl; eight = other 8 refl refl; nine = other 9 refl refl }
+ends n = record { finishes = λ ch z P. other 0 refl refl; eight = other 8 refl refl; nine = other 9 refl refl }
 
 -- in modes that are taken
 run-not-short : (rows : List ℕ) (modes : ℕ) (ch : List ℕ) (b : Prover.Buffers) → ForProver (asked rows) modes ch b

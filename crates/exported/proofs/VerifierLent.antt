@@ -7,7 +7,7 @@ use Prim.Native.Nat.{ℕ, _*_}
 use native.Mathlib.Omega.{arith}
 use borrow.Author.Tests.{le-ltb, ltb-false}
 use lib.Dec.{eqb, ltb}
-use lib.ListN.{length, getD}
+use lib.ListN.{length}
 use Rattle.field.specs.Ext as E
 use Rattle.gkr.specs.Tests.{either}
 use Rattle.gkr.specs.Transcripts.{Source}
@@ -48,7 +48,7 @@ model ch (layer-check round expected actual t) = other 19 refl refl
 abbrev Passed : Asked → Tested → Type 0
 Passed a w = NotShort (verdictReport (fronts a w .answer) .number)
 
-run-not-short : (proof : List ℕ) (n modes : ℕ) (ch : List ℕ) (v : Lent) → ForVerifier n modes ch v → NotShort (verifyingTaken (asked proof n (verifyingOf modes) ch) v .told .number)
+run-not-short : (proof : List ℕ) (n modes : ℕ) (ch : List ℕ) (v : Lent) → ForVerifier (Parse.sized proof) n modes ch v → NotShort (verifyingTaken (asked proof n (verifyingOf modes) ch) v .told .number)
 unfolding Verifier.verified firstOf
 run-not-short proof n modes ch v h =
     let a = asked proof n (verifyingOf modes) ch in
@@ -56,10 +56,10 @@ run-not-short proof n modes ch v h =
     either P (eqb n 0 && not (a .modes .empty)) _ _ (λ e. other 10 refl refl) (λ some.
     either P (ltb maxRounds n) _ _ (λ e. other 11 refl refl) (λ e.
     let few = ltb-false maxRounds n e in
-    let logs = le-ltb _ _ (log-lent n (length (v .log)) few (omega (arith, h .log))) in
+    let logs = le-ltb _ _ (log-lent (Parse.sized proof) n (length (v .log)) few (omega (arith, h .log))) in
     either P (ltb (length (a .challenges)) (neededWords (has DRAWN modes) n)) _ _ (never (challenges-lent (has DRAWN modes) n _ few (h .challenges))) (λ e3.
-    either P (ltb (length (v .point)) (4 * n) || ltb (length (v .log)) (logRoom true n)) _ _ (never (ap₂ _||_ (lent n (4 * n) _ few (h .point)) logs)) (λ e4.
-    either P (not (eqb (getD (a .proof) 0 0) 1)) _ _ (λ e. other 12 refl refl) (λ e5.
+    either P (not (Parse.known (a .proof))) _ _ (λ e. other 12 refl refl) (λ e4.
+    either P (ltb (length (v .point)) (4 * n) || ltb (length (v .log)) (logRoom true (Parse.sized (a .proof)) n)) _ _ (never (ap₂ _||_ (lent n (4 * n) _ few (h .point)) logs)) (λ e5.
     either P (not (Parse.fits (a .proof))) _ _ (λ e. other 13 refl refl) (λ e6.
     either P (not (allCanonical (proofWords (proofOf (a .proof))))) _ _ (λ e. other 6 refl refl) (λ e7.
     either P (not (allCanonical (needed a))) _ _ (λ e. other 6 refl refl) (λ e8.

@@ -18,19 +18,27 @@ pub record ReadBack (m : Proving) : Type 0 where
   pub modes : provingOf (word m) ≡ m
   pub all-taken : untaken provingBits (word m) ≡ 0
 
-each : (live asserted drawn : Bool) → ReadBack (record { live = live; «assert_zero» = asserted; drawn = drawn })
+each : (live asserted drawn sized : Bool) → ReadBack (record { live = live; «assert_zero» = asserted; drawn = drawn; sized = sized })
 unfolding has without
-each true true true = record { modes = refl; all-taken = refl }
-each true true false = record { modes = refl; all-taken = refl }
-each true false true = record { modes = refl; all-taken = refl }
-each true false false = record { modes = refl; all-taken = refl }
-each false true true = record { modes = refl; all-taken = refl }
-each false true false = record { modes = refl; all-taken = refl }
-each false false true = record { modes = refl; all-taken = refl }
-each false false false = record { modes = refl; all-taken = refl }
+each true true true true = record { modes = refl; all-taken = refl }
+each true true true false = record { modes = refl; all-taken = refl }
+each true true false true = record { modes = refl; all-taken = refl }
+each true true false false = record { modes = refl; all-taken = refl }
+each true false true true = record { modes = refl; all-taken = refl }
+each true false true false = record { modes = refl; all-taken = refl }
+each true false false true = record { modes = refl; all-taken = refl }
+each true false false false = record { modes = refl; all-taken = refl }
+each false true true true = record { modes = refl; all-taken = refl }
+each false true true false = record { modes = refl; all-taken = refl }
+each false true false true = record { modes = refl; all-taken = refl }
+each false true false false = record { modes = refl; all-taken = refl }
+each false false true true = record { modes = refl; all-taken = refl }
+each false false true false = record { modes = refl; all-taken = refl }
+each false false false true = record { modes = refl; all-taken = refl }
+each false false false false = record { modes = refl; all-taken = refl }
 
 pub read-back : (m : Proving) → ReadBack m
-read-back m = each (m .live) (m .«assert_zero») (m .drawn)
+read-back m = each (m .live) (m .«assert_zero») (m .drawn) (m .sized)
 
 pub in-its-modes : (c : Call) (b : Buffers) → proves c b ≡ provingTaken c b
 in-its-modes c b =

@@ -22,7 +22,7 @@ use Rattle.stored.specs.Elements.{decoded}
 use Rattle.verifier_round.specs.Verdicts.{Model, loggedBy}
 use Rattle.verifier.specs.Verified as Verifier
 use Rattle.verifier.specs.Verified.{Asked, asked, needed, sourceOf, tests, emptyTests, emptied, ended, fronts}
-use Rattle.log_replay.specs.Replayed.{kept, challengesOf, plain, ofRun, compared, same, told, outcome, replayed}
+use Rattle.log_replay.specs.Replayed.{Kept, kept, challengesOf, plain, ofRun, compared, same, told, Outcome, outcome, replayed}
 use Rattle.log_replay.specs.Companions.{Replays, written}
 use Rattle.log_replay.proofs.Comparing.{same-log}
 use Rattle.log_replay.proofs.Runs.{Ran, ran-left, ended-same}
@@ -82,3 +82,7 @@ own-log a b point h wide =
     (plain-same a (length (b .point)) (length (b .log)) (length point) h wide)
     ∙ ap (λ t. let f = told o (cond t (compared l l 0) same) in outcome (f .answer) (f .used) (over (f .point) point)) h
     ∙ ap (λ c. let f = told o c in outcome (f .answer) (f .used) (over (f .point) point)) (same-log l 0)
+
+-- no second outcome fits
+pub only-one : (k : Kept) (point : List ℕ) (x y : Outcome) → x ≡ replayed k point → y ≡ replayed k point → x ≡ y
+only-one k point x y e f = e ∙ sym f

@@ -141,6 +141,49 @@ fn print_elements() {
     });
 }
 
+fn print_logs() {
+    command_text::refusals::print_refusal(Refusal::LogMismatch { place: 0 });
+    command_text::refusals::print_refusal(Refusal::LogShort { place: 960 });
+    command_text::refusals::print_refusal(Refusal::LogLong { place: 964 });
+}
+
+fn print_differs(place: usize, sized: bool) {
+    command_text::refusals::print_replayed(Refusal::LogMismatch { place }, sized);
+}
+
+// Each kind of word of a log, at its first and its last place.
+fn print_log_words() {
+    let places = [
+        0usize,
+        3usize,
+        4usize,
+        19usize,
+        20usize,
+        23usize,
+        24usize,
+        28usize,
+        36usize,
+        40usize,
+        44usize,
+        59usize,
+        60usize,
+        64usize,
+        80usize,
+        84usize,
+        959usize,
+    ];
+    for i in 0..places.len() {
+        print_differs(places[i], false);
+    }
+    let sized = [0usize, 3usize, 4usize, 27usize, 28usize, 963usize];
+    for i in 0..sized.len() {
+        print_differs(sized[i], true);
+    }
+    command_text::refusals::print_replayed(Refusal::LogShort { place: 17 }, false);
+    command_text::refusals::print_replayed(Refusal::LogShort { place: 17 }, true);
+    command_text::refusals::print_replayed(Refusal::LogLong { place: 28 }, true);
+}
+
 fn main() {
     let mut text = [0u8; 8192];
     let n = io::read_full(0, &mut text);
@@ -152,5 +195,7 @@ fn main() {
     print_counts();
     print_elements();
     command_text::refusals::print_refusal(Refusal::InvalidZeroRoundValue { actual: Ext::ZERO });
+    print_logs();
     command_text::refusals::print_refusal(Refusal::ZeroRoot);
+    print_log_words();
 }

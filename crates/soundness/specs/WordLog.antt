@@ -6,6 +6,8 @@ use mathlib.Core.Path.{_≡_, refl, sym, _∙_, ap}
 use mathlib.Core.Logic.{_⊎_}
 use mathlib.Core.List.{List, [], _∷_, _++_, map, append-nil, append-assoc}
 use native.Mathlib.Omega.{arith}
+use lib.ListN.{length, drop}
+use lib.Seq.{drop-at}
 use Rattle.field.specs.Base.{P, F, of}
 use Rattle.field.specs.BaseRing.{of-val, val-lt}
 use Rattle.field.specs.Ext.{Ext}
@@ -14,7 +16,7 @@ use Rattle.field.specs.Extension.{Extension}
 use Rattle.field.specs.Element.{words}
 use Rattle.gkr.specs.Run.{Frac, Proof}
 use Rattle.gkr.specs.Gkr
-use Rattle.gkr.specs.Transcripts.{mark, Words, empty, Source, drawing}
+use Rattle.gkr.specs.Transcripts.{mark, Words, Source, drawing}
 use Rattle.domain.specs.Extension.{ext-domain}
 use Rattle.soundness.specs.FewLaws.{onto-right}
 use Rattle.soundness.specs.Steps.{Step, bad}
@@ -72,44 +74,66 @@ observed-word a = ap of (small (a .val) (val-lt a)) ∙ of-val a
 sampled-word : (a : F) → plain (mark (a .val)) ≡ a
 sampled-word a = ap of (unmarked (a .val) (val-lt a)) ∙ of-val a
 
--- the elements of a log
-pub read : Words → List Ext
-read t = elements (t .log)
+-- the elements of a log past its first k words
+pub read : (k : ℕ) (t : Words) → List Ext
+read k t = elements (drop k (t .log))
 
-pub words-kept : (source : Source Ext) → Keeps (drawing words source)
+read-past : (front : List ℕ) (t : Words) (ws : List ℕ) → t .log ≡ front ++ ws → read (length front) t ≡ elements ws
 unfolding read
-words-kept source = record {
-  Whole = λ t. Fours (t .log);
-  read = read;
-  observes = λ x t h. (fours-append (t .log) _ _ _ _ h, elements-append (t .log) _ _ _ _ h ∙ ap (λ y. elements (t .log) ++ (y ∷ [])) (observed-element x));
-  draws = λ t h. (fours-append (t .log) _ _ _ _ h, elements-append (t .log) _ _ _ _ h ∙ ap (λ y. elements (t .log) ++ (y ∷ [])) (sampled-element (source t)));
+read-past front t ws e = ap (λ l. elements (drop (length front) l)) e ∙ ap elements (drop-at front ws (length front) refl)
+
+-- a log that has the words of `front` before all elements
+pub words-kept : (source : Source Ext) (front : List ℕ) → Keeps (drawing words source)
+words-kept source front = record {
+  Whole = Whole;
+  read = read (length front);
+  observes = λ x t h. grown t (drawing words source .observe x t) x h _ _ _ _ refl (observed-element x);
+  draws = λ t h. grown t (drawing words source .drawn t) (source t) h _ _ _ _ refl (sampled-element (source t));
   Past = λ u t. (rest : List ℕ) × (t .log ≡ u .log ++ rest);
   itself = λ t. ([], sym (append-nil (t .log)));
   before-observing = λ x u t p. (words x ++ p .0, p .1 ∙ append-assoc (u .log) (words x) (p .0));
   before-drawing = λ u t p. (map mark (words (source u)) ++ p .0, p .1 ∙ append-assoc (u .log) (map mark (words (source u))) (p .0));
 }
   where
+    Whole : Words → Type 0
+    Whole t = (ws : List ℕ) × (t .log ≡ front ++ ws) × Fours ws
+
+    grown : (t u : Words) (x : Ext) → Whole t → (a b c d : ℕ) → u .log ≡ t .log ++ (a ∷ b ∷ c ∷ d ∷ []) → element a b c d ≡ x
+        → Whole u × (read (length front) u ≡ read (length front) t ++ (x ∷ []))
+    grown t u x h a b c d e is =
+        let vs = a ∷ b ∷ c ∷ d ∷ [] in
+        let log : u .log ≡ front ++ (h .0 ++ vs) = e ∙ ap (λ l. l ++ vs) (h .1) ∙ append-assoc front (h .0) vs in (
+          (h .0 ++ vs, log, fours-append (h .0) a b c d (h .2)),
+          read-past front u (h .0 ++ vs) log ∙ elements-append (h .0) a b c d (h .2) ∙ ap (λ y. elements (h .0) ++ (y ∷ [])) is
+              ∙ ap (λ l. l ++ (x ∷ [])) (sym (read-past front t (h .0) (h .1))),
+        )
+
     observed-element : (x : Ext) → element (x .c0 .val) (x .c1 .val) (x .c2 .val) (x .c3 .val) ≡ x
     observed-element x = Ext-path (observed-word (x .c0)) (observed-word (x .c1)) (observed-word (x .c2)) (observed-word (x .c3))
 
     sampled-element : (x : Ext) → element (mark (x .c0 .val)) (mark (x .c1 .val)) (mark (x .c2 .val)) (mark (x .c3 .val)) ≡ x
     sampled-element x = Ext-path (sampled-word (x .c0)) (sampled-word (x .c1)) (sampled-word (x .c2)) (sampled-word (x .c3))
 
--- what is on the table at a log of a run of n rounds: a function of the log alone
-pub at-log : (n : ℕ) (u : Words) → Step Ext
-at-log zero u = FromLog.table Extension 0 (read u)
-at-log (suc m) u = FromLog.table Extension m (read u)
+-- what is on the table at a log of a run of n rounds that began at a log of k words: a function of the log alone
+pub at-log : (k n : ℕ) (u : Words) → Step Ext
+at-log k zero u = FromLog.table Extension 0 (read k u)
+at-log k (suc m) u = FromLog.table Extension m (read k u)
 
 -- a log begins with the words of u, and then has the challenge that the source gives at u, its words marked
 abbrev pub DrewAt : (source : Source Ext) (u : Words) (log : List ℕ) → Type 0
 DrewAt source u log = (rest : List ℕ) × (log ≡ u .log ++ (map mark (words (source u)) ++ rest))
 
--- CHALLENGES THAT ARE ANY FUNCTION OF THE LOG: the root is (0, q0), or at some log u of the run the function's value is among the few that are bad at what u puts on the table
-pub source-sound : (source : Source Ext) (f : ℕ → Frac Ext) (m : ℕ) (π : Proof Ext)
+-- CHALLENGES THAT ARE ANY FUNCTION OF THE LOG: the root is (0, q0), or at some log u of the run, which began at any log t, the function's value is among the few that are bad
+-- at what u puts on the table past the words of t
+pub source-sound : (source : Source Ext) (f : ℕ → Frac Ext) (m : ℕ) (π : Proof Ext) (t : Words)
     → let S = drawing words source in
-    let w = Gkr.verify-gkr Extension S (suc m) π empty in
-    Accepts Extension S f w → RootIs Extension f (suc m) (π .q0) ⊎ ((u : Words) × DrewAt source u (Gkr.log-after Extension S empty w .log) × bad Extension f (at-log (suc m) u) (source u))
-unfolding words-kept at-log read elements
-source-sound source f m π a =
-    onto-right (FromLog.drawn-sound Extension ext-domain same-true (drawing words source) (words-kept source) f m π empty tt refl a)
+    let w = Gkr.verify-gkr Extension S (suc m) π t in
+    Accepts Extension S f w
+    → RootIs Extension f (suc m) (π .q0) ⊎ ((u : Words) × DrewAt source u (Gkr.log-after Extension S t w .log) × bad Extension f (at-log (length (t .log)) (suc m) u) (source u))
+unfolding words-kept at-log elements
+source-sound source f m π t a =
+    onto-right (FromLog.drawn-sound Extension ext-domain same-true (drawing words source) (words-kept source (t .log)) f m π t ([], begun, tt) (read-past (t .log) t [] begun) a)
     (λ k. (k .0, (k .1 .0, k .1 .1 ∙ append-assoc (k .0 .log) (map mark (words (source (k .0)))) (k .1 .0)), k .2))
+  where
+    begun : t .log ≡ t .log ++ []
+    begun = sym (append-nil (t .log))

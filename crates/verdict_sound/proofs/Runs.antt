@@ -17,7 +17,7 @@ use Rattle.field.specs.Cells.{cells}
 use Rattle.field.specs.CellLaws.{cell-right, cell-words}
 use Rattle.field.specs.declared.Ext.{Ext}
 use Rattle.gkr.specs.Run.{Frac, Proof}
-use Rattle.gkr.specs.Transcripts.{empty, Source}
+use Rattle.gkr.specs.Transcripts.{Words, empty, Source}
 use Rattle.gkr.specs.Tree as Tree
 use Rattle.gkr.specs.Gkr as Gkr
 use Rattle.gkr.specs.Gkr.{accepted, zero-rounds, layer-count, poly-count, zero-check, root-check, subround-count, layer-check}
@@ -25,10 +25,12 @@ use Rattle.gkr.specs.Tests.{fail}
 use Rattle.gkr.specs.VerifierCount.{accepted-point}
 use Rattle.soundness.specs.Challenges.{Accepts}
 use Rattle.transcript.specs.Log.{Drawing}
+use Rattle.transcript.specs.Bound.{bound}
 use Rattle.transcript.specs.Used.{unused}
 use Rattle.refusal.specs.Fronts.{over}
 use Rattle.refusal.specs.Tests.{Tested, passed, refused, firstOf}
 use Rattle.refusal.specs.declared.Refusal.{Refusal}
+use Rattle.stored.specs.Parse.{sized}
 use Rattle.verifier_round.specs.declared.Verdict.the-variants.{Accepted, Refused}
 use Rattle.verifier_round.specs.Verdicts.{Model, loggedBy}
 use Rattle.verifier.specs.Verified.{Asked, Lent, outcome, sourceOf, tests, ended, emptyTests, emptied, fronts, laid, verified}
@@ -64,7 +66,7 @@ denom-of p q p' q' h = cc
 
 -- THE MODEL'S RUN
 
-module _ (ch : Source E.Ext) (π : Proof E.Ext) (f : ℕ → Frac E.Ext) (b : Lent) where
+module _ (ch : Source E.Ext) (π : Proof E.Ext) (start : Words) (f : ℕ → Frac E.Ext) (b : Lent) where
   -- the answer and the point are those of a verdict w over n rounds
   abbrev Answers : (n : ℕ) → Model ch → Type 0
   Answers n w = Tells n (laid (ended ch w) b) f
@@ -76,10 +78,10 @@ module _ (ch : Source E.Ext) (π : Proof E.Ext) (f : ℕ → Frac E.Ext) (b : Le
       let q = encoded-same _ _ (denom-of _ _ _ _ h) in
       (λ i. record { p = p i; q = q i }) ∙ ap (Tree.value ExtRing f) at
 
-  accepts : (n : ℕ) (w : Model ch) → Gkr.verify-gkr Extension (Drawing ch) n π empty ≡ w → Answers n w → Accepts Extension (Drawing ch) f w
+  accepts : (n : ℕ) (w : Model ch) → Gkr.verify-gkr Extension (Drawing ch) n π start ≡ w → Answers n w → Accepts Extension (Drawing ch) f w
   unfolding Gkr.verify-gkr
   accepts zero w e h = absurd (not-accepted _ _ _ (subst (Answers 0) (sym e) h))
-  accepts (suc m) (accepted v zs t) e h = values (suc m) v zs t (accepted-point Extension (Drawing ch) m π empty v zs t e) h
+  accepts (suc m) (accepted v zs t) e h = values (suc m) v zs t (accepted-point Extension (Drawing ch) m π start v zs t e) h
   accepts (suc m) zero-rounds e h = absurd (not-accepted _ _ _ h)
   accepts (suc m) (layer-count expected actual) e h = absurd (not-accepted _ _ _ h)
   accepts (suc m) (poly-count expected actual) e h = absurd (not-accepted _ _ _ h)
@@ -92,6 +94,10 @@ module _ (ch : Source E.Ext) (π : Proof E.Ext) (f : ℕ → Frac E.Ext) (b : Le
 
 none : (n : ℕ) → n ≡ 0 → 1 ≤ n → ⊥
 none n e h = omega arith
+
+-- the log that the run begins at
+abbrev pub begun : Asked → Words
+begun a = bound (sized (a .proof)) (a .rounds) empty
 
 module _ (a : Asked) (b : Lent) where
   abbrev front : Tested
@@ -107,7 +113,7 @@ module _ (a : Asked) (b : Lent) where
       go (refused r) e = absurd (not-accepted r p q (sym (ap (λ w. fronts a w .answer) e) ∙ h))
 
   abbrev run : Model (sourceOf a)
-  run = Gkr.verify-gkr Extension (Drawing (sourceOf a)) (a .rounds) (stated a) empty
+  run = Gkr.verify-gkr Extension (Drawing (sourceOf a)) (a .rounds) (stated a) (begun a)
 
   -- of one round or more, what is laid is the run's
   laid-run : 1 ≤ a .rounds → (p q : Ext) → verified a b .answer ≡ Accepted p q → verified a b ≡ laid (ended (sourceOf a) run) b
@@ -123,4 +129,4 @@ module _ (a : Asked) (b : Lent) where
   -- and the run accepts with values of the rows
   pub run-accepts : (f : ℕ → Frac E.Ext) → Matches a b f → Accepts Extension (Drawing (sourceOf a)) f run
   run-accepts f h =
-      accepts (sourceOf a) (stated a) f b (a .rounds) run refl (subst (λ o. Tells (a .rounds) o f) (laid-run (h .0) _ _ (h .1)) (h .1))
+      accepts (sourceOf a) (stated a) (begun a) f b (a .rounds) run refl (subst (λ o. Tells (a .rounds) o f) (laid-run (h .0) _ _ (h .1)) (h .1))

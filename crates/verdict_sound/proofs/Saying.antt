@@ -1,7 +1,7 @@
 -- What an accepted verdict says, from the soundness of the model; live mode by its refusal 27, and the rows by their evaluation.
 -- Assumes nothing.
-use mathlib.Core.Path.{_≡_, sym, _∙_, ap, subst}
-use mathlib.Core.Bool.{true, false}
+use mathlib.Core.Path.{_≡_, refl, sym, _∙_, ap, subst}
+use mathlib.Core.Bool.{true, false, cond}
 use mathlib.Core.Logic.{_⊎_}
 use mathlib.Core.List.{List, _++_, map, append-assoc}
 use Prim.Native.Nat.{ℕ, zero, suc, _-_}
@@ -12,8 +12,9 @@ use Rattle.field.specs.Extension.{Extension}
 use Rattle.field.specs.Element.{words}
 use Rattle.field.specs.declared.Ext.{Ext}
 use Rattle.gkr.specs.Run.{Frac, Proof}
-use Rattle.gkr.specs.Transcripts.{mark, Words, empty, Source}
+use Rattle.gkr.specs.Transcripts.{mark, Words, Source}
 use Rattle.gkr.specs.Gkr as Gkr
+use Rattle.gkr.specs.Gkr.{accepted, zero-rounds, layer-count, poly-count, zero-check, root-check, subround-count, layer-check}
 use Rattle.soundness.specs.FewLaws.{onto, onto-right}
 use Rattle.soundness.specs.Steps.{bad}
 use Rattle.soundness.specs.Challenges as Challenges
@@ -22,45 +23,59 @@ use Rattle.soundness.specs.Shape.{accepted-lengths}
 use Rattle.soundness.specs.Extension.{accepted-sound as model-sound, live-rows, three-bad}
 use Rattle.soundness.specs.WordLog.{at-log, DrewAt, source-sound}
 use Rattle.transcript.specs.Log.{Drawing}
+use Rattle.transcript.specs.BoundLaws.{bound-words}
 use Rattle.refusal.specs.Fronts.{over}
 use Rattle.refusal.specs.declared.Refusal.the-variants.{ZeroRoot}
-use Rattle.stored.specs.Parse.{layerCount, entryCount, proofOf}
+use Rattle.stored.specs.Parse.{layerCount, entryCount, sized, proofOf}
 use Rattle.stored.specs.ParseLaws.{claims-count, entries-count}
 use Rattle.verifier_round.specs.declared.Verdict.the-variants.{Accepted}
-use Rattle.verifier_round.specs.Verdicts.{loggedBy}
+use Rattle.verifier_round.specs.Verdicts.{Model, loggedBy}
 use Rattle.verifier.specs.Verified.{Asked, Lent, sourceOf, verified}
 use Rattle.verifier.specs.Companions.{in-mode, ZeroRooted}
 use Rattle.verifier.proofs.Modes.{live-verifying}
-use Rattle.verdict_sound.specs.Says.{stated, Matches, AcceptedSound, AcceptedLive, BadInLog, DrawnSound}
-use Rattle.verdict_sound.proofs.Runs.{not-accepted, opened, log-left, run-accepts}
+use Rattle.verdict_sound.specs.Says.{stated, Matches, AcceptedSound, AcceptedLive, Table, BadInLog, DrawnSound}
+use Rattle.verdict_sound.proofs.Runs.{not-accepted, opened, begun, log-left, run-accepts}
 
--- OF n ROUNDS, over any source and proof
+-- OF n ROUNDS, over any source and proof, begun at any log
 
-module _ (ch : Source E.Ext) (π : Proof E.Ext) (f : ℕ → Frac E.Ext) where
+-- an accepting run leaves a log of its own, whatever log it began at
+accepted-log : (ch : Source E.Ext) (f : ℕ → Frac E.Ext) (t : Words) (w : Model ch) → Accepts Extension (Drawing ch) f w → Gkr.log-after Extension (Drawing ch) t w .log ≡ loggedBy ch w
+accepted-log ch f t (accepted v xi u) g = refl
+accepted-log ch f t zero-rounds g = absurd g
+accepted-log ch f t (layer-count expected actual) g = absurd g
+accepted-log ch f t (poly-count expected actual) g = absurd g
+accepted-log ch f t (zero-check actual u) g = absurd g
+accepted-log ch f t (root-check expected actual u) g = absurd g
+accepted-log ch f t (subround-count round expected actual u) g = absurd g
+accepted-log ch f t (layer-check round expected actual u) g = absurd g
+
+module _ (ch : Source E.Ext) (π : Proof E.Ext) (t : Words) (f : ℕ → Frac E.Ext) where
   abbrev Run : (n : ℕ) → Type 0
-  Run n = Accepts Extension (Drawing ch) f (Gkr.verify-gkr Extension (Drawing ch) n π empty)
+  Run n = Accepts Extension (Drawing ch) f (Gkr.verify-gkr Extension (Drawing ch) n π t)
 
-  run-sound : (n : ℕ) → Run n → RootIs Extension f n (π .q0) ⊎ Challenges.Unlucky Extension (Drawing ch) f π empty
+  run-sound : (n : ℕ) → Run n → RootIs Extension f n (π .q0) ⊎ Challenges.Unlucky Extension (Drawing ch) f π t
   unfolding Gkr.verify-gkr
   run-sound zero g = absurd g
-  run-sound (suc m) g = model-sound (Drawing ch) f m π empty g
+  run-sound (suc m) g = model-sound (Drawing ch) f m π t g
 
-  run-drawn : (n : ℕ) → Run n
-      → RootIs Extension f n (π .q0) ⊎ ((u : Words) × DrewAt ch u (loggedBy ch (Gkr.verify-gkr Extension (Drawing ch) n π empty)) × bad Extension f (at-log n u) (ch u))
+  run-drawn : (n k : ℕ) → length (t .log) ≡ k → Run n
+      → RootIs Extension f n (π .q0) ⊎ ((u : Words) × DrewAt ch u (loggedBy ch (Gkr.verify-gkr Extension (Drawing ch) n π t)) × bad Extension f (at-log k n u) (ch u))
   unfolding Gkr.verify-gkr
-  run-drawn zero g = absurd g
-  run-drawn (suc m) g = source-sound ch f m π g
+  run-drawn zero k e g = absurd g
+  run-drawn (suc m) k e g =
+      let w = Gkr.verify-gkr Extension (Drawing ch) (suc m) π t in
+      onto-right (source-sound ch f m π t g) (λ d. (d .0, subst (DrewAt ch (d .0)) (accepted-log ch f t w g) (d .1), subst (λ j. bad Extension f (at-log j (suc m) (d .0)) (ch (d .0))) e (d .2)))
 
   run-counts : (n : ℕ) → Run n → (length (π .claims) ≡ n) × (length (π .polys) ≡ n - 1)
   unfolding Gkr.verify-gkr
   run-counts zero g = absurd g
-  run-counts (suc m) g = let l = accepted-lengths Extension (Drawing ch) f m π empty g in (l .0, l .1 ∙ less)
+  run-counts (suc m) g = let l = accepted-lengths Extension (Drawing ch) f m π t g in (l .0, l .1 ∙ less)
     where
       less : m ≡ suc m - 1
       less = omega arith
 
 pub accepted-sound : AcceptedSound
-accepted-sound a b f h = run-sound (sourceOf a) (stated a) f (a .rounds) (run-accepts a b f h)
+accepted-sound a b f h = run-sound (sourceOf a) (stated a) (begun a) f (a .rounds) (run-accepts a b f h)
 
 -- the run's log stands at the front of the buffer
 drew-over : (ch : Source E.Ext) (u : Words) (log buffer : List ℕ) → DrewAt ch u log → DrewAt ch u (over log buffer)
@@ -69,9 +84,14 @@ drew-over ch u log buffer d =
     let r = drop (length log) buffer in
     (d .0 ++ r, ap (λ l. l ++ r) (d .1) ∙ append-assoc (u .log) (c ++ d .0) r ∙ ap (λ l. u .log ++ l) (append-assoc c (d .0) r))
 
-drawn-says : (a : Asked) (b : Lent) (f : ℕ → Frac E.Ext) → Matches a b f → RootIs Extension f (a .rounds) (stated a .q0) ⊎ BadInLog at-log a b f
+-- a proof that binds its size has four words before all elements of the run
+read-table : Table
+read-table sized n u = at-log (cond sized 4 0) n u
+
+drawn-says : (a : Asked) (b : Lent) (f : ℕ → Frac E.Ext) → Matches a b f → RootIs Extension f (a .rounds) (stated a .q0) ⊎ BadInLog read-table a b f
+unfolding read-table
 drawn-says a b f h =
-    onto-right (run-drawn (sourceOf a) (stated a) f (a .rounds) (run-accepts a b f h))
+    onto-right (run-drawn (sourceOf a) (stated a) (begun a) f (a .rounds) _ (bound-words (sized (a .proof)) (a .rounds)) (run-accepts a b f h))
     (λ k. (k .0, subst (DrewAt (sourceOf a) (k .0)) (sym (log-left a b (h .0) _ _ (h .1))) (drew-over (sourceOf a) (k .0) _ (b .log) (k .1)), k .2))
 
 -- LIVE
@@ -79,7 +99,7 @@ drawn-says a b f h =
 -- both counts are those of the rounds
 counts : (a : Asked) (b : Lent) (f : ℕ → Frac E.Ext) → Matches a b f → (layerCount (a .proof) ≡ a .rounds) × (entryCount (a .proof) ≡ a .rounds - 1)
 counts a b f h =
-    let c = run-counts (sourceOf a) (stated a) f (a .rounds) (run-accepts a b f h) in (
+    let c = run-counts (sourceOf a) (stated a) (begun a) f (a .rounds) (run-accepts a b f h) in (
       sym (claims-count (layerCount (a .proof)) _) ∙ sym (length-map (proofOf (a .proof) .claims) _) ∙ c .0,
       sym (entries-count (entryCount (a .proof)) _) ∙ sym (length-map (proofOf (a .proof) .polys) _) ∙ c .1,
     )
@@ -102,8 +122,8 @@ accepted-live a b f l h = onto (accepted-sound a b f h) (live-rows f (a .rounds)
 
 pub drawn-sound : DrawnSound
 drawn-sound = record {
-  table = at-log;
-  few = λ f n u. three-bad f (at-log n u);
+  table = read-table;
+  few = λ f sized n u. three-bad f (read-table sized n u);
   sound = drawn-says;
   live = λ a b f l h. onto (drawn-says a b f h) (live-rows f (a .rounds) (stated a .q0) (q0-not-zero a b f l h));
 }
