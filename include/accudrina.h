@@ -9,9 +9,9 @@
  * Answer. Every call ends with an answer for all bytes, words and lengths. The result is 0 for done or the number of the refusal, and
  *         all sixteen words of `answer` are written: [0] the number, [1] to [3] plain fields, [4] to [7] and [8] to [11] elements,
  *         [12] and [13] what was used up, [14] and [15] zero. A field that an answer does not have is zero.
- * Used.   accudrina_prove and accudrina_verify tell in [12] the challenges sampled, in elements, and in [13] the words written at the front
+ * Used.   accudrina_prove, accudrina_verify and accudrina_replay tell in [12] the challenges sampled, in elements, and in [13] the words written at the front
  *         of the log, sampled ones too. Done: accudrina_challenge_words / 4, and accudrina_log_words. Refused by 16 to 19: what the run came
- *         to. Any other refusal, no rows or 0 rounds, and the other calls: 0 and 0.
+ *         to. A replay tells the verifier's. Any other refusal, no rows or 0 rounds, and the other calls: 0 and 0.
  * Memory. Nothing is allocated or kept between calls: there is no state, and any number of threads may call at once, each with its
  *         own buffers. Each pointer is aligned and not NULL, also with length 0, and what a call writes overlaps nothing else that
  *         it is given. A buffer that is written may be longer than is asked for; of what it held nothing is read, and what is not said to
@@ -36,11 +36,11 @@ extern "C" {
 
 /* Modes, bits of one word. A bit that a call does not take is refused as 28, first of all: [1] has the bits that are not taken, and
  * nothing but `answer` is written. */
-#define ACCUDRINA_LIVE UINT32_C(1)        /* prover: a row with q = 0 is refused as 7; verifier: a proof whose q0 is 0, as 27 */
+#define ACCUDRINA_LIVE UINT32_C(1)        /* prover: a row with q = 0 is refused as 7; verifier, replay: a proof whose q0 is 0, as 27 */
 #define ACCUDRINA_ASSERT_ZERO UINT32_C(2) /* prover: a sum whose p is not 0 is refused as 8 */
-#define ACCUDRINA_DRAWN UINT32_C(4)       /* both: challenges are drawn from the log, and those lent are not read */
+#define ACCUDRINA_DRAWN UINT32_C(4)       /* all three: challenges are drawn from the log, and those lent are not read */
 #define ACCUDRINA_SIZED UINT32_C(8)       /* prover: the new proof has version 2, and binds its size; the verifier goes by a proof's first byte */
-#define ACCUDRINA_EMPTY UINT32_C(16)      /* verifier: 0 rounds are valid, and not refused as 10 */
+#define ACCUDRINA_EMPTY UINT32_C(16)      /* verifier, replay: 0 rounds are valid, and not refused as 10 */
 
 /* The results, with the fields of each: plain ones in [1] to [3], elements in [4] to [7] and [8] to [11]. */
 enum accudrina_result {
@@ -65,7 +65,10 @@ enum accudrina_result {
     ACCUDRINA_INCORRECT_SUBROUND_COUNT = 18,         /* plain: round, expected, actual */
     ACCUDRINA_LAYER_CONSISTENCY_CHECK_FAILED = 19,   /* plain: round; elements: expected, actual */
     ACCUDRINA_INVALID_ZERO_ROUND_VALUE = 22,         /* elements: 0 rounds, and the q0 that should be 1 */
-    ACCUDRINA_ZERO_ROOT = 27,                        /* live verifier: q0 is 0 */
+    ACCUDRINA_LOG_MISMATCH = 24,                     /* plain: replay, the place of the log's first word that is not the verifier's, from 0 */
+    ACCUDRINA_LOG_SHORT = 25,                        /* plain: replay, the place where the log ends and the verifier's goes on */
+    ACCUDRINA_LOG_LONG = 26,                         /* plain: replay, the place where the verifier's log ends and this one goes on */
+    ACCUDRINA_ZERO_ROOT = 27,                        /* live verifier, live replay: q0 is 0 */
     ACCUDRINA_UNKNOWN_MODE = 28                      /* plain: the bits of the modes that the call does not take */
 };
 
@@ -136,6 +139,20 @@ uint32_t accudrina_verify(const uint8_t *proof, size_t proof_len,
                           const uint32_t *challenges, size_t challenges_len,
                           uint32_t *point, size_t point_len,
                           uint32_t *log, size_t log_len,
+                          uint32_t answer[ACCUDRINA_ANSWER_WORDS]);
+
+/* Replays a proof, of version 1 or 2, from the log that a verifier left: the verdict of accudrina_verify on the log's own challenges, and the log
+ * must be exactly the one that it leaves on them, of a rejected proof too. The challenges are the log's words with the top bit set, without it, in their
+ * order, with zeros after the last; a word that is not canonical is taken for 0, and so is a mismatch. The log is only read.
+ * Modes, and Done, as of accudrina_verify; DRAWN: a sampled word that is not the drawn one is a mismatch. The point stands at its front.
+ * Refused as the first that fits of 28, 10, 11, 12, 5 (the point), 13, 6, 14, 15, 22, 27, whatever the log is; then by 24, 25 or 26 where the log is not that
+ * of the run, at its lowest place; then by 16 to 19 as the verifier. The point is as it was. 4 is not given.
+ * A replay says what the verifier says on these challenges, and not where they came from: a log with other challenges in it is the log of
+ * another run. */
+uint32_t accudrina_replay(const uint8_t *proof, size_t proof_len,
+                          size_t rounds, uint32_t modes,
+                          const uint32_t *log, size_t log_len,
+                          uint32_t *point, size_t point_len,
                           uint32_t answer[ACCUDRINA_ANSWER_WORDS]);
 
 /* Evaluates a sheet at a point: the values of the columns p and q that an accepted proof claims. It only reads, and is there to

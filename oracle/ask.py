@@ -63,6 +63,11 @@ def prove_command(rows, modes, asserted, challenges):
     return f"prove {int(asserted)} {words(rows)} {source(modes, challenges)}{' sized' if modes & m.SIZED else ''}"
 
 
+def verified(a):
+    """What the plain verifier is asked where a log is replayed: its own challenges."""
+    return [a[0], a[1], a[2], m.log_challenges(a[3])]
+
+
 def command(code, a):
     """What the Rust is asked for a case, with the lists as they are, or None where it has no such call."""
     name = FORMS[code][1]
@@ -70,6 +75,8 @@ def command(code, a):
         return prove_command(a[2], a[0], a[1], a[3])
     if code == 50:
         return f"verify {a[0]} {bytes(a[2]).hex() or '-'} {source(a[1], a[3])}"
+    if code == 80:
+        return command(50, verified(a))
     if code in (60, 70):
         return None
     if code in (20, 21, 22):
@@ -113,6 +120,8 @@ def outcome(code, a, reply):
         numbers = ([got["round"]] if "round" in got else []) + (both if no in (14, 15, 18) else [])
         es = [tuple(unwords(e)) for e in both] if no in (16, 17, 19) else []
         return m.Outcome(no, [int(x) for x in numbers], es, [[], unwords(got["log"])], used_up(got))
+    if code == 80:
+        return m.replayed(outcome(50, verified(a), reply), a[3])
     said = reply.split()[1:]
     if code in (26, 27, 30):
         return m.Outcome(0, fronts=[unwords(said[0])])
@@ -151,7 +160,7 @@ def expected(cases, cross=lambda code, a: True):
 
 def none_verified(code, a):
     """The Rust panics at 0 rounds."""
-    return code == 50 and a[0] == 0
+    return code in (50, 80) and a[0] == 0
 
 
 def comparable(code, a, refused):
@@ -162,7 +171,7 @@ def comparable(code, a, refused):
         return not none_verified(code, a)
     if code == 40:
         return refused.no in (3, 8, 9)
-    return code == 50 and refused.no in (6, 12, 13, 27)
+    return code in (50, 80) and refused.no in (6, 12, 13, 27)
 
 
 def check_refusal(code, a, refused, asked, rust):
@@ -172,7 +181,7 @@ def check_refusal(code, a, refused, asked, rust):
         good = rust is None
     elif code == 40:
         good = rust is not None and (rust.no, rust.used) == (8, refused.used)
-    elif refused.no == 6 and m.bad(a[3][:m.needed(a[1], a[0])]):
+    elif code == 50 and refused.no == 6 and m.bad(a[3][:m.needed(a[1], a[0])]):
         good = rust is None or rust.no not in (12, 13)
     elif refused.no == 27:
         # the Rust has no live mode: it runs, so both counts are right

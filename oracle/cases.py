@@ -1,4 +1,4 @@
-"""Cases of prover and verifier with rooms as long as the run needs; rows and plain words to fill them with."""
+"""Cases of prover, verifier and replay with rooms as long as the run needs; rows and plain words to fill them with."""
 import model as m
 
 
@@ -22,3 +22,8 @@ def prove_case(rows, challenges, modes=0, asserted=1, by=(0, 0, 0, 0), filler=7)
 def verify_case(n, proof, challenges, by=(0, 0), filler=7, modes=0):
     size = n if n <= m.ROUNDS else 1
     return 50, [n, modes, proof, challenges, max(0, 4 * size + by[0]), max(0, m.log_words(size, True, m.is_sized(proof)) + by[1]), filler]
+
+
+def replay_case(n, proof, log, by=0, filler=7, modes=0):
+    size = n if n <= m.ROUNDS else 1
+    return 80, [n, modes, proof, log, max(0, 4 * size + by), filler]

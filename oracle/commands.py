@@ -26,9 +26,12 @@ WORDS = {
     18: "IncorrectSubroundCount: the number of sub-rounds in round %s: expected %s, actual %s",
     19: "LayerConsistencyCheckFailed: the claim of round %s, as its layer has it and as its sub-rounds reach it: expected %s, actual %s",
     22: "InvalidZeroRoundValue: the denominator of the sum of no rows: expected 1, actual %s",
+    24: "LogMismatch: the log differs at its word %s, counted from 0",
+    25: "LogShort: the log ends before its word %s, counted from 0, and the verifier's goes on",
+    26: "LogLong: the log goes on at its word %s, counted from 0, and the verifier's has ended",
     27: "ZeroRoot: the denominator of the sum is zero, so that the proof says nothing about the rows (live mode)",
 }
-SHEET, PROOF, TEXT = 3 + 32 * m.ROWS, 65536, 262144
+SHEET, PROOF, TEXT, LOG = 3 + 32 * m.ROWS, 65536, 262144, 4 * m.log_words(m.ROUNDS, True, True)
 WORD = r"-?[0-9]+"
 ELEMENT = r"(%s(?:,%s){3}|%s)" % (WORD, WORD, WORD)
 LINE = re.compile(r"[ \t\r]*%s(?:(?:[ \t\r]*/[ \t\r]*|[ \t\r]+)%s)?[ \t\r]*" % (ELEMENT, ELEMENT))
@@ -42,6 +45,21 @@ def element_names(layers, counts):
     """The elements of a proof in stored order, with so many sub-rounds in each entry."""
     claims = ["layer %d, %s" % (r, name) for r in range(layers) for name in ("p0", "q0", "p1", "q1")]
     return ["q0"] + claims + ["layer %d, sub-round %d, s(%d)" % (r, j, k) for r, c in enumerate(counts, 1) for j in range(c) for k in (1, 2, 3)]
+
+
+def log_names(sized):
+    """The elements of a verifier's log of ten rounds."""
+    def claims(r):
+        return ["layer %d, %s" % (r, name) for name in ("p0", "q0", "p1", "q1")] + ["mu of round %d" % r]
+    names = ["the size"] * sized + ["q0"] + claims(0)
+    for r in range(1, m.ROUNDS):
+        names += ["lambda of round %d" % r] + ["layer %d, sub-round %d, %s" % (r, j, name) for j in range(r) for name in ("s(1)", "s(2)", "s(3)", "rho")] + claims(r)
+    return names
+
+
+def log_word(o, sized):
+    """What the word of the log is of that 24 or 25 tells the place of."""
+    return ": %s, word %d" % (log_names(sized)[o.plain[0] // 4], o.plain[0] % 4) if o.no in (24, 25) else ""
 
 
 def bad_word(place, number, shape=None):
@@ -141,12 +159,18 @@ def show(files, sheet):
         level, size = [m.fraction_sum(a, b) for a, b in zip(level[::2], level[1::2])], 2 * size
 
 
-def prove(files, sheet, proof, modes, asserted, challenges):
+def keep_log(files, name, words):
+    if name:
+        files[name] = bytes(b for w in words for b in m.word_bytes(w))
+
+
+def prove(files, sheet, proof, modes, asserted, challenges, log):
     rows = rows_of(files, sheet)
     o = m.outcome(40, [modes, asserted, rows, challenges_of(files, modes, challenges), 2832, 40, 968, 32768, 0])
     if o.no:
         raise Refused(refusal(o))
     files[proof] = bytes(o.fronts[0])
+    keep_log(files, log, o.fronts[2])
     lines = ["rows %d" % (len(rows) // 8), "rounds %d" % o.plain[0], "sum " + " ".join(map(long, o.elements))]
     return lines + notes(o.elements[1], modes, challenges)
 
@@ -169,23 +193,45 @@ def compare(files, sheet, rounds, point, claims):
     return "claims match the sheet" if m.outcome(70, [rows, point]).elements == claims else "refused: the claims are not the sheet's"
 
 
-def verify(files, proof, rounds, modes, challenges, sheet):
-    if len(files[proof]) > PROOF:
-        raise Refused("refused: %s has more than %d bytes, and a proof of 10 rounds has 2832" % (proof, PROOF))
-    o = m.outcome(50, [rounds, modes, files[proof], challenges_of(files, modes, challenges), 40, 964, 0])
+def proof_of(files, name):
+    if len(files[name]) > PROOF:
+        raise Refused("refused: %s has more than %d bytes, and a proof of 10 rounds has 2832" % (name, PROOF))
+    return files[name]
+
+
+def verdict(o, proof, modes, challenges):
+    """The lines of a verifier's answer, or of a replay's."""
     if o.no:
-        read = m.read_proof(files[proof])
-        raise Refused(refusal(o, None if isinstance(read, int) else (len(read[1]), [len(entry) for entry in read[2]])), used_line(o))
+        read = m.read_proof(proof)
+        shape = None if isinstance(read, int) else (len(read[1]), [len(entry) for entry in read[2]])
+        raise Refused(refusal(o, shape) + log_word(o, m.is_sized(proof)), used_line(o))
     point = "".join(" " + long(e) for e in m.elements(o.fronts[0]))
     lines = ["verdict 0", "numer " + long(o.elements[0]), "denom " + long(o.elements[1]), "point" + point, used_line(o)]
-    lines += notes(m.read_proof(files[proof])[0], modes, challenges)
+    return lines + notes(m.read_proof(proof)[0], modes, challenges)
+
+
+def verify(files, proof, rounds, modes, challenges, sheet, log):
+    stored = proof_of(files, proof)
+    o = m.outcome(50, [rounds, modes, stored, challenges_of(files, modes, challenges), 40, 964, 0])
+    keep_log(files, log, o.fronts[1] if o.fronts else [])
+    lines = verdict(o, stored, modes, challenges)
     return lines + ([compare(files, sheet, rounds, o.fronts[0], o.elements)] if sheet else [])
+
+
+def replay(files, proof, rounds, log, modes):
+    stored, data = proof_of(files, proof), files[log]
+    if len(data) > LOG:
+        raise Refused("refused: %s has more than %d bytes, and no verifier logs more than %d words" % (log, LOG, LOG // 4))
+    if len(data) % 4:
+        raise Refused("refused: %s has %d bytes, and each word of a log has 4" % (log, len(data)))
+    words = [int.from_bytes(data[i:i + 4], "big") for i in range(0, len(data), 4)]
+    return verdict(m.outcome(80, [rounds, modes, stored, words, 40, 0]), stored, modes, log)
 
 
 def run(files, line):
     """What a command line of known words prints; `size NAME` tells the bytes of a file."""
     name, *args = line.split(" ")
-    challenges, sheet = (args[args.index(option) + 1] if option in args else None for option in ("--challenges", "--sheet"))
+    challenges, sheet, log = (args[args.index(option) + 1] if option in args else None for option in ("--challenges", "--sheet", "--log"))
     modes = sum(bit for option, bit in (("--live", m.LIVE), ("--drawn", m.DRAWN), ("--sized", m.SIZED), ("--empty", m.EMPTY)) if option in args)
     try:
         if name == "size":
@@ -195,7 +241,9 @@ def run(files, line):
         if name == "show":
             return show(files, *args)
         if name == "prove":
-            return prove(files, args[0], args[1], modes, "--no-assert" not in args, challenges)
-        return verify(files, args[0], int(args[1]), modes, challenges, sheet)
+            return prove(files, args[0], args[1], modes, "--no-assert" not in args, challenges, log)
+        if name == "replay":
+            return replay(files, args[0], int(args[1]), args[2], modes)
+        return verify(files, args[0], int(args[1]), modes, challenges, sheet, log)
     except Refused as said:
         return list(said.args)

@@ -18,8 +18,9 @@ FORMS = {
     50: ("verifier", "verify", "wwllwww"),
     60: ("sheet", "read_sheet", "lww"),
     70: ("evaluation", "evaluate", "ll"),
+    80: ("log", "replay", "wwllww"),
 }
-KINDS = ("field", "poly", "prover", "verifier", "sheet", "evaluation")
+KINDS = ("field", "poly", "prover", "verifier", "sheet", "evaluation", "log")
 
 
 def write_case(code, a):
@@ -101,6 +102,8 @@ def write_answer(code, a, o):
         v = told(o) + buffer(point, a[4], a[6]) + buffer(log, a[5], a[6])
     elif code == 70:
         v = fields(o)
+    elif code == 80:
+        v = told(o) + buffer(fronts[0] if fronts else [], a[4], a[5])
     else:
         v = fields(o) + buffer(fronts[0] if o.no == 0 else [], a[1], a[2])
     return " ".join(map(str, v))

@@ -9,7 +9,8 @@ TOP = (1 << 32) - 1
 EDGE = [0, 1, 2, P - 1]
 BAD = [P, P + 1, 1 << 31, TOP]
 # The longest lists and buffers of a case, by its arguments, for programs that read them into arrays (lists of poly: 8,200).
-LARGEST = {40: (13, 1, 16400, 320, 2900, 48, 1000, 32800), 50: ((1 << 64) - 1, 21, 16400, 320, 48, 1000), 60: (65600, 16400), 70: (16400, 48)}
+LARGEST = {40: (13, 1, 16400, 320, 2900, 48, 1000, 32800), 50: ((1 << 64) - 1, 21, 16400, 320, 48, 1000), 60: (65600, 16400), 70: (16400, 48),
+           80: ((1 << 64) - 1, 21, 16400, 1000, 48)}
 
 
 def within(code, a):
@@ -282,8 +283,21 @@ def repaired(proof):
     return proof[:1] + m.word_bytes(len(proof) - 5) + proof[5:]
 
 
+def logged(make, case):
+    """The replay of a verifier's case from the log that it leaves, in half of the cases with a word or two changed, dropped or added."""
+    rounds, modes, proof, challenges, point, _, filler = case
+    log = (list(m.outcome(50, [rounds, modes, proof, challenges, point, 1000, filler]).fronts) or [[], []])[1] if rounds <= 4 else []
+    for _ in range(make.r.choice([0, 0, 1, 2])):
+        at = make.r.randrange(len(log) + 1)
+        log = make.r.choice([log[:at], log[:at] + [make.r.choice(BAD + EDGE)] + log[at:], log[:at] + [w ^ m.SAMPLED for w in log[at:at + 1]] + log[at + 1:],
+                             log[:at] + [make.word() | make.r.choice([0, m.SAMPLED])] + log[at + 1:], log[:at] + log[at + 1:]])
+    return 80, [rounds, modes, proof, log[:1000], point, filler]
+
+
 def random_cases(kind, count, random):
     make = Make(random)
+    if kind == "log":
+        return [logged(make, a) for _, a in random_cases("verifier", count, random)]
     if kind == "verifier":
         sizes = [max(1, make.size()) for _ in range(max(1, count // 4))]
         honest = [(modes & m.DRAWN, run) for modes in (0, m.DRAWN, m.SIZED, m.DRAWN | m.SIZED) for run in make.honest(sizes, modes)]

@@ -295,6 +295,36 @@ def eq_value(x, y):
     return product(add(mul(a, b), mul(sub(ONE, a), sub(ONE, b))) for a, b in zip(x, y))
 
 
+# --- replay from a log
+
+
+def plain_word(w):
+    """A sampled word without its bit; 0 for one that is not canonical."""
+    return w - SAMPLED if w - SAMPLED < P else 0
+
+
+def log_challenges(log):
+    """The log's challenges: its sampled words in their order, filled up with zeros."""
+    words = [plain_word(w) for w in log if w >= SAMPLED]
+    return (words + [0] * challenge_words(ROUNDS))[:challenge_words(ROUNDS)]
+
+
+def log_gap(given, left):
+    """24, 25 or 26 with the first place where the log given is not the log left, or None."""
+    differ = [i for i, (g, w) in enumerate(zip(given, left)) if g != w]
+    if differ:
+        return Outcome(24, differ[:1])
+    if len(given) == len(left):
+        return None
+    return Outcome(25 if len(given) < len(left) else 26, [min(len(given), len(left))])
+
+
+def replayed(o, log):
+    """What a replay answers where the plain verifier on the log's challenges answers so; fronts: point. The log is looked at after a run, and after 0 rounds."""
+    gap = log_gap(log, o.fronts[1]) if o.no in (0, 16, 17, 18, 19) else None
+    return gap or o._replace(fronts=o.fronts[:1])
+
+
 def evaluate(words, point):
     """The values of both columns, p and q by turns; without rows those of the empty sum."""
     p, q = words[::2], words[1::2]
@@ -451,6 +481,11 @@ def verify_refusal(n, modes, proof, challenges, point, log):
     return Outcome(27) if modes & LIVE and counted and q0 == ZERO else None
 
 
+def replay_refusal(n, modes, proof, log, point):
+    """The verifier's own, with challenges and a log room that are always long enough."""
+    return verify_refusal(n, modes, proof, log_challenges(log), point, log_words(ROUNDS, True, True))
+
+
 def empty_refusal(q0, layers, polys):
     """0 rounds, where they are valid."""
     if layers:
@@ -522,6 +557,8 @@ def refusal(code, a):
         return read_sheet(*a[:2])
     if code == 70:
         return evaluate_refusal(*a)
+    if code == 80:
+        return replay_refusal(*a[:5])
     no = helper_refusal(code, a)
     return Outcome(no) if no else None
 
@@ -569,6 +606,8 @@ def run(code, a):
         return fractional_sumcheck(list(zip(rows[::2], rows[1::2])), a[1], source(a[0], a[3]), a[0])
     if code == 50:
         return verify_gkr(read_proof(a[2]), a[0], source(a[1], a[3]), is_sized(a[2]))
+    if code == 80:
+        return replayed(verify_gkr(read_proof(a[2]), a[0], source(a[1], log_challenges(a[3])), is_sized(a[2])), a[3])
     if code == 70:
         return evaluate(elements(a[0]), elements(a[1]))
     raise ValueError(code)

@@ -97,5 +97,17 @@ def short_evaluation():
         yield 70, [[1] * rows, [2] * point]
 
 
+def short_log():
+    """Logs of K2 with one word changed, a word less or more at each place, and all short logs over four words."""
+    for version, modes in itertools.product((1, 2), (0, 1, m.DRAWN)):
+        proof = [version] + K2_PROOF[1:]
+        log = m.outcome(50, [1, modes, proof, [5, 0, 0, 0], 4, 28, 7]).fronts[1]
+        for i, w in itertools.product(range(len(log) + 1), (0, 1, P, m.SAMPLED, m.SAMPLED + 5, m.SAMPLED + P, TOP)):
+            for bent in (log[:i] + [w] + log[i + 1:], log[:i] + [w] + log[i:], log[:i]):
+                yield 80, [1, modes, proof, bent, 4, 7]
+    for log, rounds, point in itertools.product(strings([0, 1, m.SAMPLED, TOP], range(4)), (0, 1, 11), (3, 4)):
+        yield 80, [rounds, m.EMPTY, K2_PROOF if rounds else m.write_proof(m.ONE, [], []), log, point, 7]
+
+
 SHORT = {"field": short_field, "poly": short_poly, "prover": short_prover, "verifier": short_verifier, "sheet": short_sheet,
-         "evaluation": short_evaluation}
+         "evaluation": short_evaluation, "log": short_log}

@@ -43,5 +43,17 @@ extern "C" {
         answer: *mut Answer,
     ) -> u32;
 
+    pub fn accudrina_replay(
+        proof: *const u8,
+        proof_len: usize,
+        rounds: usize,
+        modes: u32,
+        log: *const u32,
+        log_len: usize,
+        point: *mut u32,
+        point_len: usize,
+        answer: *mut Answer,
+    ) -> u32;
+
     pub fn accudrina_evaluate(rows: *const u32, rows_len: usize, point: *const u32, point_len: usize, answer: *mut Answer) -> u32;
 }

@@ -1,7 +1,7 @@
 //! The calls over lent buffers, as C has them. They ask nothing of a slice: any content and any length gets an answer.
 use crate::{
     ffi,
-    modes::{self, Challenges, Proving, Sum, Verifying},
+    modes::{self, Challenges, Logged, Proving, Sum, Verifying},
     Element, Fraction, Refusal, Refused, Used,
 };
 
@@ -124,6 +124,40 @@ pub fn verify_into<'a>(
             point.len(),
             log.as_mut_ptr(),
             log.len(),
+            &mut answer,
+        )
+    };
+    match number {
+        0 => {
+            let claims = Claims { numer: element(&answer, 4), denom: element(&answer, 8) };
+            Ok(Verified { claims, used: Used::told(&answer) })
+        }
+        _ => Err(Refused::told(&answer)),
+    }
+}
+
+/// Replays a proof of so many rounds, by its exact bytes, from the log of a run; only the point is written.
+pub fn replay_into(
+    proof: &[u8],
+    rounds: usize,
+    how: impl Into<Verifying>,
+    logged: Logged,
+    log: &[u32],
+    point: &mut [u32],
+) -> Result<Verified, Refused> {
+    let modes = modes::replaying(how.into(), logged);
+    let mut answer = [0; 16];
+    // Safe: as in `read_sheet_into`.
+    let number = unsafe {
+        ffi::accudrina_replay(
+            proof.as_ptr(),
+            proof.len(),
+            rounds,
+            modes,
+            log.as_ptr(),
+            log.len(),
+            point.as_mut_ptr(),
+            point.len(),
             &mut answer,
         )
     };

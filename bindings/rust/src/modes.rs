@@ -128,6 +128,20 @@ const DRAWN: u32 = 4;
 const SIZED: u32 = 8;
 const EMPTY: u32 = 16;
 
+/// Where the challenges of a log came from.
+#[derive(Clone, Copy, Debug, PartialEq, Eq)]
+pub enum Logged {
+    /// From the caller of the run: those in the log are taken.
+    Supplied,
+    /// From the log: those in it must be the drawn ones.
+    Drawn,
+}
+
+/// The word of a replay's modes.
+pub(crate) fn replaying(how: Verifying, logged: Logged) -> u32 {
+    verifying::<u32>(how, if logged == Logged::Drawn { Challenges::Drawn } else { Challenges::Supplied(&[]) })
+}
+
 /// The word of the verifier's modes.
 pub(crate) fn verifying<T>(how: Verifying, challenges: Challenges<'_, T>) -> u32 {
     let live = if how.mode == Mode::Live { LIVE } else { 0 };

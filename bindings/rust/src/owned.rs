@@ -1,8 +1,8 @@
 //! The calls with buffers made to measure.
 use crate::{
     element::{elements_of, row_words, words_of},
-    lent::{evaluate_words, prove_into, read_sheet_into, verify_into, Claims, Rooms, Verified},
-    modes::{Challenges, Proving, Sum, Verifying, Version},
+    lent::{evaluate_words, prove_into, read_sheet_into, replay_into, verify_into, Claims, Rooms, Verified},
+    modes::{Challenges, Logged, Proving, Sum, Verifying, Version},
     rooms, Element, Fraction, Refusal, Refused, Used,
 };
 
@@ -85,6 +85,22 @@ pub fn verify<'a>(
     let words = words(challenges.into());
     let Verified { claims, used } = verify_into(proof, rounds, how, again(&words), &mut point, &mut log)?;
     Ok(Accepted { claims, point: elements_of(&point), log, used })
+}
+
+/// What a replay of an accepted proof claims, and where.
+#[derive(Clone, Debug, PartialEq, Eq)]
+pub struct Replayed {
+    pub claims: Claims,
+    pub point: Vec<Element>,
+    pub used: Used,
+}
+
+/// The verdict of a proof of so many rounds from the log of a run alone: that of [`verify`] on the log's challenges, if the log is exactly the one that it leaves. It says
+/// nothing about where these challenges came from.
+pub fn replay(proof: &[u8], rounds: usize, how: impl Into<Verifying>, logged: Logged, log: &[u32]) -> Result<Replayed, Refused> {
+    let mut point = vec![0; rooms::point_words(rounds)];
+    let Verified { claims, used } = replay_into(proof, rounds, how, logged, log, &mut point)?;
+    Ok(Replayed { claims, point: elements_of(&point), used })
 }
 
 /// The values of both columns of the rows at a point: compare them with the claims of a proof that was accepted with that point.

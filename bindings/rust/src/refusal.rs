@@ -61,6 +61,12 @@ pub enum Refusal {
     LayerConsistencyCheckFailed { round: u32, expected: Element, actual: Element },
     /// 22: no rounds, and the stated denominator is not 1.
     InvalidZeroRoundValue { actual: Element },
+    /// 24: a replay, the place of the log's first word that is not the verifier's, from 0.
+    LogMismatch { place: u32 },
+    /// 25: a replay, the place where the log ends and the verifier's goes on.
+    LogShort { place: u32 },
+    /// 26: a replay, the place where the verifier's log ends and this one goes on.
+    LogLong { place: u32 },
     /// 27: live mode, the sum's q is zero.
     ZeroRoot,
     /// 28: a mode that the call does not take. The calls of this crate pass none such: the archive is older.
@@ -109,6 +115,9 @@ impl Refusal {
             18 => Self::IncorrectSubroundCount { round: a, expected: b, actual: c },
             19 => Self::LayerConsistencyCheckFailed { round: a, expected: left, actual: right },
             22 => Self::InvalidZeroRoundValue { actual: left },
+            24 => Self::LogMismatch { place: a },
+            25 => Self::LogShort { place: a },
+            26 => Self::LogLong { place: a },
             27 => Self::ZeroRoot,
             28 => Self::UnknownMode { bits: a },
             _ => Self::Unknown { number },
@@ -138,6 +147,9 @@ impl Refusal {
             Self::IncorrectSubroundCount { .. } => 18,
             Self::LayerConsistencyCheckFailed { .. } => 19,
             Self::InvalidZeroRoundValue { .. } => 22,
+            Self::LogMismatch { .. } => 24,
+            Self::LogShort { .. } => 25,
+            Self::LogLong { .. } => 26,
             Self::ZeroRoot => 27,
             Self::UnknownMode { .. } => 28,
             Self::Unknown { number } => number,

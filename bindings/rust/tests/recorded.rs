@@ -1,7 +1,7 @@
 //! The Rust's recorded answers (oracle/README.md), through the exported functions: every number, field and word of every buffer.
 use accudrina::{
-    evaluate_words, prove_into, read_sheet_into, verify_into, Challenges, Done, Element, Evaluated, Mode, Proving, Refusal, Refused, Rooms,
-    Sum, Used, Verified, Verifying, Version, Words,
+    evaluate_words, prove_into, read_sheet_into, replay_into, verify_into, Challenges, Done, Element, Evaluated, Logged, Mode, Proving,
+    Refusal, Refused, Rooms, Sum, Used, Verified, Verifying, Version, Words,
 };
 use std::{fs, path::PathBuf};
 
@@ -58,6 +58,7 @@ fn refused(refusal: Refusal) -> Told {
         Refusal::RootConsistencyCheckFailed { expected, actual } => (none, expected, actual),
         Refusal::IncorrectSubroundCount { round, expected, actual } => ([round, expected, actual], zero, zero),
         Refusal::LayerConsistencyCheckFailed { round, expected, actual } => ([round, 0, 0], expected, actual),
+        Refusal::LogMismatch { place } | Refusal::LogShort { place } | Refusal::LogLong { place } => ([place, 0, 0], zero, zero),
         _ => (none, zero, zero),
     };
     told(refusal.number(), plain, left, right)
@@ -118,6 +119,19 @@ fn verifier(case: &mut Line<'_>) -> Vec<u32> {
     [answer, listed(&point), listed(&log)].concat()
 }
 
+fn log(case: &mut Line<'_>) -> Vec<u32> {
+    let rounds = case.number() as usize;
+    let word = case.number();
+    let (mode, drawn) = modes(word);
+    let how = Verifying { mode, empty: word & 16 == 16 };
+    let (proof, log) = (case.bytes(), case.words());
+    let [mut point] = case.buffers();
+    let logged = if drawn { Logged::Drawn } else { Logged::Supplied };
+    let accepted = |v: Verified| counted(told(0, [0; 3], v.claims.numer, v.claims.denom), v.used);
+    let answer = replay_into(&proof, rounds, how, logged, &log, &mut point).map_or_else(stopped, accepted);
+    [answer, listed(&point)].concat()
+}
+
 fn sheet(case: &mut Line<'_>) -> Vec<u32> {
     let bytes = case.bytes();
     let [mut rows] = case.buffers();
@@ -155,6 +169,11 @@ fn recorded_prover() {
 #[test]
 fn recorded_verifier() {
     replay("verifier", verifier);
+}
+
+#[test]
+fn recorded_logs() {
+    replay("log", log);
 }
 
 #[test]

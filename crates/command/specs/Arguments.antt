@@ -9,7 +9,7 @@ use Rattle.sheet_text.specs.Reading.{lengthTo}
 use Rattle.command.specs.declared.words.Word.{Word}
 use Rattle.command.specs.declared.words.Word.the-variants.{Empty, Mode, Name, Other}
 use Rattle.command.specs.declared.words.Mode.the-variants.{Live, NoAssert, Drawn, Sized, NoRows}
-use Rattle.command.specs.declared.words.Name.the-variants.{Challenges, Sheet}
+use Rattle.command.specs.declared.words.Name.the-variants.{Challenges, Sheet, Log}
 
 -- argument k, from 0: what stands before a byte 0 or the end, after k bytes 0
 unfoldable pub argument : ℕ → List ℕ → List ℕ
@@ -22,7 +22,7 @@ sameText [] (b ∷ y) = false
 sameText (a ∷ x) [] = false
 sameText (a ∷ x) (b ∷ y) = eqb a b && sameText x y
 
--- --live, --no-assert, --drawn, --sized, --empty, --challenges, --sheet
+-- --live, --no-assert, --drawn, --sized, --empty, --challenges, --sheet, --log
 abbrev pub live : List ℕ
 live = 45 ∷ 45 ∷ 108 ∷ 105 ∷ 118 ∷ 101 ∷ []
 
@@ -44,6 +44,9 @@ challenges = 45 ∷ 45 ∷ 99 ∷ 104 ∷ 97 ∷ 108 ∷ 108 ∷ 101 ∷ 110 ∷
 abbrev pub sheet : List ℕ
 sheet = 45 ∷ 45 ∷ 115 ∷ 104 ∷ 101 ∷ 101 ∷ 116 ∷ []
 
+abbrev pub log : List ℕ
+log = 45 ∷ 45 ∷ 108 ∷ 111 ∷ 103 ∷ []
+
 -- the options that are modes: those about a proof's size
 abbrev pub sizeWord : List ℕ → Word
 sizeWord w = cond (sameText w sized) (Mode Sized) (cond (sameText w empty) (Mode NoRows) Other)
@@ -60,4 +63,5 @@ abbrev pub wordOf : List ℕ → Word
 wordOf w =
     cond (sameText w []) Empty
     (cond (sameText w challenges) (Name Challenges)
-    (cond (sameText w sheet) (Name Sheet) (modeWord w)))
+    (cond (sameText w sheet) (Name Sheet)
+    (cond (sameText w log) (Name Log) (modeWord w))))

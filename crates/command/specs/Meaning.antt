@@ -27,8 +27,9 @@ set f M.NoRows = record { live = f .live; asserted = f .asserted; drawn = f .dra
 
 -- a name that is argument k
 abbrev pub named : Names → Name → ℕ → Names
-named t N.Challenges k = record { challenges = k; sheet = t .sheet }
-named t N.Sheet k = record { challenges = t .challenges; sheet = k }
+named t N.Challenges k = record { challenges = k; sheet = t .sheet; log = t .log }
+named t N.Sheet k = record { challenges = t .challenges; sheet = k; log = t .log }
+named t N.Log k = record { challenges = t .challenges; sheet = t .sheet; log = k }
 
 -- a name is any word but the empty one
 abbrev pub isName : Word → Bool
@@ -47,7 +48,7 @@ sandbox = record { live = false; asserted = true; drawn = false; sized = false; 
 
 -- and no name given
 abbrev pub none : ℕ → Options
-none n = record { flags = sandbox; names = record { challenges = n; sheet = n }; known = true; awaits = A.Nothing }
+none n = record { flags = sandbox; names = record { challenges = n; sheet = n; log = n }; known = true; awaits = A.Nothing }
 
 -- an option where one may stand; any other word is not known
 abbrev pub asked : Options → Word → Options
@@ -76,3 +77,7 @@ whole o = o .known && isNothing (o .awaits)
 -- drawn challenges are read from nowhere: none are named, of n arguments
 abbrev pub oneSource : Options → ℕ → Bool
 oneSource o n = cond (o .flags .drawn) (eqb (o .names .challenges) n) true
+
+-- no name is given at all, of n arguments
+abbrev pub nameless : Options → ℕ → Bool
+nameless o n = eqb (o .names .challenges) n && (eqb (o .names .sheet) n && eqb (o .names .log) n)

@@ -3,7 +3,7 @@ ghost use mathlib.Core.Path.{_≡_};
 ghost use mathlib.Core.Bool.{not, _&&_};
 ghost use Prim.Native.Nat.{_-_};
 ghost use lib.Dec.{eqb};
-ghost use Rattle.command.specs.Meaning.{set, named, isName, isNothing, none, asked, taken, optionsFrom, whole, oneSource};
+ghost use Rattle.command.specs.Meaning.{set, named, isName, isNothing, none, asked, taken, optionsFrom, whole, oneSource, nameless};
 use crate::words::Mode;
 use crate::words::Name;
 use crate::words::Word;
@@ -25,10 +25,11 @@ pub struct Flags {
     pub empty: bool,
 }
 
-// The arguments that name a text of challenges and a sheet.
+// The arguments that name a text of challenges, a sheet, and a file for the log.
 pub struct Names {
     pub challenges: usize,
     pub sheet: usize,
+    pub log: usize,
 }
 
 // Modes, names, whether all of it is known, and what is still to come.
@@ -60,6 +61,7 @@ fn set_name(names: Names, name: Name, k: usize) -> Names
     match name {
         Name::Challenges => next.challenges = k,
         Name::Sheet => next.sheet = k,
+        Name::Log => next.log = k,
     }
     next
 }
@@ -138,6 +140,7 @@ fn no_options(n: usize) -> Options
         names: Names {
             challenges: n,
             sheet: n,
+            log: n,
         },
         known: true,
         awaits: Awaits::Nothing,
@@ -205,4 +208,28 @@ pub fn fit_verify(o: Options, n: usize) -> bool
     ensures { λ r. ⌜ r ≡ ((whole o && oneSource o n) && (o .flags .asserted && not (o .flags .sized))) ⌝ }
 {
     both(fit(o, n), is_verifiers(o))
+}
+
+// Nothing is named, of n arguments.
+fn is_nameless(o: Options, n: usize) -> bool
+    ensures { λ r. ⌜ r ≡ nameless o n ⌝ }
+{
+    both(
+        o.names.challenges == n,
+        both(o.names.sheet == n, o.names.log == n),
+    )
+}
+
+// What `replay` asks of its options: all known, and nothing named, of n arguments.
+fn is_plain(o: Options, n: usize) -> bool
+    ensures { λ r. ⌜ r ≡ (whole o && nameless o n) ⌝ }
+{
+    both(is_whole(o), is_nameless(o, n))
+}
+
+// Whether they are those of `replay`: all known, nothing named, as its log stands in the place of challenges, and none that `prove` alone takes.
+pub fn fit_replay(o: Options, n: usize) -> bool
+    ensures { λ r. ⌜ r ≡ ((whole o && nameless o n) && (o .flags .asserted && not (o .flags .sized))) ⌝ }
+{
+    both(is_plain(o, n), is_verifiers(o))
 }

@@ -25,6 +25,7 @@ pub enum Mode {
 pub enum Name {
     Challenges,
     Sheet,
+    Log,
 }
 
 // What a word is: an option, any other word, or nothing.
@@ -94,7 +95,8 @@ fn read_word(word: &[u8]) -> Word
     ensures { λ r. ⌜ r ≡ wordOf (now (word .entry)) ⌝ }
 {
     let mode = read_mode(word);
-    let sheet = pick(word, b"--sheet", Word::Name(Name::Sheet), mode);
+    let log = pick(word, b"--log", Word::Name(Name::Log), mode);
+    let sheet = pick(word, b"--sheet", Word::Name(Name::Sheet), log);
     let name = pick(word, b"--challenges", Word::Name(Name::Challenges), sheet);
     pick(word, b"", Word::Empty, name)
 }

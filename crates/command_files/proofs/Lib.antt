@@ -1,2 +1,3 @@
 -- The laws of what is read.
+pub mod Copies
 pub mod Parts

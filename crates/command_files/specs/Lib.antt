@@ -1,3 +1,4 @@
 -- What the commands read.
 pub mod Rows
 pub mod Given
+pub mod Logs

@@ -5,6 +5,7 @@ ghost use lib.ListN.{length};
 ghost use Rattle.io.specs.Counts.{Counts};
 
 pub mod inputs; // rows and challenges as words
+pub mod logs; // a run's log
 
 // What comes after the bytes that were read: the end of the file, more than the buffer takes, or a failure, which is told.
 pub enum After {

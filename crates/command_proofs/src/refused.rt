@@ -1,6 +1,7 @@
 // The line of a verifier's refusal: a bad word of the proof by its element's name.
 use command_text::refusals::print_named;
 use command_text::refusals::print_refusal;
+use command_text::refusals::print_replayed;
 use refusal::Refusal;
 use stored::Outline;
 use stored::Shape;
@@ -31,7 +32,7 @@ fn print_place(proof: &[u8], place: usize) {
     }
 }
 
-// What was refused of these bytes of a proof: 6 of list 2 is a word of its own.
+// What was refused of these bytes of a proof: 6 of list 2 is a word of its own, and its first byte says which word of a log a place is.
 pub fn print_refused(proof: &[u8], refusal: Refusal) {
     let report = refusal::number_and_fields(refusal);
     if report.number == 6 {
@@ -39,5 +40,5 @@ pub fn print_refused(proof: &[u8], refusal: Refusal) {
             return print_place(proof, report.first);
         }
     }
-    print_refusal(refusal);
+    print_replayed(refusal, stored::is_sized(proof));
 }

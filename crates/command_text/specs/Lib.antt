@@ -1,2 +1,3 @@
 -- What the words of a refusal name.
+pub mod LogPlaces
 pub mod Places

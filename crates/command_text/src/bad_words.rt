@@ -1,9 +1,10 @@
 // The words of a refusal of a bad word: where it stands, everything counted from 0.
+use crate::names::claim;
+use crate::names::sum;
 use crate::places;
 use crate::places::ElementWord;
 use crate::places::ProofWord;
 use crate::places::RowWord;
-use crate::places::SubroundAt;
 use crate::print;
 use crate::print_count;
 
@@ -58,40 +59,6 @@ pub fn print_bad_word(place: usize, list: usize) {
         4 => element(b"coordinate ", places::element_word(place)),
         _ => print(b"a word is not below the prime 2013265921"),
     }
-}
-
-fn claim_name(which: usize) {
-    match which {
-        0 => print(b", p0"),
-        1 => print(b", q0"),
-        2 => print(b", p1"),
-        _ => print(b", q1"),
-    }
-}
-
-fn sum_name(which: usize) {
-    match which {
-        0 => print(b", s(1)"),
-        1 => print(b", s(2)"),
-        _ => print(b", s(3)"),
-    }
-}
-
-fn layer(r: usize) {
-    print(b"layer ");
-    print_count(r);
-}
-
-fn claim(r: usize, which: usize) {
-    layer(r);
-    claim_name(which);
-}
-
-fn sum(at: SubroundAt, which: usize) {
-    layer(at.layer);
-    print(b", sub-round ");
-    print_count(at.subround);
-    sum_name(which);
 }
 
 // The bad word of a proof, by its element's name.

@@ -4,6 +4,9 @@ use field::Ext;
 use step::Frac;
 
 mod bad_words; // where a bad word stands, in words
+pub mod log_places; // which word of a log a place names
+mod log_words; // and in words
+mod names; // of a layer's claims and sums
 pub mod places; // which word a place names
 pub mod refusals; // the words of each refusal
 

@@ -59,7 +59,7 @@ pub fn element_word(place: usize) -> ElementWord
 }
 
 // Where a sub-round stands, counted over all entries of so many each: entry e is of layer e + 1.
-fn subround_at(counts: &[usize], subround: usize) -> SubroundAt
+pub fn subround_at(counts: &[usize], subround: usize) -> SubroundAt
     ensures { λ r. ⌜ r ≡ layerFrom 1 (now (counts .entry)) subround ⌝ }
 {
     let mut left = subround;

@@ -1,6 +1,7 @@
 // The words of each refusal: `refused`, its number, its name, and what it means, on a line.
 use crate::bad_words::print_bad_word;
 use crate::bad_words::print_proof_word;
+use crate::log_words::print_log_word;
 use crate::places;
 use crate::print;
 use crate::print_count;
@@ -117,6 +118,24 @@ fn zero_round_value(actual: Ext) {
     elements(Ext::ONE, actual);
 }
 
+fn log_mismatch(place: usize) {
+    print(b"LogMismatch: the log differs at its word ");
+    print_count(place);
+    print(b", counted from 0");
+}
+
+fn log_short(place: usize) {
+    print(b"LogShort: the log ends before its word ");
+    print_count(place);
+    print(b", counted from 0, and the verifier's goes on");
+}
+
+fn log_long(place: usize) {
+    print(b"LogLong: the log goes on at its word ");
+    print_count(place);
+    print(b", counted from 0, and the verifier's has ended");
+}
+
 fn zero_root() {
     print(
         b"ZeroRoot: the denominator of the sum is zero, so that the proof says nothing about the rows (live mode)",
@@ -146,17 +165,37 @@ fn print_words(r: Report) {
         18 => subround_count(r.first, r.second, r.third),
         19 => layer_consistency(r.first, r.left, r.right),
         22 => zero_round_value(r.left),
+        24 => log_mismatch(r.first),
+        25 => log_short(r.first),
+        26 => log_long(r.first),
         _ => zero_root(),
     }
 }
 
-// The line of a refusal.
-pub fn print_refusal(refusal: Refusal) {
-    let report = refusal::number_and_fields(refusal);
+// A refusal without the line's end.
+fn print_start(report: Report) {
     print(b"refused ");
     io::print_decimal(1, report.number as u64);
     print(b" ");
     print_words(report);
+}
+
+// The line of a refusal.
+pub fn print_refusal(refusal: Refusal) {
+    print_start(refusal::number_and_fields(refusal));
+    print(b"\n");
+}
+
+// The line of a refusal of a replay: a word of the log that differs, or is missing, by what it is of.
+pub fn print_replayed(refusal: Refusal, sized: bool) {
+    let report = refusal::number_and_fields(refusal);
+    let number = report.number;
+    print_start(report);
+    match number {
+        24 => print_log_word(sized, report.first),
+        25 => print_log_word(sized, report.first),
+        _ => {}
+    }
     print(b"\n");
 }
 

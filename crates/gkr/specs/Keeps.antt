@@ -57,7 +57,7 @@ module _ (F : Field) (S : Transcript (F .ring .carrier)) (I : S .Log → Type 0)
   Left : (t : Log) → Gkr.Verdict F S → Type 0
   Left t v = I (Gkr.log-after F S t v)
 
-  check-keep : (polys : List (Cubic R)) (xi : List R) (claim eq : R) (t : Log) → I t → I (Sumcheck.verify-gkr-sumcheck F S polys xi claim eq t .log)
+  pub check-keep : (polys : List (Cubic R)) (xi : List R) (claim eq : R) (t : Log) → I t → I (Sumcheck.verify-gkr-sumcheck F S polys xi claim eq t .log)
   unfolding Sumcheck.verify-gkr-sumcheck
   check-keep [] xi claim eq t h = h
   check-keep (s ∷ polys) [] claim eq t h = h
@@ -68,7 +68,8 @@ module _ (F : Field) (S : Transcript (F .ring .carrier)) (I : S .Log → Type 0)
   two-tests t₀ true false next v w a b c = b
   two-tests t₀ false q next v w a b c = c
 
-  rounds-keep : (t₀ : Log) (polyss : List (List (Cubic R))) (cs : List (Claims R)) (v : Frac R) (xi : List R) (t : Log) → I t → Left t₀ (Gkr.rounds F S polyss cs v xi t)
+  pub rounds-keep : (t₀ : Log) (polyss : List (List (Cubic R))) (cs : List (Claims R)) (v : Frac R) (xi : List R) (t : Log)
+      → I t → I (Gkr.log-after F S t₀ (Gkr.rounds F S polyss cs v xi t))
   unfolding Gkr.rounds Left
   rounds-keep t₀ [] cs v xi t h = h
   rounds-keep t₀ (polys ∷ polyss) [] v xi t h = h

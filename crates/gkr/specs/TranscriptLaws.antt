@@ -1,6 +1,6 @@
 -- Over challenges from any source: how many a run samples, and how many words it leaves in the log. Over supplied ones: the k-th sample is the k-th challenge.
 -- Assumes nothing.
-use mathlib.Core.Path.{_≡_, refl, _∙_, ap, ap₂, subst}
+use mathlib.Core.Path.{_≡_, refl, _∙_, ap, subst}
 use mathlib.Core.Bool.{Bool, true, false, cond}
 use mathlib.Core.List.{List, [], _∷_, _++_, map, append-nil}
 use Prim.Native.Nat.{ℕ, zero, suc, _≤_, _+_, _*_, _^_}
@@ -24,7 +24,7 @@ unfoldable pub sampled-words : List ℕ → List ℕ
 sampled-words [] = []
 sampled-words (w ∷ ws) = cond (leb (2 ^ 31) w) (w ∷ sampled-words ws) (sampled-words ws)
 
-sampled-append : (a b : List ℕ) → sampled-words (a ++ b) ≡ sampled-words a ++ sampled-words b
+pub sampled-append : (a b : List ℕ) → sampled-words (a ++ b) ≡ sampled-words a ++ sampled-words b
 unfolding sampled-words
 sampled-append [] b = refl
 sampled-append (w ∷ a) b = ap (λ l. cond (leb (2 ^ 31) w) (w ∷ l) l) (sampled-append a b) ∙ go (leb (2 ^ 31) w)
@@ -33,10 +33,23 @@ sampled-append (w ∷ a) b = ap (λ l. cond (leb (2 ^ 31) w) (w ∷ l) l) (sampl
     go true = refl
     go false = refl
 
-sampled-mark : (ws : List ℕ) → sampled-words (map mark ws) ≡ map mark ws
+pub sampled-mark : (ws : List ℕ) → sampled-words (map mark ws) ≡ map mark ws
 unfolding sampled-words
 sampled-mark [] = refl
 sampled-mark (w ∷ ws) = ap (λ t. cond t (mark w ∷ sampled-words (map mark ws)) (sampled-words (map mark ws))) (le-leb (2 ^ 31) (mark w) (omega arith)) ∙ ap (λ l. mark w ∷ l) (sampled-mark ws)
+
+module _ {A : Type 0} (words : A → List ℕ) (source : Source A) where
+  -- a challenge adds its words, marked
+  pub drawn-adds : (t : Words) → sampled-words (drawing words source .drawn t .log) ≡ sampled-words (t .log) ++ map mark (words (source t))
+  drawn-adds t = sampled-append (t .log) (map mark (words (source t))) ∙ ap (λ l. sampled-words (t .log) ++ l) (sampled-mark (words (source t)))
+
+  -- an observation adds none, where no word of an element has its top bit set
+  pub observe-adds : (plain : (x : A) → sampled-words (words x) ≡ []) (x : A) (t : Words) → sampled-words (drawing words source .observe x t .log) ≡ sampled-words (t .log)
+  observe-adds plain x t = sampled-append (t .log) (words x) ∙ ap (λ l. sampled-words (t .log) ++ l) (plain x) ∙ append-nil (sampled-words (t .log))
+
+-- the sampled words of a log are four for each challenge
+abbrev pub Marked : Words → Type 0
+Marked t = length (sampled-words (t .log)) ≡ 4 * t .used
 
 module _ (F : Field) (words : F .ring .carrier → List ℕ) (source : Source (F .ring .carrier)) where
   abbrev R : Type 0
@@ -110,21 +123,20 @@ module _ (F : Field) (words : F .ring .carrier → List ℕ) (source : Source (F
         subst (λ k. length (Gkr.log-after F S t (Gkr.verify-gkr F S (suc m) π t) .log) ≤ length (t .log) + k) (Count.words m)
         (VerifierCount.left-size F S (λ u. length (u .log)) 4 4 observe-words drawn-words m π t)
 
-    -- HOW MANY OF THEM ARE SAMPLED, where no word of an element has its top bit set: four for each challenge
+    -- HOW MANY OF THEM ARE SAMPLED
+
+    pub drawn-marks : (t : Words) → length (sampled-words (S .drawn t .log)) ≡ length (sampled-words (t .log)) + 4
+    drawn-marks t =
+        ap length (drawn-adds words source t)
+        ∙ length-append (sampled-words (t .log)) _
+        ∙ ap (λ k. length (sampled-words (t .log)) + k) (length-map (words (source t)) mark ∙ four (source t))
+
+    drawn-marked : (t : Words) → Marked t → Marked (S .drawn t)
+    drawn-marked t h = drawn-marks t ∙ omega (arith, h)
 
     module _ (plain : (x : R) → sampled-words (words x) ≡ []) where
-      abbrev pub Marked : Words → Type 0
-      Marked t = length (sampled-words (t .log)) ≡ 4 * t .used
-
       observe-marked : (x : R) (t : Words) → Marked t → Marked (S .observe x t)
-      observe-marked x t h = ap length (sampled-append (t .log) (words x) ∙ ap (λ l. sampled-words (t .log) ++ l) (plain x) ∙ append-nil (sampled-words (t .log))) ∙ h
-
-      drawn-marked : (t : Words) → Marked t → Marked (S .drawn t)
-      drawn-marked t h =
-          ap length (sampled-append (t .log) _ ∙ ap (λ l. sampled-words (t .log) ++ l) (sampled-mark (words (source t))))
-          ∙ length-append (sampled-words (t .log)) _
-          ∙ ap₂ _+_ h (length-map (words (source t)) mark ∙ four (source t))
-          ∙ omega arith
+      observe-marked x t h = ap length (observe-adds words source plain x t) ∙ h
 
       pub done-marked : (asserted : Bool) (m : ℕ) (f : ℕ → Frac R) (t : Words) (P : Gkr.Proved F S)
           → Gkr.fractional-sumcheck F S asserted m f t ≡ done P → Marked t → Marked (P .log)
@@ -156,11 +168,11 @@ module _ (F : Field) (words : F .ring .carrier → List ℕ) (challenge : ℕ �
 
   module _ (plain : (x : A) → sampled-words (words x) ≡ []) where
     observe-ordered : (x : A) (t : Words) → Ordered t → Ordered (T .observe x t)
-    observe-ordered x t h = sampled-append (t .log) (words x) ∙ ap₂ _++_ h (plain x) ∙ append-nil _
+    observe-ordered x t h = observe-adds words next plain x t ∙ h
 
     drawn-ordered : (t : Words) → Ordered t → Ordered (T .drawn t)
     unfolding firsts
-    drawn-ordered t h = sampled-append (t .log) _ ∙ ap₂ _++_ h (sampled-mark (words (challenge (t .used))))
+    drawn-ordered t h = drawn-adds words next t ∙ ap (λ l. l ++ map mark (words (challenge (t .used)))) h
 
     -- along the prover's run, and along the verifier's
     pub done-ordered : (asserted : Bool) (m : ℕ) (f : ℕ → Frac A) (t : Words) (P : Gkr.Proved F T)

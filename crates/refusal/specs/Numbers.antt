@@ -6,7 +6,7 @@ use Rattle.refusal.specs.declared.Report.{Report}
 use Rattle.refusal.specs.declared.Words.{Words}
 use Rattle.refusal.specs.declared.Words.the-variants.{Rows, Proof, Challenges, Point, Own}
 use Rattle.refusal.specs.declared.Refusal.{Refusal}
-use Rattle.refusal.specs.declared.Refusal.the-variants.{RaggedRows, TooManyRows, NotPowerOfTwo, ShortChallenges, ShortRoom, BadWord, ZeroDenominator, NonZeroRootSum, SingleRow, ZeroRounds, TooManyRounds, BadVersion, BadLength, IncorrectLayerCount, IncorrectSumcheckPolyCount, ZeroCheckFailed, RootConsistencyCheckFailed, IncorrectSubroundCount, LayerConsistencyCheckFailed, InvalidZeroRoundValue, ZeroRoot}
+use Rattle.refusal.specs.declared.Refusal.the-variants.{RaggedRows, TooManyRows, NotPowerOfTwo, ShortChallenges, ShortRoom, BadWord, ZeroDenominator, NonZeroRootSum, SingleRow, ZeroRounds, TooManyRounds, BadVersion, BadLength, IncorrectLayerCount, IncorrectSumcheckPolyCount, ZeroCheckFailed, RootConsistencyCheckFailed, IncorrectSubroundCount, LayerConsistencyCheckFailed, InvalidZeroRoundValue, LogMismatch, LogShort, LogLong, ZeroRoot}
 
 -- no element
 abbrev pub none : Ext
@@ -48,4 +48,7 @@ reportOf (RootConsistencyCheckFailed expected actual) = elements 17 0 expected a
 reportOf (IncorrectSubroundCount round expected actual) = plain 18 round expected actual
 reportOf (LayerConsistencyCheckFailed round expected actual) = elements 19 round expected actual
 reportOf (InvalidZeroRoundValue actual) = elements 22 0 actual none
+reportOf (LogMismatch place) = plain 24 place 0 0
+reportOf (LogShort place) = plain 25 place 0 0
+reportOf (LogLong place) = plain 26 place 0 0
 reportOf ZeroRoot = plain 27 0 0 0

@@ -96,6 +96,15 @@ pub enum Refusal {
     InvalidZeroRoundValue {
         actual: Ext,
     },
+    LogMismatch {
+        place: usize,
+    },
+    LogShort {
+        place: usize,
+    },
+    LogLong {
+        place: usize,
+    },
     ZeroRoot,
 }
 
@@ -133,6 +142,20 @@ fn element_report(number: u32, first: usize, left: Ext, right: Ext) -> Report
         left,
         right,
     }
+}
+
+// A count that is not the one expected.
+fn counts(number: u32, expected: usize, actual: usize) -> Report
+    ensures { λ r. ⌜ r ≡ plain number expected actual 0 ⌝ }
+{
+    plain_report(number, expected, actual, 0)
+}
+
+// One element or two, without a place.
+fn values(number: u32, left: Ext, right: Ext) -> Report
+    ensures { λ r. ⌜ r ≡ elements number 0 left right ⌝ }
+{
+    element_report(number, 0, left, right)
 }
 
 // The number 0 with what a call is done with: a count and up to two elements.
@@ -173,20 +196,10 @@ pub fn number_and_fields(refusal: Refusal) -> Report
         Refusal::TooManyRounds => plain_report(11, 0, 0, 0),
         Refusal::BadVersion => plain_report(12, 0, 0, 0),
         Refusal::BadLength => plain_report(13, 0, 0, 0),
-        Refusal::IncorrectLayerCount { expected, actual } => plain_report(14, expected, actual, 0),
-        Refusal::IncorrectSumcheckPolyCount { expected, actual } => plain_report(
-            15,
-            expected,
-            actual,
-            0,
-        ),
-        Refusal::ZeroCheckFailed { actual } => element_report(16, 0, actual, Ext::ZERO),
-        Refusal::RootConsistencyCheckFailed { expected, actual } => element_report(
-            17,
-            0,
-            expected,
-            actual,
-        ),
+        Refusal::IncorrectLayerCount { expected, actual } => counts(14, expected, actual),
+        Refusal::IncorrectSumcheckPolyCount { expected, actual } => counts(15, expected, actual),
+        Refusal::ZeroCheckFailed { actual } => values(16, actual, Ext::ZERO),
+        Refusal::RootConsistencyCheckFailed { expected, actual } => values(17, expected, actual),
         Refusal::IncorrectSubroundCount {
             round,
             expected,
@@ -197,7 +210,10 @@ pub fn number_and_fields(refusal: Refusal) -> Report
             expected,
             actual,
         } => element_report(19, round, expected, actual),
-        Refusal::InvalidZeroRoundValue { actual } => element_report(22, 0, actual, Ext::ZERO),
+        Refusal::InvalidZeroRoundValue { actual } => values(22, actual, Ext::ZERO),
+        Refusal::LogMismatch { place } => plain_report(24, place, 0, 0),
+        Refusal::LogShort { place } => plain_report(25, place, 0, 0),
+        Refusal::LogLong { place } => plain_report(26, place, 0, 0),
         Refusal::ZeroRoot => plain_report(27, 0, 0, 0),
     }
 }

@@ -141,6 +141,49 @@ fn print_elements() {
     });
 }
 
+fn print_logs() {
+    command_text::refusals::print_refusal(Refusal::LogMismatch { place: 0 });
+    command_text::refusals::print_refusal(Refusal::LogShort { place: 960 });
+    command_text::refusals::print_refusal(Refusal::LogLong { place: 964 });
+}
+
+fn print_differs(place: usize, sized: bool) {
+    command_text::refusals::print_replayed(Refusal::LogMismatch { place }, sized);
+}
+
+// Each kind of word of a log, at its first and its last place.
+fn print_log_words() {
+    print_differs(0, false);
+    print_differs(3, false);
+    print_differs(4, false);
+    print_differs(19, false);
+    print_differs(20, false);
+    print_differs(23, false);
+    print_differs(24, false);
+    print_differs(28, false);
+    print_differs(36, false);
+    print_differs(40, false);
+    print_differs(44, false);
+    print_differs(59, false);
+    print_differs(60, false);
+    print_differs(64, false);
+    print_differs(80, false);
+    print_differs(84, false);
+    print_differs(959, false);
+}
+
+fn print_sized_words() {
+    print_differs(0, true);
+    print_differs(3, true);
+    print_differs(4, true);
+    print_differs(27, true);
+    print_differs(28, true);
+    print_differs(963, true);
+    command_text::refusals::print_replayed(Refusal::LogShort { place: 17 }, false);
+    command_text::refusals::print_replayed(Refusal::LogShort { place: 17 }, true);
+    command_text::refusals::print_replayed(Refusal::LogLong { place: 28 }, true);
+}
+
 fn main() {
     let mut text = [0u8; 8192];
     let n = io::read_full(0, &mut text);
@@ -152,5 +195,8 @@ fn main() {
     print_counts();
     print_elements();
     command_text::refusals::print_refusal(Refusal::InvalidZeroRoundValue { actual: Ext::ZERO });
+    print_logs();
     command_text::refusals::print_refusal(Refusal::ZeroRoot);
+    print_log_words();
+    print_sized_words();
 }

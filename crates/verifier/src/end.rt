@@ -12,7 +12,7 @@ use verifier_round::Layer;
 use verifier_round::Verdict;
 
 // The first n words of the point found go to the front of the room for it.
-fn copy_point(xi: &[u32], point: &mut [u32], n: usize)
+pub fn copy_point(xi: &[u32], point: &mut [u32], n: usize)
     requires { ⌜ (n ≤ length (now xi)) × (n ≤ length (now point)) ⌝ }
     ensures { λ _. ⌜ now (point .exit) ≡ take n (now (xi .entry)) ++ drop n (now (point .entry)) ⌝ }
 {

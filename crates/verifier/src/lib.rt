@@ -18,7 +18,7 @@ use verifier_round::Advance;
 use verifier_round::Verdict;
 
 mod empty; // no rounds, where that is valid
-mod end; // how a run ends
+pub mod end; // how a run ends
 
 // How a call ends: its verdict, and what it used up.
 pub struct Ending {

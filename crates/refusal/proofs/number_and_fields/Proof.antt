@@ -6,9 +6,11 @@ use Rattle.refusal.proofs.number_and_fields.Statement.{statement}
 use Rattle.refusal.proofs.number_and_fields.Tie as tie
 use Rattle.refusal.proofs.number_and_fields.Reads as reads
 use Rattle.refusal.proofs.number_and_fields.Lts as lts
+use Rattle.refusal.proofs.counts.Reads as counts-reads
 use Rattle.refusal.proofs.element_report.Reads as element-report-reads
 use Rattle.refusal.proofs.list_number.Reads as list-number-reads
 use Rattle.refusal.proofs.plain_report.Reads as plain-report-reads
+use Rattle.refusal.proofs.values.Reads as values-reads
 
 enum-told : tie.Need-enum-told
 enum-told c = search needs
@@ -94,50 +96,68 @@ plain-report-requires-13 c κs = search needs
 enum-known-refusal-3 : tie.Need-enum-known-refusal-3
 enum-known-refusal-3 c = search needs
 
-plain-report-requires-14 : tie.Need-plain-report-requires-14
-plain-report-requires-14 c κs = search needs
+counts-requires : tie.Need-counts-requires
+counts-requires c κs = search needs
 
 enum-known-refusal-4 : tie.Need-enum-known-refusal-4
 enum-known-refusal-4 c = search needs
 
-plain-report-requires-15 : tie.Need-plain-report-requires-15
-plain-report-requires-15 c κs = search needs
+counts-requires-2 : tie.Need-counts-requires-2
+counts-requires-2 c κs = search needs
 
 enum-known-refusal-5 : tie.Need-enum-known-refusal-5
 enum-known-refusal-5 c = search needs
 
-element-report-requires : tie.Need-element-report-requires
-element-report-requires c κs = search needs
+values-requires : tie.Need-values-requires
+values-requires c κs = search needs
 
 enum-known-refusal-6 : tie.Need-enum-known-refusal-6
 enum-known-refusal-6 c = search needs
 
-element-report-requires-2 : tie.Need-element-report-requires-2
-element-report-requires-2 c κs = search needs
+values-requires-2 : tie.Need-values-requires-2
+values-requires-2 c κs = search needs
 
 enum-known-refusal-7 : tie.Need-enum-known-refusal-7
 enum-known-refusal-7 c = search needs
 
-plain-report-requires-16 : tie.Need-plain-report-requires-16
-plain-report-requires-16 c κs = search needs
+plain-report-requires-14 : tie.Need-plain-report-requires-14
+plain-report-requires-14 c κs = search needs
 
 enum-known-refusal-8 : tie.Need-enum-known-refusal-8
 enum-known-refusal-8 c = search needs
 
-element-report-requires-3 : tie.Need-element-report-requires-3
-element-report-requires-3 c κs = search needs
+element-report-requires : tie.Need-element-report-requires
+element-report-requires c κs = search needs
 
 enum-known-refusal-9 : tie.Need-enum-known-refusal-9
 enum-known-refusal-9 c = search needs
 
-element-report-requires-4 : tie.Need-element-report-requires-4
-element-report-requires-4 c κs = search needs
+values-requires-3 : tie.Need-values-requires-3
+values-requires-3 c κs = search needs
+
+enum-known-refusal-10 : tie.Need-enum-known-refusal-10
+enum-known-refusal-10 c = search needs
+
+plain-report-requires-15 : tie.Need-plain-report-requires-15
+plain-report-requires-15 c κs = search needs
+
+enum-known-refusal-11 : tie.Need-enum-known-refusal-11
+enum-known-refusal-11 c = search needs
+
+plain-report-requires-16 : tie.Need-plain-report-requires-16
+plain-report-requires-16 c κs = search needs
+
+enum-known-refusal-12 : tie.Need-enum-known-refusal-12
+enum-known-refusal-12 c = search needs
+
+plain-report-requires-17 : tie.Need-plain-report-requires-17
+plain-report-requires-17 c κs = search needs
 
 enum-told-12 : tie.Need-enum-told-12
 enum-told-12 c = search needs
 
-plain-report-requires-17 : tie.Need-plain-report-requires-17
-plain-report-requires-17 c κs = search needs
+plain-report-requires-18 : tie.Need-plain-report-requires-18
+plain-report-requires-18 c κs = search needs
 
 returns : tie.Need-returns
 returns c = c .plain-report .ensures ∙ sym (ap reportOf (c .before .enum-told .given .1))
@@ -179,28 +199,37 @@ returns-13 : tie.Need-returns-13
 returns-13 c = c .plain-report13 .ensures ∙ sym (ap reportOf (c .before .enum-told11 .given .1))
 
 returns-14 : tie.Need-returns-14
-returns-14 c = c .plain-report14 .ensures ∙ sym (ap reportOf (c .before .before .refusal3 .given .1))
+returns-14 c = c .counts .ensures ∙ sym (ap reportOf (c .before .before .refusal3 .given .1))
 
 returns-15 : tie.Need-returns-15
-returns-15 c = c .plain-report15 .ensures ∙ sym (ap reportOf (c .before .before .refusal4 .given .1))
+returns-15 c = c .counts2 .ensures ∙ sym (ap reportOf (c .before .before .refusal4 .given .1))
 
 returns-16 : tie.Need-returns-16
-returns-16 c = c .element-report .ensures ∙ sym (ap reportOf (c .before .before .refusal5 .given .1))
+returns-16 c = c .values .ensures ∙ sym (ap reportOf (c .before .before .refusal5 .given .1))
 
 returns-17 : tie.Need-returns-17
-returns-17 c = c .element-report2 .ensures ∙ sym (ap reportOf (c .before .before .refusal6 .given .1))
+returns-17 c = c .values2 .ensures ∙ sym (ap reportOf (c .before .before .refusal6 .given .1))
 
 returns-18 : tie.Need-returns-18
-returns-18 c = c .plain-report16 .ensures ∙ sym (ap reportOf (c .before .before .refusal7 .given .1))
+returns-18 c = c .plain-report14 .ensures ∙ sym (ap reportOf (c .before .before .refusal7 .given .1))
 
 returns-19 : tie.Need-returns-19
-returns-19 c = c .element-report3 .ensures ∙ sym (ap reportOf (c .before .before .refusal8 .given .1))
+returns-19 c = c .element-report .ensures ∙ sym (ap reportOf (c .before .before .refusal8 .given .1))
 
 returns-20 : tie.Need-returns-20
-returns-20 c = c .element-report4 .ensures ∙ sym (ap reportOf (c .before .before .refusal9 .given .1))
+returns-20 c = c .values3 .ensures ∙ sym (ap reportOf (c .before .before .refusal9 .given .1))
 
 returns-21 : tie.Need-returns-21
-returns-21 c = c .plain-report17 .ensures ∙ sym (ap reportOf (c .before .enum-told12 .given .1))
+returns-21 c = c .plain-report15 .ensures ∙ sym (ap reportOf (c .before .before .refusal10 .given .1))
+
+returns-22 : tie.Need-returns-22
+returns-22 c = c .plain-report16 .ensures ∙ sym (ap reportOf (c .before .before .refusal11 .given .1))
+
+returns-23 : tie.Need-returns-23
+returns-23 c = c .plain-report17 .ensures ∙ sym (ap reportOf (c .before .before .refusal12 .given .1))
+
+returns-24 : tie.Need-returns-24
+returns-24 c = c .plain-report18 .ensures ∙ sym (ap reportOf (c .before .enum-told12 .given .1))
 
 pub number-and-fields-spec : {M : Type 1} → statement M
 number-and-fields-spec =
@@ -234,39 +263,27 @@ number-and-fields-spec =
     enum-told-11
     plain-report-requires-13
     enum-known-refusal-3
-    plain-report-requires-14
+    counts-requires
     enum-known-refusal-4
-    plain-report-requires-15
+    counts-requires-2
     enum-known-refusal-5
-    element-report-requires
+    values-requires
     enum-known-refusal-6
-    element-report-requires-2
+    values-requires-2
     enum-known-refusal-7
-    plain-report-requires-16
+    plain-report-requires-14
     enum-known-refusal-8
-    element-report-requires-3
+    element-report-requires
     enum-known-refusal-9
-    element-report-requires-4
-    enum-told-12
+    values-requires-3
+    enum-known-refusal-10
+    plain-report-requires-15
+    enum-known-refusal-11
+    plain-report-requires-16
+    enum-known-refusal-12
     plain-report-requires-17
-    returns
-    returns-2
-    returns-3
-    returns-4
-    returns-5
-    returns-6
-    returns-7
-    returns-8
-    returns-9
-    returns-10
-    returns-11
-    returns-12
-    returns-13
-    returns-14
-    returns-15
-    returns-16
-    returns-17
-    returns-18
-    returns-19
-    returns-20
-    returns-21)
+    enum-told-12
+    plain-report-requires-18
+    returns returns-2 returns-3 returns-4 returns-5 returns-6 returns-7 returns-8
+    returns-9 returns-10 returns-11 returns-12 returns-13 returns-14 returns-15 returns-16
+    returns-17 returns-18 returns-19 returns-20 returns-21 returns-22 returns-23 returns-24)

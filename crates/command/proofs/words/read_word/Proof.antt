@@ -25,6 +25,12 @@ slice-aggregate-pick-3 c = search needs
 pick-requires-3 : tie.Need-pick-requires-3
 pick-requires-3 c κs = search needs
 
+slice-aggregate-pick-4 : tie.Need-slice-aggregate-pick-4
+slice-aggregate-pick-4 c = search needs
+
+pick-requires-4 : tie.Need-pick-requires-4
+pick-requires-4 c κs = search needs
+
 returns : tie.Need-returns
 returns c = cc
 
@@ -39,4 +45,6 @@ read-word-spec =
     pick-requires-2
     slice-aggregate-pick-3
     pick-requires-3
+    slice-aggregate-pick-4
+    pick-requires-4
     returns)
