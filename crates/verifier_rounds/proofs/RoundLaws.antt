@@ -35,7 +35,8 @@ use Rattle.verifier_round.specs.declared.Sums.{Sums}
 use Rattle.verifier_round.specs.declared.Opened.{Opened}
 use Rattle.verifier_round.specs.declared.Advance.{Advance}
 use Rattle.verifier_round.specs.declared.Advance.the-variants.{Next, Stopped}
-use Rattle.verifier_round.specs.Values.{decCubic, decClaims, columns, CanonClaims}
+use Rattle.stored.specs.ReadWords.{CanonClaims}
+use Rattle.verifier_round.specs.Values.{decCubic, decClaims, columns}
 use Rattle.verifier_round.specs.Points.{ahead}
 use Rattle.verifier_round.specs.Rounds.{LayerOpened, Came, LayerChecked}
 use Rattle.verifier_round.proofs.Points.{ahead-all}

@@ -23,7 +23,8 @@ use Rattle.gkr.specs.Sumcheck as Sumcheck
 use Rattle.transcript.specs.Log.{Drawing, logOf}
 use Rattle.transcript.proofs.Logs.{then, retold, no-steps}
 use Rattle.verifier_round.specs.declared.Sums.{Sums}
-use Rattle.verifier_round.specs.Values.{decCubic, CanonCubic, CanonSums}
+use Rattle.stored.specs.ReadWords.{CanonCubic}
+use Rattle.verifier_round.specs.Values.{decCubic, CanonSums}
 use Rattle.verifier_round.specs.Points.{ahead}
 use Rattle.verifier_round.specs.Rounds.{told, SubChecked}
 use Rattle.verifier_round.proofs.Points.{ahead-next, grown}
