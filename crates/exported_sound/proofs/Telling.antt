@@ -18,7 +18,7 @@ use Rattle.gkr.specs.Tree as Tree
 use Rattle.transcript.specs.declared.Used.{Used}
 use Rattle.transcript.specs.Used.{unused}
 use Rattle.refusal.specs.declared.Refusal.{Refusal}
-use Rattle.refusal.specs.declared.Refusal.the-variants.{RaggedRows, TooManyRows, NotPowerOfTwo, ShortChallenges, ShortRoom, BadWord, ZeroDenominator, NonZeroRootSum, SingleRow, ZeroRounds, TooManyRounds, BadVersion, BadLength, IncorrectLayerCount, IncorrectSumcheckPolyCount, ZeroCheckFailed, RootConsistencyCheckFailed, IncorrectSubroundCount, LayerConsistencyCheckFailed, InvalidZeroRoundValue, ZeroRoot}
+use Rattle.refusal.specs.declared.Refusal.the-variants.{RaggedRows, TooManyRows, NotPowerOfTwo, ShortChallenges, ShortRoom, BadWord, ZeroDenominator, NonZeroRootSum, SingleRow, ZeroRounds, TooManyRounds, BadVersion, BadLength, IncorrectLayerCount, IncorrectSumcheckPolyCount, ZeroCheckFailed, RootConsistencyCheckFailed, IncorrectSubroundCount, LayerConsistencyCheckFailed, InvalidZeroRoundValue, LogMismatch, LogShort, LogLong, ZeroRoot}
 use Rattle.refusal.specs.Numbers.{elements, reportOf}
 use Rattle.refusal.specs.Tests.{Tested, passed, refused, firstOf}
 use Rattle.sizes.specs.Sizes.{rowCount, roundsOf}
@@ -61,6 +61,9 @@ not-zero (RootConsistencyCheckFailed expected actual) h = omega (arith, h)
 not-zero (IncorrectSubroundCount round expected actual) h = omega (arith, h)
 not-zero (LayerConsistencyCheckFailed round expected actual) h = omega (arith, h)
 not-zero (InvalidZeroRoundValue actual) h = omega (arith, h)
+not-zero (LogMismatch place) h = omega (arith, h)
+not-zero (LogShort place) h = omega (arith, h)
+not-zero (LogLong place) h = omega (arith, h)
 not-zero ZeroRoot h = omega (arith, h)
 
 -- nor has 28
