@@ -14,9 +14,10 @@ use Rattle.refusal.specs.declared.Verifying.{Verifying}
 use Rattle.prover_gate.specs.Refusals.{call}
 use Rattle.prover.specs.Proved.{Buffers}
 use Rattle.verifier.specs.Verified.{Lent, asked}
+use Rattle.log_replay.specs.Replayed.{kept}
 use Rattle.accudrina.specs.Answer.{Told, tells}
 use Rattle.accudrina.specs.Modes.{provingBits, verifyingBits, has, without, untaken, provingOf, verifyingOf, unknownMode}
-use Rattle.accudrina.specs.Calls.{Returned, taking, provingTaken, proving, verifyingTaken, verifying}
+use Rattle.accudrina.specs.Calls.{Returned, taking, provingTaken, proving, verifyingTaken, verifying, replayingTaken, replaying}
 use Rattle.accudrina.proofs.Telling.{returned}
 
 -- a bit that is set is at most the word
@@ -56,3 +57,8 @@ proved-in rows modes ch b e h m r = taken-modes b e h (r ∙ ap (λ m. provingTa
 pub verified-in : {u : ℕ} (proof : List ℕ) (n modes : ℕ) (ch : List ℕ) {m : Verifying} (v : Lent) {answer : Returned Lent} → u ≡ untaken verifyingBits modes → u ≡ 0
     → m ≡ verifyingOf modes → answer ≡ verifyingTaken (asked proof n m ch) v → answer ≡ verifying proof n modes ch v
 verified-in proof n modes ch v e h m r = taken-modes v e h (r ∙ ap (λ m. verifyingTaken (asked proof n m ch) v) m)
+
+-- and a replay's
+pub replayed-in : {u : ℕ} (proof : List ℕ) (n modes : ℕ) (log : List ℕ) {m : Verifying} (point : List ℕ) {answer : Returned (List ℕ)} → u ≡ untaken verifyingBits modes → u ≡ 0
+    → m ≡ verifyingOf modes → answer ≡ replayingTaken (kept proof n m log) point → answer ≡ replaying proof n modes log point
+replayed-in proof n modes log point e h m r = taken-modes point e h (r ∙ ap (λ m. replayingTaken (kept proof n m log) point) m)

@@ -14,6 +14,7 @@ use Rattle.prover.specs.Proved.{Buffers, proved}
 use Rattle.prover.specs.Report.{answerReport}
 use Rattle.verifier_round.specs.Report.{verdictReport}
 use Rattle.verifier.specs.Verified.{Asked, Lent, asked, verified}
+use Rattle.log_replay.specs.Replayed.{Kept, kept, replayed}
 use Rattle.accudrina.specs.Answer.{Told, tells}
 use Rattle.accudrina.specs.Modes.{provingBits, verifyingBits, untaken, provingOf, verifyingOf, unknownMode}
 
@@ -45,6 +46,14 @@ verifyingTaken a v = record { told = tells (verdictReport (verified a v .answer)
 -- of a proof's bytes, rounds, a word of modes and challenges
 abbrev pub verifying : (proof : List ℕ) (rounds modes : ℕ) (challenges : List ℕ) → Lent → Returned Lent
 verifying proof rounds modes challenges v = taking (untaken verifyingBits modes) v (verifyingTaken (asked proof rounds (verifyingOf modes) challenges) v)
+
+-- of a call of a replay, and the buffer for the point
+abbrev pub replayingTaken : Kept → (point : List ℕ) → Returned (List ℕ)
+replayingTaken k point = record { told = tells (verdictReport (replayed k point .answer)) (replayed k point .used); buffers = replayed k point .point }
+
+-- of a proof's bytes, rounds, a word of modes and a log, with the verifier's bits
+abbrev pub replaying : (proof : List ℕ) (rounds modes : ℕ) (log point : List ℕ) → Returned (List ℕ)
+replaying proof rounds modes log point = taking (untaken verifyingBits modes) point (replayingTaken (kept proof rounds (verifyingOf modes) log) point)
 
 -- of rows and a point; no buffer is lent
 abbrev pub evaluating : (rows point : List ℕ) → Told

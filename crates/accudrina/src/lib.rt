@@ -3,10 +3,11 @@ ghost use mathlib.Core.Path.{_≡_};
 ghost use Rattle.prover_gate.specs.Refusals.{call};
 ghost use Rattle.prover.specs.Proved.{lent};
 ghost use Rattle.verifier.specs.Verified.{asked, lent as again};
+ghost use Rattle.log_replay.specs.Replayed.{kept};
 ghost use Rattle.transcript.specs.Used.{unused};
 ghost use Rattle.accudrina.specs.Answer.{tells};
 ghost use Rattle.accudrina.specs.Modes.{unknownMode};
-ghost use Rattle.accudrina.specs.Calls.{reading, proving, provingTaken, verifying, verifyingTaken, evaluating};
+ghost use Rattle.accudrina.specs.Calls.{reading, proving, provingTaken, verifying, verifyingTaken, replaying, replayingTaken, evaluating};
 use refusal::Proving;
 use refusal::Verifying;
 
@@ -123,6 +124,47 @@ pub extern "C" fn accudrina_verify(
     }
     let verifying = modes::verifying(modes);
     verify_taken(proof, rounds, verifying, challenges, point, log, answer)
+}
+
+// What a replay of a proof from a log says, in modes that are taken.
+fn replay_taken(
+    proof: &[u8],
+    rounds: usize,
+    modes: Verifying,
+    log: &[u32],
+    point: &mut [u32],
+    answer: &mut [u32; 16],
+) -> u32
+    ensures { λ r. ⌜ record { told = record { number = r; words = now (answer .exit) }; buffers = now (point .exit) }
+        ≡ replayingTaken (kept (now (proof .entry)) rounds modes (now (log .entry))) (now (point .entry)) ⌝ }
+{
+    let replayed = log_replay::replay(proof, rounds, modes, log, point);
+    let verdict = replayed.verdict;
+    let report = verifier_round::number_and_values(verdict);
+    let used = replayed.used;
+    answer::tell(report, used, answer)
+}
+
+// The verdict of a proof from a stored log alone, which is only read: as the verifier's on the log's challenges, or the place where the log is not the one that it leaves;
+// first of all 28, the bits of the modes that are not taken.
+#[no_mangle]
+pub extern "C" fn accudrina_replay(
+    proof: &[u8],
+    rounds: usize,
+    modes: u32,
+    log: &[u32],
+    point: &mut [u32],
+    answer: &mut [u32; 16],
+) -> u32
+    ensures { λ r. ⌜ record { told = record { number = r; words = now (answer .exit) }; buffers = now (point .exit) }
+        ≡ replaying (now (proof .entry)) rounds modes (now (log .entry)) (now (point .entry)) ⌝ }
+{
+    let spare = modes::untaken_by_verifier(modes);
+    if spare != 0 {
+        return refuse_modes(spare, answer);
+    }
+    let verifying = modes::verifying(modes);
+    replay_taken(proof, rounds, verifying, log, point, answer)
 }
 
 // The values of both columns of a sheet at a point: the number 0, the rounds and both values, or the refusal; it only reads.
