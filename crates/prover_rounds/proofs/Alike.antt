@@ -10,7 +10,7 @@ use Rattle.transcript.specs.declared.Pos.{Pos}
 use Rattle.transcript.specs.Source.{source}
 use Rattle.prover_layer.specs.declared.Turn.{Turn}
 use Rattle.prover_rounds.specs.SubRounds.{SubSent, SubRounds}
-use Rattle.prover_rounds.specs.Layers.{LayerSent, OneLayer, AllLayers}
+use Rattle.prover_rounds.specs.Layers.{RoundClosed, OneLayer, AllLayers}
 
 module _ (ch : List ℕ) {u v : Bool} (e : u ≡ v) where
   pub sub-round-alike : {ws ws' pt pt' lg lg' ls ls' : List ℕ} {at b half i : ℕ} {t : Turn} {pos pos' : Pos} → SubSent ws ws' pt pt' lg lg' ls ls' (source u ch) at b half i t pos pos'
@@ -23,8 +23,8 @@ module _ (ch : List ℕ) {u v : Bool} (e : u ≡ v) where
   sub-rounds-alike {ws} {ws'} {pt} {pt'} {lg} {lg'} {ls} {ls'} {at} {b} {k} {size} {l} {t} {pos} {pos'} h =
       subst (λ (d : Bool). SubRounds ws ws' pt pt' lg lg' ls ls' (source d ch) at b k size l t pos pos') e h
 
-  pub closed-alike : {ws pt pt' lg lg' ls ls' : List ℕ} {b : ℕ} {pos pos' : Pos} → LayerSent ws pt pt' lg lg' ls ls' (source u ch) b pos pos' → LayerSent ws pt pt' lg lg' ls ls' (source v ch) b pos pos'
-  closed-alike {ws} {pt} {pt'} {lg} {lg'} {ls} {ls'} {b} {pos} {pos'} h = subst (λ (d : Bool). LayerSent ws pt pt' lg lg' ls ls' (source d ch) b pos pos') e h
+  pub closed-alike : {ws pt pt' lg lg' ls ls' : List ℕ} {b : ℕ} {pos pos' : Pos} → RoundClosed ws pt pt' lg lg' ls ls' (source u ch) b pos pos' → RoundClosed ws pt pt' lg lg' ls ls' (source v ch) b pos pos'
+  closed-alike {ws} {pt} {pt'} {lg} {lg'} {ls} {ls'} {b} {pos} {pos'} h = subst (λ (d : Bool). RoundClosed ws pt pt' lg lg' ls ls' (source d ch) b pos pos') e h
 
   pub one-layer-alike : {ws ws' pt pt' lg lg' ls ls' : List ℕ} {at k size : ℕ} {pos pos' : Pos} → OneLayer ws ws' pt pt' lg lg' ls ls' (source u ch) at k size pos pos'
       → OneLayer ws ws' pt pt' lg lg' ls ls' (source v ch) at k size pos pos'

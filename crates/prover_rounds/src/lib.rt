@@ -13,7 +13,7 @@ ghost use Rattle.step.specs.Values.{CanonFrac, decFrac, CanonThree};
 ghost use Rattle.prover_tree.specs.Nodes.{node};
 ghost use Rattle.prover_layer.specs.Message.{CanonTurn, IsTurn};
 ghost use Rattle.prover_rounds.specs.SubRounds.{observedThree, SubSent, SubRounds};
-ghost use Rattle.prover_rounds.specs.Layers.{observedFrac, LayerSent, OneLayer, Levels, logUpTo, usedUpTo, AllLayers};
+ghost use Rattle.prover_rounds.specs.Layers.{observedFrac, RoundClosed, OneLayer, Levels, logUpTo, usedUpTo, AllLayers};
 use field::Ext;
 use prover_layer::Turn;
 use step::Frac;
@@ -188,7 +188,7 @@ pub fn close_round(
 ) -> Pos
     requires room { ⌜ (8 * pq + 15 < length (now work)) × (4 ≤ length (now xi)) × (pos .put + 20 ≤ length (now log)) × Enough (now log) (now lanes) (now challenges) pos 1 ⌝ }
     requires clean { ⌜ Clean (now work) × Clean (now xi) ⌝ }
-    ensures { λ r. ⌜ LayerSent (now (work .entry)) (now (xi .entry)) (now (xi .exit)) (now (log .entry)) (now (log .exit)) (now (lanes .entry)) (now (lanes .exit))
+    ensures { λ r. ⌜ RoundClosed (now (work .entry)) (now (xi .entry)) (now (xi .exit)) (now (log .entry)) (now (log .exit)) (now (lanes .entry)) (now (lanes .exit))
         (source (pos .drawn) (now (challenges .entry))) pq pos r ⌝ }
 {
     let p = observe_fraction(log, pos, prover_tree::load_node(work, pq));
