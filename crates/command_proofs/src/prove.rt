@@ -50,8 +50,9 @@ fn prove_with(
         &mut log,
         &mut work,
     );
+    let answer = proved.answer;
     let words = proved.used.words;
-    match proved.answer {
+    match answer {
         Answer::Done { rounds, sum } => {
             if keep_proof(path, &proof, rows.len() / 8, rounds, sum) {
                 keep_log(log_path, &log, words);

@@ -11,8 +11,9 @@ use verifier_round::Verdict;
 fn replay_with(proof: &[u8], rounds: usize, modes: Verifying, log: &[u32]) {
     let mut point = [0u32; 40];
     let replayed = log_replay::replay(proof, rounds, modes, log, &mut point);
+    let verdict = replayed.verdict;
     let used = replayed.used;
-    match replayed.verdict {
+    match verdict {
         Verdict::Accepted { numer, denom } => print_good(
             proof,
             rounds,

@@ -23,9 +23,10 @@ fn verify_with(
     let mut point = [0u32; 40];
     let mut log = [0u32; 964];
     let verified = verifier::verify_gkr(proof, rounds, modes, challenges, &mut point, &mut log);
+    let verdict = verified.verdict;
     let used = verified.used;
     keep_log(log_path, &log, used.words);
-    match verified.verdict {
+    match verdict {
         Verdict::Accepted { numer, denom } => {
             let stated = Frac { p: numer, q: denom };
             print_good(proof, rounds, stated, &point, used, counted);
