@@ -1,7 +1,5 @@
 -- `command::options::is_nameless` meets its contract.
 -- Assumes nothing.
-use mathlib.Core.Path.{refl}
-use Rattle.command.proofs.Folding.{both-are}
 use borrow.Author.Needs.{needs}
 use Rattle.command.proofs.options.is_nameless.Statement.{statement}
 use Rattle.command.proofs.options.is_nameless.Tie as tie
@@ -13,7 +11,7 @@ both-requires-2 : tie.Need-both-requires-2
 both-requires-2 c κs = search needs
 
 returns : tie.Need-returns
-returns c = both-are _ _ _ _ _ (c .both2 .ensures) refl (c .before .both .ensures)
+returns c = cc
 
 pub is-nameless-spec : {M : Type 1} → statement M
 is-nameless-spec = tie.close (tie.spec both-requires both-requires-2 returns)
