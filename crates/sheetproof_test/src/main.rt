@@ -153,32 +153,32 @@ fn print_differs(place: usize, sized: bool) {
 
 // Each kind of word of a log, at its first and its last place.
 fn print_log_words() {
-    let places = [
-        0usize,
-        3usize,
-        4usize,
-        19usize,
-        20usize,
-        23usize,
-        24usize,
-        28usize,
-        36usize,
-        40usize,
-        44usize,
-        59usize,
-        60usize,
-        64usize,
-        80usize,
-        84usize,
-        959usize,
-    ];
-    for i in 0..places.len() {
-        print_differs(places[i], false);
-    }
-    let sized = [0usize, 3usize, 4usize, 27usize, 28usize, 963usize];
-    for i in 0..sized.len() {
-        print_differs(sized[i], true);
-    }
+    print_differs(0, false);
+    print_differs(3, false);
+    print_differs(4, false);
+    print_differs(19, false);
+    print_differs(20, false);
+    print_differs(23, false);
+    print_differs(24, false);
+    print_differs(28, false);
+    print_differs(36, false);
+    print_differs(40, false);
+    print_differs(44, false);
+    print_differs(59, false);
+    print_differs(60, false);
+    print_differs(64, false);
+    print_differs(80, false);
+    print_differs(84, false);
+    print_differs(959, false);
+}
+
+fn print_sized_words() {
+    print_differs(0, true);
+    print_differs(3, true);
+    print_differs(4, true);
+    print_differs(27, true);
+    print_differs(28, true);
+    print_differs(963, true);
     command_text::refusals::print_replayed(Refusal::LogShort { place: 17 }, false);
     command_text::refusals::print_replayed(Refusal::LogShort { place: 17 }, true);
     command_text::refusals::print_replayed(Refusal::LogLong { place: 28 }, true);
@@ -198,4 +198,5 @@ fn main() {
     print_logs();
     command_text::refusals::print_refusal(Refusal::ZeroRoot);
     print_log_words();
+    print_sized_words();
 }
