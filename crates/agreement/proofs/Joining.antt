@@ -31,7 +31,7 @@ use Rattle.verifier.specs.Verified.{Lent}
 use Rattle.verifier.specs.declared.Ending.{Ending}
 use Rattle.agreement.specs.declared.Joint.the-variants.{Proved, Refused}
 use Rattle.agreement.specs.Demand3.{Taken, root, Room, verdict, Agreed}
-use Rattle.agreement.specs.Together.{Joined, follow, ended, together, joined, Agrees}
+use Rattle.agreement.specs.Together.{Joined, follow, through, together, joined, Agrees}
 use Rattle.sizes.specs.SizeLaws.{few-rounds}
 use Rattle.agreement.proofs.Agreeing.{demand-3}
 
@@ -94,7 +94,7 @@ module _ (c : Call) (how : Verifying) (b : Buffers) (v : Lent) where
       → size ≡ proof-bytes n → Verifier.outcome (w .verdict) (w .used) pt lg ≡ Verifier.verified (Verifier.asked (take size (pb .proof)) n how (c .challenges)) v → joined (Proved n s u w) pb (Verifier.lent pt lg) ≡ together c how b v
   unfolding together
   joined-proved {n} {s} {pb} {r} {u} h d k q =
-      ap (ended (record { answer = Done n s; used = u; buffers = pb })) (q ∙ ap (λ (j : ℕ). Verifier.verified (Verifier.asked (take j (pb .proof)) n how (c .challenges)) v) k)
+      ap (through (record { answer = Done n s; used = u; buffers = pb })) (q ∙ ap (λ (j : ℕ). Verifier.verified (Verifier.asked (take j (pb .proof)) n how (c .challenges)) v) k)
       ∙ ap (λ a. follow c how v (record { answer = a; used = u; buffers = pb }) a) (sym d)
       ∙ ap (λ o. follow c how v o (o .answer)) h
 

@@ -13,7 +13,7 @@ use Rattle.verifier.specs.declared.Ending.{Ending}
 use Rattle.agreement.specs.declared.Joint.{Joint}
 use Rattle.agreement.specs.declared.Joint.the-variants.{Proved, Refused}
 use Rattle.verifier.specs.Verified.{Lent}
-use Rattle.agreement.specs.Together.{Joined, stopped, ended, together, joined}
+use Rattle.agreement.specs.Together.{Joined, stopped, through, together, joined}
 
 -- an answer, and the buffers of both after it
 pub record Outcome : Type 0 where
@@ -32,7 +32,7 @@ endedBy (Denied e) u w = Refused e
 
 abbrev readOff : Joined → Outcome
 readOff (stopped P v) = record { answer = stoppedBy (P .answer); buffers = P .buffers; again = v }
-readOff (ended P Q) = record { answer = endedBy (P .answer) (P .used) (record { verdict = Q .answer; used = Q .used }); buffers = P .buffers; again = Q .buffers }
+readOff (through P Q) = record { answer = endedBy (P .answer) (P .used) (record { verdict = Q .answer; used = Q .used }); buffers = P .buffers; again = Q .buffers }
 
 read-off : (a : Joint) (b : Prover.Buffers) (v : Lent) → readOff (joined a b v) ≡ record { answer = a; buffers = b; again = v }
 read-off (Proved n s u w) b v = refl

@@ -39,7 +39,7 @@ fn print_nodes(work: &[u32], from: usize, to: usize) {
 
 // The level that begins at a node, of the tree over so many rows.
 fn print_sums(work: &[u32], size: usize, first: usize)
-    requires { ⌜ (1 ≤ first) × (first ≤ 1024) ⌝ }
+    requires { ⌜ (1 ≤ first) × (first ≤ maxRows) ⌝ }
 {
     print(b"sums of ");
     print_count(size / first);

@@ -65,7 +65,7 @@ module _ (K : CommRing) where
       (ap node (TableLaws.even-top d i) ∙ heap n f node leaf inner h (suc d) (omega arith) (even i) (omega arith))
       (ap node (TableLaws.odd-top d i) ∙ heap n f node leaf inner h (suc d) (omega arith) (odd i) (omega arith))
 
-  -- TWO FACTS OF A LAYER g, on which the honest run rests, and a soundness theorem would, with RoundSumLaws.claim-last
+  -- TWO FACTS OF A LAYER g, on which the honest run rests, and soundness, with RoundSumLaws.claim-last
 
   -- the batched claim on the layer above is what the sumcheck sums over g
   pub claim-total : (g : ℕ → Frac R) (lambda : R) (xi : List R) → let v = value (λ y. compute-recursive-relations (children g y)) xi in

@@ -7,7 +7,7 @@ ghost use Rattle.keccak.specs.Values.{values};
 ghost use Rattle.keccak.specs.Keccak.{rot, spread, theta, rho, pi, chi, addFirst, keccak};
 ghost use Rattle.keccak.specs.State.{asList};
 
-// A state: the standard's lane (x, y) is lane 5y + x. A struct, since an array could not stand in an enum.
+// A state: the standard's lane (x, y) is lane 5y + x.
 pub struct Lanes {
     pub a0: u64,
     pub a1: u64,

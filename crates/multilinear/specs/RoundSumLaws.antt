@@ -96,7 +96,7 @@ module _ (F : Field) where
       (ap (λ v. v - f one) (hc ∙ s-splits k lambda eq pq) ∙ Identities.cancel K (f nil) (f one))
       ∙ s-through k lambda eq pq rho
 
-  -- after the last sub-round the claim is the cross term of the last claims, times eq (for the honest run, and for a soundness theorem, with claim-total and reduce-value of the fraction tree)
+  -- after the last sub-round the claim is the cross term of the last claims, times eq (for the honest run and for soundness, with claim-total and reduce-value of the fraction tree)
   pub claim-last : (lambda : R) (eq : ℕ → R) (pq : ℕ → Claims R) (a : R) → eq ≡ (λ y. a * weight [] y) → total 0 lambda eq pq ≡ cross lambda (pq 0) * a
   unfolding RoundSum.total Table.sum Table.weight
   claim-last lambda eq pq a h = ap (λ t. nil + t 0 * cross lambda (pq 0)) h ∙ Identities.last K a (cross lambda (pq 0))

@@ -9,22 +9,22 @@ use Rattle.gkr.specs.Run.{Frac}
 use Rattle.transcript.specs.declared.Pos.{Pos}
 use Rattle.transcript.specs.Source.{source}
 use Rattle.prover_layer.specs.declared.Turn.{Turn}
-use Rattle.prover_rounds.specs.SubRounds.{SubRound, SubRounds}
-use Rattle.prover_rounds.specs.Layers.{Closed, OneLayer, AllLayers}
+use Rattle.prover_rounds.specs.SubRounds.{SubSent, SubRounds}
+use Rattle.prover_rounds.specs.Layers.{RoundClosed, OneLayer, AllLayers}
 
 module _ (ch : List ℕ) {u v : Bool} (e : u ≡ v) where
-  pub sub-round-alike : {ws ws' pt pt' lg lg' ls ls' : List ℕ} {at b half i : ℕ} {t : Turn} {pos pos' : Pos} → SubRound ws ws' pt pt' lg lg' ls ls' (source u ch) at b half i t pos pos'
-      → SubRound ws ws' pt pt' lg lg' ls ls' (source v ch) at b half i t pos pos'
+  pub sub-round-alike : {ws ws' pt pt' lg lg' ls ls' : List ℕ} {at b half i : ℕ} {t : Turn} {pos pos' : Pos} → SubSent ws ws' pt pt' lg lg' ls ls' (source u ch) at b half i t pos pos'
+      → SubSent ws ws' pt pt' lg lg' ls ls' (source v ch) at b half i t pos pos'
   sub-round-alike {ws} {ws'} {pt} {pt'} {lg} {lg'} {ls} {ls'} {at} {b} {half} {i} {t} {pos} {pos'} h =
-      subst (λ (d : Bool). SubRound ws ws' pt pt' lg lg' ls ls' (source d ch) at b half i t pos pos') e h
+      subst (λ (d : Bool). SubSent ws ws' pt pt' lg lg' ls ls' (source d ch) at b half i t pos pos') e h
 
   pub sub-rounds-alike : {ws ws' pt pt' lg lg' ls ls' : List ℕ} {at b k size : ℕ} {l : E.Ext} {t : Turn} {pos pos' : Pos} → SubRounds ws ws' pt pt' lg lg' ls ls' (source u ch) at b k size l t pos pos'
       → SubRounds ws ws' pt pt' lg lg' ls ls' (source v ch) at b k size l t pos pos'
   sub-rounds-alike {ws} {ws'} {pt} {pt'} {lg} {lg'} {ls} {ls'} {at} {b} {k} {size} {l} {t} {pos} {pos'} h =
       subst (λ (d : Bool). SubRounds ws ws' pt pt' lg lg' ls ls' (source d ch) at b k size l t pos pos') e h
 
-  pub closed-alike : {ws pt pt' lg lg' ls ls' : List ℕ} {b : ℕ} {pos pos' : Pos} → Closed ws pt pt' lg lg' ls ls' (source u ch) b pos pos' → Closed ws pt pt' lg lg' ls ls' (source v ch) b pos pos'
-  closed-alike {ws} {pt} {pt'} {lg} {lg'} {ls} {ls'} {b} {pos} {pos'} h = subst (λ (d : Bool). Closed ws pt pt' lg lg' ls ls' (source d ch) b pos pos') e h
+  pub closed-alike : {ws pt pt' lg lg' ls ls' : List ℕ} {b : ℕ} {pos pos' : Pos} → RoundClosed ws pt pt' lg lg' ls ls' (source u ch) b pos pos' → RoundClosed ws pt pt' lg lg' ls ls' (source v ch) b pos pos'
+  closed-alike {ws} {pt} {pt'} {lg} {lg'} {ls} {ls'} {b} {pos} {pos'} h = subst (λ (d : Bool). RoundClosed ws pt pt' lg lg' ls ls' (source d ch) b pos pos') e h
 
   pub one-layer-alike : {ws ws' pt pt' lg lg' ls ls' : List ℕ} {at k size : ℕ} {pos pos' : Pos} → OneLayer ws ws' pt pt' lg lg' ls ls' (source u ch) at k size pos pos'
       → OneLayer ws ws' pt pt' lg lg' ls ls' (source v ch) at k size pos pos'

@@ -43,7 +43,7 @@ use Rattle.prover_layer.proofs.Entries.{claims-kept}
 use Rattle.prover_layer.proofs.Agree.{send-same}
 use Rattle.prover_rounds.specs.SubRounds.{sends, SubRounds}
 use Rattle.prover_rounds.proofs.Opening.{facing}
-use Rattle.prover_rounds.specs.Layers.{observedFrac, observedClaims, Closed, layerSends, layerTold, Opened, OneLayer, Levels, logUpTo, usedUpTo, runs, Running, AllLayers, Midway}
+use Rattle.prover_rounds.specs.Layers.{observedFrac, observedClaims, RoundClosed, layerSends, layerTold, Opened, OneLayer, Levels, logUpTo, usedUpTo, runs, Running, AllLayers, Midway}
 
 abbrev obs : E.Ext → Words → Words
 obs x t = Observing .observe x t
@@ -56,7 +56,7 @@ node-observed l l₁ l₂ p p₁ p₂ f a b =
 pub layer-closed : (ws pt pt' lg lg₁ lg₂ lg₃ : List ℕ) {ls ls₁ ls₂ ls₃ : List ℕ} (ch : Source E.Ext) (b : ℕ) (pos p q : Pos) (d : Drawn) (fa fb : FracW) → IsFrac fa (node ws b) → IsFrac fb (node ws (b + 1))
     → Steps lg lg₁ ls ls₁ pos p 8 0 (observedFrac (decFrac fa) (logOf lg pos)) → Steps lg₁ lg₂ ls₁ ls₂ p q 8 0 (observedFrac (decFrac fb) (logOf lg₁ p))
     → Steps lg₂ lg₃ ls₂ ls₃ q (d .pos) 4 1 (Drawing ch .drawn (logOf lg₂ q)) → Is (d .x) (ch (logOf lg₂ q)) → Stored pt pt' 0 (dec (d .x))
-    → Closed ws pt pt' lg lg₃ ls ls₃ ch b pos (d .pos)
+    → RoundClosed ws pt pt' lg lg₃ ls ls₃ ch b pos (d .pos)
 layer-closed ws pt pt' lg lg₁ lg₂ lg₃ ch b pos p q d fa fb ha hb s₁ s₂ s₃ v st =
     let e : logOf lg₂ q ≡ observedClaims (claims ws b 0) (logOf lg pos) =
     s₂ .log ∙ ap₂ observedFrac (frac-path hb) (s₁ .log ∙ ap (λ f. observedFrac f (logOf lg pos)) (frac-path ha ∙ ap (node ws) (sym (add-zero b)))) in
@@ -70,7 +70,7 @@ pub one-layer : (ws ws₁ ws₂ pt pt₁ pt₂ lg lg₁ lg₂ lg₃ : List ℕ) 
     → IsTurn t E.one (cell pt 0) (E.add (E.mul (node ws size .q) (dec (d .x))) (node ws size .p)) (E.add (E.mul (node ws (size + 1) .q) (dec (d .x))) (node ws (size + 1) .p))
     → Heaped ws ws₁ pt at k k
     → SubRounds ws₁ ws₂ pt pt₁ lg₁ lg₂ ls₁ ls₂ ch at (2 * size) k size (dec (d .x)) t (d .pos) p
-    → Closed ws₂ pt₁ pt₂ lg₂ lg₃ ls₂ ls₃ ch (2 * size) p pos'
+    → RoundClosed ws₂ pt₁ pt₂ lg₂ lg₃ ls₂ ls₃ ch (2 * size) p pos'
     → OneLayer ws ws₂ pt pt₂ lg lg₃ ls ls₃ ch at k size pos pos'
 one-layer ws ws₁ ws₂ pt pt₁ pt₂ lg lg₁ lg₂ lg₃ ch at k size pos p pos' d t e o u s₁ v T f L C =
     let b = 2 * size in

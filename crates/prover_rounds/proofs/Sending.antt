@@ -34,7 +34,7 @@ use Rattle.prover_layer.specs.Message.{CanonTurn, IsTurn, said}
 use Rattle.prover_layer.specs.Passes.{sideSum, lead, Risen, Folded}
 use Rattle.prover_layer.proofs.Passing.{fold-is}
 use Rattle.prover_layer.proofs.Agree.{send-same}
-use Rattle.prover_rounds.specs.SubRounds.{observedThree, spoken, told, SubRound, sends, eqFrom, faced, Facing, Told, Going, Sent, SubRounds}
+use Rattle.prover_rounds.specs.SubRounds.{observedThree, spoken, told, SubSent, sends, eqFrom, faced, Facing, Told, Going, Sent, SubRounds}
 use Rattle.prover_rounds.proofs.Speaking.{said-true}
 
 abbrev obs : E.Ext → Words → Words
@@ -51,7 +51,7 @@ three-observed l l₁ l₂ l₃ p p₁ p₂ p₃ m a b c =
 pub sub-done : (ws ws₁ ws₂ pt pt' lg lg₁ lg₂ : List ℕ) {ls ls₁ ls₂ : List ℕ} (ch : Source E.Ext) (at b half i : ℕ) (t : Turn) (pos p : Pos) (d : Drawn) (m : Three)
     → IsThree m (said t (lead ws at b half) E.one) (said t (lead ws at b half) two) (said t (lead ws at b half) three) → Risen ws ws₁ b half
     → Steps lg lg₁ ls ls₁ pos p 12 0 (observedThree m (logOf lg pos)) → Steps lg₁ lg₂ ls₁ ls₂ p (d .pos) 4 1 (Drawing ch .drawn (logOf lg₁ p)) → Is (d .x) (ch (logOf lg₁ p))
-    → Stored pt pt' i (dec (d .x)) → Folded ws₁ ws₂ b half (dec (d .x)) → SubRound ws ws₂ pt pt' lg lg₂ ls ls₂ ch at b half i t pos (d .pos)
+    → Stored pt pt' i (dec (d .x)) → Folded ws₁ ws₂ b half (dec (d .x)) → SubSent ws ws₂ pt pt' lg lg₂ ls ls₂ ch at b half i t pos (d .pos)
 sub-done ws ws₁ ws₂ pt pt' lg lg₁ lg₂ ch at b half i t pos p d m v h a c x s f =
     let M : _≡_ {A = Cubic E.Ext} (record { at1 = dec (m .s1); at2 = dec (m .s2); at3 = dec (m .s3) }) (spoken ws at b half t) =
     (λ i. record { at1 = v .s1 .value i; at2 = v .s2 .value i; at3 = v .s3 .value i }) in
@@ -98,7 +98,7 @@ going-none ws pt lg ch at b m k half size t pos e eh h q n = record {
 module _ (ws₀ ws ws' pt₀ pt pt' lg₀ lg lg' : List ℕ) {ls₀ ls ls' : List ℕ} (ch : Source E.Ext) (at b j m k half half' size : ℕ) (t₀ t t' : Turn) (old rho : Ext) (pos₀ pos pos' : Pos)
     (ek : j + suc m ≡ k) (eh : half ≡ 2 ^ m) (room : 2 * b + 4 * size ≤ at) (fits : 2 * half ≤ size)
     (g : Going ws₀ ws pt₀ pt lg₀ lg ls₀ ls ch at b j (suc m) k half size t₀ t pos₀ pos)
-    (s : SubRound ws ws' pt pt' lg lg' ls ls' ch (at + half) b half (j + 1) t pos pos')
+    (s : SubSent ws ws' pt pt' lg lg' ls ls' ch (at + half) b half (j + 1) t pos pos')
     (o : Is old (cell pt (j + 1))) (r : Is rho (cell pt' (j + 1)))
     (n : IsTurn t' (E.mul (dec (t .c)) (Forms.agree ExtRing (dec (t .x)) (dec rho))) (dec old) (sideSum ws' (at + half') b 0 half') (sideSum ws' (at + half') b 1 half')) where
   told-next : Facing ws₀ pt₀ at b k (size / 2) E.nil t₀ → Told ws₀ ws' pt₀ pt' lg₀ lg' ch at b (j + 1) m k half' t' pos₀ pos'

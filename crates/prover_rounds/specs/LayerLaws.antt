@@ -11,9 +11,9 @@ use Rattle.gkr.specs.Run.{Frac}
 use Rattle.gkr.specs.Transcripts.{Source}
 use Rattle.transcript.specs.declared.Pos.{Pos}
 use Rattle.transcript.specs.LogLaws.{SamePos, log-unique, steps-unique}
-use Rattle.prover_rounds.specs.Layers.{Closed, AllLayers}
+use Rattle.prover_rounds.specs.Layers.{RoundClosed, AllLayers}
 
-pub closed-unique : {ws pt pt' pt″ lg lg' lg″ ls ls' ls″ : List ℕ} {ch : Source E.Ext} {b : ℕ} {pos r s : Pos} → Closed ws pt pt' lg lg' ls ls' ch b pos r → Closed ws pt pt″ lg lg″ ls ls″ ch b pos s → SamePos r s × (pt' ≡ pt″) × (lg' ≡ lg″)
+pub closed-unique : {ws pt pt' pt″ lg lg' lg″ ls ls' ls″ : List ℕ} {ch : Source E.Ext} {b : ℕ} {pos r s : Pos} → RoundClosed ws pt pt' lg lg' ls ls' ch b pos r → RoundClosed ws pt pt″ lg lg″ ls ls″ ch b pos s → SamePos r s × (pt' ≡ pt″) × (lg' ≡ lg″)
 closed-unique h k = let e = steps-unique (h .steps) (k .steps) in (e .0, stored-unique (h .stored) (k .stored), e .1)
 
 -- all layers over the rows f: where the run stands, the point and the log

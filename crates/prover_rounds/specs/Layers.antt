@@ -29,7 +29,7 @@ abbrev pub observedClaims : Claims E.Ext → Words → Words
 observedClaims c t = Gkr.observe-layer-claims Extension Observing c t
 
 -- the end of a layer: the claims in the log, the challenge in the log and in cell 0 of the point
-pub record Closed (ws pt pt' lg lg' ls ls' : List ℕ) (ch : Source E.Ext) (b : ℕ) (pos pos' : Pos) : Type 0 where
+pub record RoundClosed (ws pt pt' lg lg' ls ls' : List ℕ) (ch : Source E.Ext) (b : ℕ) (pos pos' : Pos) : Type 0 where
   pub steps : Steps lg lg' ls ls' pos pos' 20 1 (Drawing ch .drawn (observedClaims (claims ws b 0) (logOf lg pos)))
   pub stored : Stored pt pt' 0 (ch (observedClaims (claims ws b 0) (logOf lg pos)))
 

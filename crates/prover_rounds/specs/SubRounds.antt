@@ -35,7 +35,7 @@ abbrev pub told : (ws lg : List ℕ) (ch : Source E.Ext) (at b half : ℕ) (t : 
 told ws lg ch at b half t pos = Sumcheck.observe-cubic Extension (Drawing ch) (spoken ws at b half t) (logOf lg pos)
 
 -- the message is in the log, rho in the log and in cell i of the point, and the claims are folded at rho
-pub record SubRound (ws ws' pt pt' lg lg' ls ls' : List ℕ) (ch : Source E.Ext) (at b half i : ℕ) (t : Turn) (pos pos' : Pos) : Type 0 where
+pub record SubSent (ws ws' pt pt' lg lg' ls ls' : List ℕ) (ch : Source E.Ext) (at b half i : ℕ) (t : Turn) (pos pos' : Pos) : Type 0 where
   pub steps : Steps lg lg' ls ls' pos pos' 16 1 (Drawing ch .drawn (told ws lg ch at b half t pos))
   pub stored : Stored pt pt' i (ch (told ws lg ch at b half t pos))
   pub clean : Clean ws'

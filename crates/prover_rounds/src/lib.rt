@@ -12,8 +12,8 @@ ghost use Rattle.transcript.specs.Log.{Enough, logOf, Steps};
 ghost use Rattle.step.specs.Values.{CanonFrac, decFrac, CanonThree};
 ghost use Rattle.prover_tree.specs.Nodes.{node};
 ghost use Rattle.prover_layer.specs.Message.{CanonTurn, IsTurn};
-ghost use Rattle.prover_rounds.specs.SubRounds.{observedThree, SubRound, SubRounds};
-ghost use Rattle.prover_rounds.specs.Layers.{observedFrac, Closed, OneLayer, Levels, logUpTo, usedUpTo, AllLayers};
+ghost use Rattle.prover_rounds.specs.SubRounds.{observedThree, SubSent, SubRounds};
+ghost use Rattle.prover_rounds.specs.Layers.{observedFrac, RoundClosed, OneLayer, Levels, logUpTo, usedUpTo, AllLayers};
 use field::Ext;
 use prover_layer::Turn;
 use step::Frac;
@@ -48,7 +48,7 @@ fn sub_round(
     requires layer { ⌜ (2 * pq + 8 * half ≤ at) × (4 * (at + half) ≤ length (now work)) ⌝ }
     requires room { ⌜ (4 * i + 3 < length (now xi)) × (pos .put + 16 ≤ length (now log)) × Enough (now log) (now lanes) (now challenges) pos 1 ⌝ }
     requires clean { ⌜ Clean (now work) × Clean (now xi) × CanonTurn t ⌝ }
-    ensures { λ r. ⌜ SubRound (now (work .entry)) (now (work .exit)) (now (xi .entry)) (now (xi .exit)) (now (log .entry)) (now (log .exit)) (now (lanes .entry)) (now (lanes .exit))
+    ensures { λ r. ⌜ SubSent (now (work .entry)) (now (work .exit)) (now (xi .entry)) (now (xi .exit)) (now (log .entry)) (now (log .exit)) (now (lanes .entry)) (now (lanes .exit))
         (source (pos .drawn) (now (challenges .entry))) at pq half i t pos r ⌝ }
 {
     let s = prover_layer::passes::sumcheck_round_poly_evals(work, at, pq, half, t);
@@ -188,7 +188,7 @@ pub fn close_round(
 ) -> Pos
     requires room { ⌜ (8 * pq + 15 < length (now work)) × (4 ≤ length (now xi)) × (pos .put + 20 ≤ length (now log)) × Enough (now log) (now lanes) (now challenges) pos 1 ⌝ }
     requires clean { ⌜ Clean (now work) × Clean (now xi) ⌝ }
-    ensures { λ r. ⌜ Closed (now (work .entry)) (now (xi .entry)) (now (xi .exit)) (now (log .entry)) (now (log .exit)) (now (lanes .entry)) (now (lanes .exit))
+    ensures { λ r. ⌜ RoundClosed (now (work .entry)) (now (xi .entry)) (now (xi .exit)) (now (log .entry)) (now (log .exit)) (now (lanes .entry)) (now (lanes .exit))
         (source (pos .drawn) (now (challenges .entry))) pq pos r ⌝ }
 {
     let p = observe_fraction(log, pos, prover_tree::load_node(work, pq));

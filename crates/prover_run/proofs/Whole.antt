@@ -24,7 +24,7 @@ use Rattle.step.specs.declared.Frac.{Frac as FracW}
 use Rattle.step.specs.Values.{IsFrac}
 use Rattle.prover_tree.specs.Nodes.{node, Built}
 use Rattle.prover_layer.specs.Columns.{claims}
-use Rattle.prover_rounds.specs.Layers.{observedClaims, Closed, Levels, logUpTo, usedUpTo, runs, AllLayers}
+use Rattle.prover_rounds.specs.Layers.{observedClaims, RoundClosed, Levels, logUpTo, usedUpTo, runs, AllLayers}
 use Rattle.prover_run.specs.Runs.{Planted, begun, RunOf}
 
 pub planted : (rows ws ws' : List ℕ) (size : ℕ) (root : FracW) → Built rows ws ws' size → IsFrac root (node ws' 1) → Planted rows ws' size root
@@ -59,7 +59,7 @@ firstTold f m ch t = Gkr.observe-layer-claims Extension (Drawing ch) (Tree.child
 -- ALL
 
 pub run-of : (ws pt pt' pt'' lg lg₁ lg₂ lg₃ : List ℕ) {ls ls₁ ls₂ : List ℕ} (ch : Source E.Ext) (n : ℕ) (pos p r z : Pos) (q : Ext)
-    → Steps lg lg₁ ls ls₁ pos p 4 0 (Observing .observe (dec q) (logOf lg pos)) → Closed ws pt pt' lg₁ lg₂ ls₁ ls₂ ch 2 p r
+    → Steps lg lg₁ ls ls₁ pos p 4 0 (Observing .observe (dec q) (logOf lg pos)) → RoundClosed ws pt pt' lg₁ lg₂ ls₁ ls₂ ch 2 p r
     → ((f : ℕ → Frac E.Ext) (g : ℕ) → n ≡ suc g → Levels f ws n 0 → AllLayers f pt' pt'' lg₂ lg₃ ch n g r z)
     → drop (z .put) lg₃ ≡ drop (z .put) lg₂ → r .put ≤ z .put
     → (f : ℕ → Frac E.Ext) (m : ℕ) → n ≡ suc m → Levels f ws n 0 → dec q ≡ Tree.tree ExtRing f (suc m) 0 .q → RunOf f pt'' lg lg₃ ch m pos z

@@ -103,25 +103,6 @@ pub fn entry_minus(a: Entry, b: Entry) -> Entry
     }
 }
 
-// All five columns of the line at r. The five lines stand here one by one, so that the compiler takes them into a loop over entries
-// and the multiples of 11 of r out of it.
-pub fn entry_line(a: Entry, b: Entry, r: Ext) -> Entry
-    requires { ⌜ CanonEntry a × CanonEntry b × Canon r ⌝ }
-    ensures { λ x. ⌜ IsEntry x (line (dec r) (dec (a .e)) (dec (b .e))) (zip (line (dec r)) (decClaims a) (decClaims b)) ⌝ }
-{
-    Entry {
-        e: line_at(a.e, b.e, r),
-        l: Frac {
-            p: line_at(a.l.p, b.l.p, r),
-            q: line_at(a.l.q, b.l.q, r),
-        },
-        r: Frac {
-            p: line_at(a.r.p, b.r.p, r),
-            q: line_at(a.r.q, b.r.q, r),
-        },
-    }
-}
-
 // p1 + lambda·q1 in the place of p1: one product, and then numerator and denominator of the parent are one sum of two products.
 pub fn weigh_entry(t: Entry, lambda: Ext) -> Entry
     requires { ⌜ CanonEntry t × Canon lambda ⌝ }

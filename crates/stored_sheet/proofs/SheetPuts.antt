@@ -23,7 +23,7 @@ use Rattle.wire.specs.WordLaws.{none-canonical, some-bad}
 use Rattle.stored_sheet.specs.declared.SheetAnswer.{SheetAnswer}
 use Rattle.stored_sheet.specs.declared.SheetAnswer.the-variants.{Done, Refused}
 use Rattle.stored_sheet.specs.Sheet.{sheet}
-use Rattle.stored_sheet.specs.SheetReads.{sized, tested, writeAnswer, SheetEnd, ended, sheetWritten}
+use Rattle.stored_sheet.specs.SheetReads.{sized, tested, writeAnswer, SheetEnd, sheetEnd, sheetWritten}
 use Rattle.stored_sheet.specs.SheetLaws.{taken, write-done}
 use Rattle.stored_sheet.proofs.SheetSteps.{sized-many, sized-odd, sized-short, sized-words}
 
@@ -85,7 +85,7 @@ module _ (ws old : List ℕ) (a : SheetAnswer) (e : a ≡ writeAnswer ws (length
   write-room n d = let r = write-done ws (length old) n (sym e ∙ d) in (r .room, omega (arith, r .most, r .whole))
 
   pub write-rows : (n : ℕ) → a ≡ Done n → (new : List ℕ) (m : ℕ) → Wrote old new 0 m (sheet ws) → _≡_ {A = SheetEnd} (record { answer = Done n; buffer = new }) (sheetWritten ws old)
-  write-rows n d new m w = ap (λ x. record { answer = Done n; buffer = x }) (wrote-front old new m (sheet ws) w) ∙ ap (λ x. ended x (sheet ws) old) (sym d ∙ e)
+  write-rows n d new m w = ap (λ x. record { answer = Done n; buffer = x }) (wrote-front old new m (sheet ws) w) ∙ ap (λ x. sheetEnd x (sheet ws) old) (sym d ∙ e)
 
   pub write-none : (x : Refusal) → a ≡ Refused x → _≡_ {A = SheetEnd} (record { answer = Refused x; buffer = old }) (sheetWritten ws old)
-  write-none x d = ap (λ y. ended y (sheet ws) old) (sym d ∙ e)
+  write-none x d = ap (λ y. sheetEnd y (sheet ws) old) (sym d ∙ e)

@@ -23,7 +23,7 @@ use Rattle.wire.specs.WordLaws.{none-canonical, some-bad}
 use Rattle.stored_sheet.specs.declared.SheetAnswer.{SheetAnswer}
 use Rattle.stored_sheet.specs.declared.SheetAnswer.the-variants.{Done, Refused}
 use Rattle.stored_sheet.specs.Sheet.{sheet, rowCount, rowWords}
-use Rattle.stored_sheet.specs.SheetReads.{sized, tested, readAnswer, SheetEnd, ended, sheetRead}
+use Rattle.stored_sheet.specs.SheetReads.{sized, tested, readAnswer, SheetEnd, sheetEnd, sheetRead}
 use Rattle.stored_sheet.specs.SheetLaws.{taken, read-done}
 
 -- a count of rows
@@ -135,7 +135,7 @@ module _ (bs old : List ℕ) (a : SheetAnswer) (e : a ≡ readAnswer bs (length 
       let w : wordsFrom (8 * n) (drop 3 bs) ≡ rowWords bs = ap (λ k. wordsFrom (8 * k) (drop 3 bs)) (sym (r .count)) in
       let l : 8 * n ≡ length (rowWords bs) = omega (arith, words-length (8 * rowCount bs) (drop 3 bs), r .count) in
       let g : new ≡ rowWords bs ++ drop (length (rowWords bs)) old = f ∙ ap₂ (λ (x : List ℕ) (k : ℕ). x ++ drop k old) w l in
-      ap (λ x. record { answer = Done n; buffer = x }) g ∙ ap (λ x. ended x (rowWords bs) old) (sym d ∙ e)
+      ap (λ x. record { answer = Done n; buffer = x }) g ∙ ap (λ x. sheetEnd x (rowWords bs) old) (sym d ∙ e)
 
   pub read-none : (x : Refusal) → a ≡ Refused x → _≡_ {A = SheetEnd} (record { answer = Refused x; buffer = old }) (sheetRead bs old)
-  read-none x d = ap (λ y. ended y (rowWords bs) old) (sym d ∙ e)
+  read-none x d = ap (λ y. sheetEnd y (rowWords bs) old) (sym d ∙ e)

@@ -20,7 +20,7 @@ use Rattle.wire.specs.ByteLaws.{bytes-drop, bytes-back, bytes-length, half-back
 use Rattle.stored_sheet.specs.declared.SheetAnswer.{SheetAnswer}
 use Rattle.stored_sheet.specs.declared.SheetAnswer.the-variants.{Done, Refused}
 use Rattle.stored_sheet.specs.Sheet.{sheet, rowCount, rowWords}
-use Rattle.stored_sheet.specs.SheetReads.{tested, readAnswer, writeAnswer, SheetEnd, ended, sheetRead}
+use Rattle.stored_sheet.specs.SheetReads.{tested, readAnswer, writeAnswer, SheetEnd, sheetEnd, sheetRead}
 
 -- done has passed all tests
 was-passed : (n k : ℕ) (t : Tested) → tested n t ≡ Done k → (t ≡ passed) × (n ≡ k)
@@ -65,7 +65,7 @@ read-ok bs room n r =
     rw (eq-eqb (getD bs 0 0) 1 (r .version), eq-eqb (3 + 32 * rowCount bs) (length bs) (r .size), le-ltb maxRows (rowCount bs) (r .most), r .power, le-ltb room (8 * rowCount bs) (r .room), r .canonical) (ap Done (r .count))
 
 -- what is read of a sheet, by the reader's end: its buffer begins with the rows
-answered : (a : SheetAnswer) (ws old : List ℕ) → ended a ws old .answer ≡ a
+answered : (a : SheetAnswer) (ws old : List ℕ) → sheetEnd a ws old .answer ≡ a
 answered (Done n) ws old = refl
 answered (Refused e) ws old = refl
 
@@ -77,7 +77,7 @@ module _ (bs old new : List ℕ) (n : ℕ) {r : SheetAnswer} (e : _≡_ {A = She
   is-read = read-done bs (length old) n done
 
   pub read-front : new ≡ rowWords bs ++ drop (length (rowWords bs)) old
-  read-front = ap (λ o. o .buffer) e ∙ ap (λ x. ended x (rowWords bs) old .buffer) done
+  read-front = ap (λ o. o .buffer) e ∙ ap (λ x. sheetEnd x (rowWords bs) old .buffer) done
 
   pub read-long : length (rowWords bs) ≡ 8 * n
   read-long = words-length (8 * rowCount bs) (drop 3 bs) ∙ ap (λ k. 8 * k) (is-read .count)

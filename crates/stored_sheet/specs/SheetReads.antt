@@ -31,9 +31,9 @@ pub record SheetEnd : Type 0 where
   pub buffer : List ℕ
 
 -- done puts the words in front; a refusal leaves the buffer as it was
-abbrev pub ended : SheetAnswer → List ℕ → List ℕ → SheetEnd
-ended (Done n) ws old = record { answer = Done n; buffer = ws ++ drop (length ws) old }
-ended (Refused e) ws old = record { answer = Refused e; buffer = old }
+abbrev pub sheetEnd : SheetAnswer → List ℕ → List ℕ → SheetEnd
+sheetEnd (Done n) ws old = record { answer = Done n; buffer = ws ++ drop (length ws) old }
+sheetEnd (Refused e) ws old = record { answer = Refused e; buffer = old }
 
 -- the reader, of bytes and a buffer of words: 12, 13, 2, 3, 5, 6, then the row count
 unfoldable pub readAnswer : List ℕ → ℕ → SheetAnswer
@@ -41,7 +41,7 @@ readAnswer bs room = let n = rowCount bs in
     tested n (firstOf (test (not (eqb (getD bs 0 0) 1)) BadVersion ∷ test (not (eqb (3 + 32 * n) (length bs))) BadLength ∷ sized n (8 * n) room (rowWords bs)))
 
 abbrev pub sheetRead : List ℕ → List ℕ → SheetEnd
-sheetRead bs old = ended (readAnswer bs (length old)) (rowWords bs) old
+sheetRead bs old = sheetEnd (readAnswer bs (length old)) (rowWords bs) old
 
 -- the writer, of the words of rows and a buffer of bytes: 1, 2, 3, 5, 6, then the number of bytes
 unfoldable pub writeAnswer : List ℕ → ℕ → SheetAnswer
@@ -49,4 +49,4 @@ writeAnswer ws room = let need = 3 + 4 * length ws in
     tested need (firstOf (test (not (eqb (length ws % 8) 0)) RaggedRows ∷ sized (length ws / 8) need room ws))
 
 abbrev pub sheetWritten : List ℕ → List ℕ → SheetEnd
-sheetWritten ws old = ended (writeAnswer ws (length old)) (sheet ws) old
+sheetWritten ws old = sheetEnd (writeAnswer ws (length old)) (sheet ws) old

@@ -10,7 +10,7 @@ ghost use Rattle.wire.specs.Bytes.{wordsFrom, bytesOf};
 ghost use Rattle.wire.specs.Written.{Wrote};
 ghost use Rattle.stored_sheet.specs.Report.{sheetReport};
 ghost use Rattle.stored_sheet.specs.Sheet.{sheet};
-ghost use Rattle.stored_sheet.specs.SheetReads.{readAnswer, writeAnswer, sheetRead, sheetWritten, ended};
+ghost use Rattle.stored_sheet.specs.SheetReads.{readAnswer, writeAnswer, sheetRead, sheetWritten, sheetEnd};
 use field::Ext;
 use refusal::Refusal;
 use refusal::Report;

@@ -37,7 +37,8 @@ use Rattle.stored.specs.ParseLaws.{Shaped, claims-count, entries-count, claims-
 use Rattle.verifier_round.specs.declared.Advance.{Advance}
 use Rattle.verifier_round.specs.declared.Advance.the-variants.{Stopped}
 use Rattle.verifier_round.specs.declared.Verdict.the-variants.{Refused}
-use Rattle.verifier_round.specs.Values.{decClaims, decCubic, CanonClaims}
+use Rattle.stored.specs.ReadWords.{CanonClaims}
+use Rattle.verifier_round.specs.Values.{decClaims, decCubic}
 use Rattle.verifier_round.specs.Verdicts.{Model, answerOf, pointOf, leftBy}
 use Rattle.verifier_round.specs.Rounds.{Stops}
 use Rattle.verifier_rounds.specs.Runs.{Readable, RootSpace, Ends, RootEnd}

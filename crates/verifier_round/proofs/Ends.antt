@@ -36,7 +36,7 @@ use Rattle.verifier_round.specs.declared.Advance.the-variants.{Next, Sto
 use Rattle.verifier_round.specs.declared.Verdict.the-variants.{Refused}
 use Rattle.verifier_round.specs.Values.{columns}
 use Rattle.verifier_round.specs.Verdicts.{Model, answerOf, pointOf, leftBy}
-use Rattle.verifier_round.specs.Rounds.{Descended, Goes, Stops, Came, Closed, Rooted}
+use Rattle.verifier_round.specs.Rounds.{Descended, Goes, Stops, Came, LayerChecked, Rooted}
 use Rattle.verifier_round.proofs.Points.{headed}
 
 -- the model's log after the claims c
@@ -114,13 +114,13 @@ module _ (pt lg : List ℕ) (ch : Source E.Ext) (c : Claims E.Ext) (round : ℕ)
 
 pub closed-go : (pt pt' lg lg₁ lg₂ : List ℕ) {ls ls₁ ls₂ : List ℕ} (ch : Source E.Ext) (c : Claims E.Ext) (round : ℕ) (lambda : Ext) (s : Sums) (expected : Ext) (p : Pos) (r : Layer) (b : Bool)
     → Is expected (E.mul (RoundSum.cross ExtRing (dec lambda) c) (dec (s .eq))) → Canon (s .claim) → b ≡ sameWords expected (s .claim) → not b ≡ false
-    → Steps lg lg₁ ls ls₁ (s .pos) p 16 0 (after c (logOf lg (s .pos))) → Descended pt pt' lg₁ lg₂ ls₁ ls₂ ch c p r → Closed pt pt' lg lg₂ ls ls₂ ch c round lambda s (Next r)
+    → Steps lg lg₁ ls ls₁ (s .pos) p 16 0 (after c (logOf lg (s .pos))) → Descended pt pt' lg₁ lg₂ ls₁ ls₂ ch c p r → LayerChecked pt pt' lg lg₂ ls ls₂ ch c round lambda s (Next r)
 closed-go pt pt' lg lg₁ lg₂ ch c round lambda s expected p r b x k e h a d = λ ms v z t came.
     goes-on lg lg₁ lg₂ pt pt' ch round 16 0 c (s .pos) p r (logOf lg (s .pos)) _ (λ mss cs. layer-holds pt lg ch c round lambda s expected x k ms v z t came mss cs e (not-false b h)) a d
 
 pub closed-stop : (pt lg lg₁ : List ℕ) {ls ls₁ : List ℕ} (ch : Source E.Ext) (c : Claims E.Ext) (round : ℕ) (lambda : Ext) (s : Sums) (expected : Ext) (p : Pos) (b : Bool)
     → Is expected (E.mul (RoundSum.cross ExtRing (dec lambda) c) (dec (s .eq))) → Canon (s .claim) → b ≡ sameWords expected (s .claim) → not b ≡ true
-    → Steps lg lg₁ ls ls₁ (s .pos) p 16 0 (after c (logOf lg (s .pos))) → s .pos .put + 20 ≤ length lg → Closed pt pt lg lg₁ ls ls₁ ch c round lambda s (Stopped (LayerConsistencyCheckFailed round expected (s .claim)) p)
+    → Steps lg lg₁ ls ls₁ (s .pos) p 16 0 (after c (logOf lg (s .pos))) → s .pos .put + 20 ≤ length lg → LayerChecked pt pt lg lg₁ ls ls₁ ch c round lambda s (Stopped (LayerConsistencyCheckFailed round expected (s .claim)) p)
 closed-stop pt lg lg₁ ch c round lambda s expected p b x k e h a room = λ ms v z t came mss cs.
     stops-there lg lg₁ ch (s .pos) p 16 0 _ _ _ _ a (omega (arith, a .put)) (layer-fails pt lg ch c round lambda s expected x k ms v z t came mss cs e (not-true b h))
     (ap Refused (layer-answer pt lg ch c round lambda s expected x k ms v z t came mss cs)) refl refl

@@ -26,7 +26,7 @@ use Rattle.step.specs.declared.Frac.{Frac}
 use Rattle.step.specs.Values.{IsFrac, minus}
 use Rattle.verifier_round.specs.declared.Layer.{Layer}
 use Rattle.verifier_round.specs.declared.Sums.{Sums}
-use Rattle.verifier_round.specs.Rounds.{told, Opens, SubRound, Descended}
+use Rattle.verifier_round.specs.Rounds.{told, LayerOpened, SubChecked, Descended}
 
 abbrev obs : E.Ext → Words → Words
 obs x t = Observing .observe x t
@@ -47,7 +47,7 @@ claims-observed l l₁ l₂ l₃ l₄ p p₁ p₂ p₃ p₄ c a b d e =
 pub sub-done : (pt pt' lg lg₁ lg₂ : List ℕ) {ls ls₁ ls₂ : List ℕ} (ch : Source E.Ext) (j : ℕ) (m : Cubic E.Ext) (s : Sums) (p : Pos) (d : Drawn) (claim eq xi : Ext) → Steps lg lg₁ ls ls₁ (s .pos) p 12 0 (told m lg (s .pos))
     → Steps lg₁ lg₂ ls₁ ls₂ p (d .pos) 4 1 (Drawing ch .drawn (logOf lg₁ p)) → Is (d .x) (ch (logOf lg₁ p)) → Stored pt pt' (j + 1) (dec (d .x)) → Is xi (cell pt (j + 1))
     → Is claim (Interpolate.cubic Extension (minus (dec (s .claim)) (m .at1)) (m .at1) (m .at2) (m .at3) (dec (d .x)))
-    → Is eq (E.mul (dec (s .eq)) (Forms.agree ExtRing (dec (s .xi)) (dec (d .x)))) → SubRound pt pt' lg lg₂ ls ls₂ ch j m s (record { pos = d .pos; claim = claim; eq = eq; xi = xi })
+    → Is eq (E.mul (dec (s .eq)) (Forms.agree ExtRing (dec (s .xi)) (dec (d .x)))) → SubChecked pt pt' lg lg₂ ls ls₂ ch j m s (record { pos = d .pos; claim = claim; eq = eq; xi = xi })
 sub-done pt pt' lg lg₁ lg₂ ch j m s p d claim eq xi a b v h x k q =
     let g : logOf lg₁ p ≡ told m lg (s .pos) = a .log in
     let r : dec (d .x) ≡ ch (told m lg (s .pos)) = v .value ∙ ap ch g in
@@ -72,7 +72,7 @@ descended pt pt' lg lg' ch c pos d f a v h r =
 
 pub opened : (pt lg lg' : List ℕ) {ls ls' : List ℕ} (ch : Source E.Ext) (s : Layer) (d : Drawn) (prod claim xi : Ext) → Steps lg lg' ls ls' (s .pos) (d .pos) 4 1 (Drawing ch .drawn (logOf lg (s .pos)))
     → Is (d .x) (ch (logOf lg (s .pos))) → Is prod (E.mul (dec (d .x)) (dec (s .denom))) → Is claim (E.add (dec (s .numer)) (dec prod)) → Is xi (cell pt 0)
-    → Opens pt lg lg' ls ls' ch s (record { lambda = d .x; first = record { pos = d .pos; claim = claim; eq = record { c0 = 1; c1 = 0; c2 = 0; c3 = 0 }; xi = xi } })
+    → LayerOpened pt lg lg' ls ls' ch s (record { lambda = d .x; first = record { pos = d .pos; claim = claim; eq = record { c0 = 1; c1 = 0; c2 = 0; c3 = 0 }; xi = xi } })
 opened pt lg lg' ch s d prod claim xi a v p c x =
     record {
       steps = a;

@@ -14,7 +14,7 @@ use Rattle.transcript.specs.LogLaws.{SamePos, steps-unique}
 use Rattle.verifier_round.specs.declared.Layer.{Layer}
 use Rattle.verifier_round.specs.declared.Sums.{Sums}
 use Rattle.verifier_round.specs.declared.Opened.{Opened}
-use Rattle.verifier_round.specs.Rounds.{Opens, SubRound, Descended}
+use Rattle.verifier_round.specs.Rounds.{LayerOpened, SubChecked, Descended}
 
 -- the same, but for the sponge
 pub record SameSums (r s : Sums) : Type 0 where
@@ -28,7 +28,7 @@ pub record SameLayer (r s : Layer) : Type 0 where
   pub numer : r .numer ≡ s .numer
   pub denom : r .denom ≡ s .denom
 
-pub opens-unique : {pt lg lg' lg″ ls ls' ls″ : List ℕ} {ch : Source E.Ext} {l : Layer} {r s : Opened} → Opens pt lg lg' ls ls' ch l r → Opens pt lg lg″ ls ls″ ch l s → (r .lambda ≡ s .lambda) × SameSums (r .first) (s .first) × (lg' ≡ lg″)
+pub opens-unique : {pt lg lg' lg″ ls ls' ls″ : List ℕ} {ch : Source E.Ext} {l : Layer} {r s : Opened} → LayerOpened pt lg lg' ls ls' ch l r → LayerOpened pt lg lg″ ls ls″ ch l s → (r .lambda ≡ s .lambda) × SameSums (r .first) (s .first) × (lg' ≡ lg″)
 opens-unique h k =
     let e = steps-unique (h .steps) (k .steps) in (
       is-unique (h .lambda) (k .lambda),
@@ -36,7 +36,7 @@ opens-unique h k =
       e .1,
     )
 
-pub sub-round-unique : {pt pt' pt″ lg lg' lg″ ls ls' ls″ : List ℕ} {ch : Source E.Ext} {j : ℕ} {m : Cubic E.Ext} {l r s : Sums} → SubRound pt pt' lg lg' ls ls' ch j m l r → SubRound pt pt″ lg lg″ ls ls″ ch j m l s → SameSums r s × (pt' ≡ pt″) × (lg' ≡ lg″)
+pub sub-round-unique : {pt pt' pt″ lg lg' lg″ ls ls' ls″ : List ℕ} {ch : Source E.Ext} {j : ℕ} {m : Cubic E.Ext} {l r s : Sums} → SubChecked pt pt' lg lg' ls ls' ch j m l r → SubChecked pt pt″ lg lg″ ls ls″ ch j m l s → SameSums r s × (pt' ≡ pt″) × (lg' ≡ lg″)
 sub-round-unique h k =
     let e = steps-unique (h .steps) (k .steps) in
     (record { pos = e .0; claim = is-unique (h .claim) (k .claim); eq = is-unique (h .eq) (k .eq); xi = is-unique (h .xi) (k .xi) }, stored-unique (h .rho) (k .rho), e .1)

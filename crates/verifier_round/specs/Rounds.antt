@@ -32,7 +32,7 @@ use Rattle.verifier_round.specs.Values.{columns}
 use Rattle.verifier_round.specs.Verdicts.{Model, answerOf, pointOf, leftBy}
 
 -- lambda is sampled and batches the claims, eq is one, and the old point's first coordinate is at hand
-pub record Opens (pt lg lg' ls ls' : List ℕ) (ch : Source E.Ext) (s : Layer) (r : Opened) : Type 0 where
+pub record LayerOpened (pt lg lg' ls ls' : List ℕ) (ch : Source E.Ext) (s : Layer) (r : Opened) : Type 0 where
   pub steps : Steps lg lg' ls ls' (s .pos) (r .first .pos) 4 1 (Drawing ch .drawn (logOf lg (s .pos)))
   pub lambda : Is (r .lambda) (ch (logOf lg (s .pos)))
   pub claim : Is (r .first .claim) (E.add (dec (s .numer)) (E.mul (ch (logOf lg (s .pos))) (dec (s .denom))))
@@ -44,7 +44,7 @@ abbrev pub told : Cubic E.Ext → List ℕ → Pos → Words
 told m lg pos = Sumcheck.observe-cubic Extension Observing m (logOf lg pos)
 
 -- one sub-round: the message m is observed, rho sampled and kept in cell j + 1, claim and eq taken on
-pub record SubRound (pt pt' lg lg' ls ls' : List ℕ) (ch : Source E.Ext) (j : ℕ) (m : Cubic E.Ext) (s r : Sums) : Type 0 where
+pub record SubChecked (pt pt' lg lg' ls ls' : List ℕ) (ch : Source E.Ext) (j : ℕ) (m : Cubic E.Ext) (s r : Sums) : Type 0 where
   pub steps : Steps lg lg' ls ls' (s .pos) (r .pos) 16 1 (Drawing ch .drawn (told m lg (s .pos)))
   pub rho : Stored pt pt' (j + 1) (ch (told m lg (s .pos)))
   pub claim : Is (r .claim) (Interpolate.cubic Extension (minus (dec (s .claim)) (m .at1)) (m .at1) (m .at2) (m .at3) (ch (told m lg (s .pos))))
@@ -89,8 +89,8 @@ pub record Came (pt lg : List ℕ) (ch : Source E.Ext) (round : ℕ) (lambda : E
   pub sums : Sumcheck.verify-gkr-sumcheck Extension (Drawing ch) ms z (E.add (v .p) (E.mul (ch t) (v .q))) E.one (Drawing ch .drawn t) ≡ record { claim = dec (s .claim); point = cells pt 1 round; eq = dec (s .eq); log = logOf lg (s .pos) }
 
 -- the end of a layer, whatever its sub-rounds were
-abbrev pub Closed : (pt pt' lg lg' ls ls' : List ℕ) (ch : Source E.Ext) (c : Claims E.Ext) (round : ℕ) (lambda : Ext) (s : Sums) (r : Advance) → Type 0
-Closed pt pt' lg lg' ls ls' ch c round lambda s r =
+abbrev pub LayerChecked : (pt pt' lg lg' ls ls' : List ℕ) (ch : Source E.Ext) (c : Claims E.Ext) (round : ℕ) (lambda : Ext) (s : Sums) (r : Advance) → Type 0
+LayerChecked pt pt' lg lg' ls ls' ch c round lambda s r =
     (ms : List (Cubic E.Ext)) (v : Frac E.Ext) (z : List E.Ext) (t : Words) → Came pt lg ch round lambda s ms v z t
     → Advances lg lg' ls ls' pt' ch (s .pos) (round + 1) 20 1 (λ mss cs. Gkr.rounds Extension (Drawing ch) (ms ∷ mss) (c ∷ cs) v z t) r
 

@@ -19,17 +19,6 @@ abbrev pub columns : Layer → Frac E.Ext
 columns s = record { p = dec (s .numer); q = dec (s .denom) }
 
 -- all words are canonical
-pub record CanonClaims (c : Claims Ext) : Type 0 where
-  pub p0 : Canon (c .p0)
-  pub q0 : Canon (c .q0)
-  pub p1 : Canon (c .p1)
-  pub q1 : Canon (c .q1)
-
-pub record CanonCubic (m : Cubic Ext) : Type 0 where
-  pub at1 : Canon (m .at1)
-  pub at2 : Canon (m .at2)
-  pub at3 : Canon (m .at3)
-
 pub record CanonSums (s : Sums) : Type 0 where
   pub claim : Canon (s .claim)
   pub eq : Canon (s .eq)

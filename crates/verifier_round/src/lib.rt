@@ -18,9 +18,10 @@ ghost use Rattle.transcript.specs.Source.{source};
 ghost use Rattle.transcript.specs.Log.{Enough, Observing, logOf, Steps};
 ghost use Rattle.stored.specs.Shapes.{claimsIn, cubicIn};
 ghost use Rattle.step.specs.Values.{IsFrac, minus};
-ghost use Rattle.verifier_round.specs.Values.{CanonClaims, CanonCubic, decClaims, decCubic, CanonSums};
+ghost use Rattle.stored.specs.ReadWords.{CanonClaims, CanonCubic};
+ghost use Rattle.verifier_round.specs.Values.{decClaims, decCubic, CanonSums};
 ghost use Rattle.verifier_round.specs.Report.{verdictReport};
-ghost use Rattle.verifier_round.specs.Rounds.{Opens, SubRound, Descended, Closed, Rooted};
+ghost use Rattle.verifier_round.specs.Rounds.{LayerOpened, SubChecked, Descended, LayerChecked, Rooted};
 use field::Ext;
 use refusal::Refusal;
 use refusal::Report;
@@ -139,7 +140,7 @@ pub fn open_layer(
 ) -> Opened
     requires room { ⌜ (4 ≤ length (now point)) × (s .pos .put + 4 ≤ length (now log)) × Enough (now log) (now lanes) (now challenges) (s .pos) 1 ⌝ }
     requires clean { ⌜ Clean (now point) × Canon (s .numer) × Canon (s .denom) ⌝ }
-    ensures { λ r. ⌜ Opens (now (point .entry)) (now (log .entry)) (now (log .exit)) (now (lanes .entry)) (now (lanes .exit))
+    ensures { λ r. ⌜ LayerOpened (now (point .entry)) (now (log .entry)) (now (log .exit)) (now (lanes .entry)) (now (lanes .exit))
         (source (s .pos .drawn) (now (challenges .entry))) s r ⌝ }
 {
     let xi = field::load(point, 0);
@@ -164,7 +165,7 @@ pub fn sub_round(
 ) -> Sums
     requires room { ⌜ (4 * j + 7 < length (now point)) × (s .pos .put + 16 ≤ length (now log)) × Enough (now log) (now lanes) (now challenges) (s .pos) 1 ⌝ }
     requires clean { ⌜ Clean (now point) × CanonCubic (cubicIn m) × CanonSums s ⌝ }
-    ensures { λ r. ⌜ SubRound (now (point .entry)) (now (point .exit)) (now (log .entry)) (now (log .exit)) (now (lanes .entry)) (now (lanes .exit))
+    ensures { λ r. ⌜ SubChecked (now (point .entry)) (now (point .exit)) (now (log .entry)) (now (log .exit)) (now (lanes .entry)) (now (lanes .exit))
         (source (s .pos .drawn) (now (challenges .entry))) j (decCubic (cubicIn m)) s r ⌝ }
 {
     let i = j + 1;
@@ -229,7 +230,7 @@ pub fn close_layer(
 ) -> Advance
     requires room { ⌜ (4 ≤ length (now point)) × (s .pos .put + 20 ≤ length (now log)) × Enough (now log) (now lanes) (now challenges) (s .pos) 1 ⌝ }
     requires clean { ⌜ Clean (now point) × CanonClaims (claimsIn c) × CanonSums s × Canon lambda ⌝ }
-    ensures { λ r. ⌜ Closed (now (point .entry)) (now (point .exit)) (now (log .entry)) (now (log .exit)) (now (lanes .entry)) (now (lanes .exit))
+    ensures { λ r. ⌜ LayerChecked (now (point .entry)) (now (point .exit)) (now (log .entry)) (now (log .exit)) (now (lanes .entry)) (now (lanes .exit))
         (source (s .pos .drawn) (now (challenges .entry))) (decClaims (claimsIn c)) round lambda s r ⌝ }
 {
     let end = observe_layer_claims(log, s.pos, c);

@@ -29,7 +29,8 @@ use Rattle.refusal.specs.declared.Refusal.{Refusal}
 use Rattle.verifier_round.specs.declared.Layer.{Layer}
 use Rattle.verifier_round.specs.declared.Advance.{Advance}
 use Rattle.verifier_round.specs.declared.Advance.the-variants.{Next, Stopped}
-use Rattle.verifier_round.specs.Values.{decCubic, decClaims, columns, CanonClaims}
+use Rattle.stored.specs.ReadWords.{CanonClaims}
+use Rattle.verifier_round.specs.Values.{decCubic, decClaims, columns}
 use Rattle.verifier_round.specs.Rounds.{Goes, Advances, Rooted}
 use Rattle.verifier_rounds.specs.Runs.{entryAt, RoundDone, Readable, Space, RootSpace, going, LayersEnd, Going, RootEnd}
 use Rattle.verifier_rounds.proofs.Messages.{claim-first, claims-rest, entry-first, entries-rest}

@@ -35,9 +35,10 @@ use Rattle.verifier_round.specs.declared.Sums.{Sums}
 use Rattle.verifier_round.specs.declared.Opened.{Opened}
 use Rattle.verifier_round.specs.declared.Advance.{Advance}
 use Rattle.verifier_round.specs.declared.Advance.the-variants.{Next, Stopped}
-use Rattle.verifier_round.specs.Values.{decCubic, decClaims, columns, CanonClaims}
+use Rattle.stored.specs.ReadWords.{CanonClaims}
+use Rattle.verifier_round.specs.Values.{decCubic, decClaims, columns}
 use Rattle.verifier_round.specs.Points.{ahead}
-use Rattle.verifier_round.specs.Rounds.{Opens, Came, Closed}
+use Rattle.verifier_round.specs.Rounds.{LayerOpened, Came, LayerChecked}
 use Rattle.verifier_round.proofs.Points.{ahead-all}
 use Rattle.verifier_round.proofs.Ends.{stops-there}
 use Rattle.verifier_rounds.specs.Runs.{cubicsAt, entryAt, summing, Summed, RoundDone}
@@ -60,7 +61,7 @@ claims-told c d e h = subst CanonClaims (sym e) h
 pub canon-told : (q r : Ext) → q ≡ r → Canon r → Canon q
 canon-told q r e h = subst Canon (sym e) h
 
-came : (bs pt pt' lg lg₁ lg₂ : List ℕ) {ls ls₁ ls₂ : List ℕ} (ch : Source E.Ext) (polys round : ℕ) (s : Layer) (o : Opened) (last : Sums) → getD bs polys 0 ≡ round → Opens pt lg lg₁ ls ls₁ ch s o
+came : (bs pt pt' lg lg₁ lg₂ : List ℕ) {ls ls₁ ls₂ : List ℕ} (ch : Source E.Ext) (polys round : ℕ) (s : Layer) (o : Opened) (last : Sums) → getD bs polys 0 ≡ round → LayerOpened pt lg lg₁ ls ls₁ ch s o
     → Summed bs pt pt' lg₁ lg₂ ls₁ ls₂ ch (polys + 1) round (o .first) last → Came pt' lg₂ ch round (o .lambda) last (entryAt bs polys) (columns s) (cells pt 0 round) (logOf lg (s .pos))
 came bs pt pt' lg lg₁ lg₂ ch polys round s o last e a b =
     let z : cells pt 0 round ≡ ahead (dec (o .first .xi)) pt 0 round = sym (ahead-all pt round) ∙ ap (λ x. ahead x pt 0 round) (sym (a .xi .value)) in
@@ -75,10 +76,10 @@ came bs pt pt' lg lg₁ lg₂ ch polys round s o last e a b =
 
 -- ---- the count is right
 pub round-closed : (bs pt pt₁ pt₂ lg lg₁ lg₂ lg₃ : List ℕ) {ls ls₁ ls₂ ls₃ : List ℕ} (ch : Source E.Ext) (claims polys round : ℕ) (s : Layer) (o : Opened) (last : Sums) (c : LayerClaims) (r : Advance)
-    → getD bs polys 0 ≡ round → length lg₂ ≡ length lg → Opens pt lg lg₁ ls ls₁ ch s o → Summed bs pt pt₁ lg₁ lg₂ ls₁ ls₂ ch (polys + 1) round (o .first) last → claimsIn c ≡ claimsOf (drop claims bs)
-    → (ch₁ : Source E.Ext) → ch₁ ≡ ch → Closed pt₁ pt₂ lg₂ lg₃ ls₂ ls₃ ch₁ (decClaims (claimsIn c)) round (o .lambda) last r → RoundDone bs pt pt₂ lg lg₃ ls ls₃ ch claims polys round s r
+    → getD bs polys 0 ≡ round → length lg₂ ≡ length lg → LayerOpened pt lg lg₁ ls ls₁ ch s o → Summed bs pt pt₁ lg₁ lg₂ ls₁ ls₂ ch (polys + 1) round (o .first) last → claimsIn c ≡ claimsOf (drop claims bs)
+    → (ch₁ : Source E.Ext) → ch₁ ≡ ch → LayerChecked pt₁ pt₂ lg₂ lg₃ ls₂ ls₃ ch₁ (decClaims (claimsIn c)) round (o .lambda) last r → RoundDone bs pt pt₂ lg lg₃ ls ls₃ ch claims polys round s r
 round-closed bs pt pt₁ pt₂ lg lg₁ lg₂ lg₃ {ls} {ls₁} {ls₂} {ls₃} ch claims polys round s o last c r e l a b q ch₁ w h =
-    let closed : Closed pt₁ pt₂ lg₂ lg₃ ls₂ ls₃ ch (decClaims (claimsOf (drop claims bs))) round (o .lambda) last r = subst (λ d. Closed pt₁ pt₂ lg₂ lg₃ ls₂ ls₃ ch (decClaims d) round (o .lambda) last r) q (subst (λ d. Closed pt₁ pt₂ lg₂ lg₃ ls₂ ls₃ d (decClaims (claimsIn c)) round (o .lambda) last r) w h) in
+    let closed : LayerChecked pt₁ pt₂ lg₂ lg₃ ls₂ ls₃ ch (decClaims (claimsOf (drop claims bs))) round (o .lambda) last r = subst (λ d. LayerChecked pt₁ pt₂ lg₂ lg₃ ls₂ ls₃ ch (decClaims d) round (o .lambda) last r) q (subst (λ d. LayerChecked pt₁ pt₂ lg₂ lg₃ ls₂ ls₃ d (decClaims (claimsIn c)) round (o .lambda) last r) w h) in
     let steps = then lg lg₁ lg₂ (s .pos) (o .first .pos) (last .pos) 4 1 (16 * round) round _ _ (a .steps) (b .steps) in
     record {
       run =
@@ -99,7 +100,7 @@ never : (e : _) (end : Pos) (t : Layer) → Stopped e end ≡ Next t → ⊥
 never e end t q = let z : _≡_ {A = ℕ} 0 1 = cc in omega arith
 
 pub round-stopped : (bs pt lg lg₁ : List ℕ) {ls ls₁ : List ℕ} (ch : Source E.Ext) (claims polys round count : ℕ) (s : Layer) (o : Opened) → count ≡ getD bs polys 0 → (count ≡ round → ⊥)
-    → s .pos .put + (16 * round + 24) ≤ length lg → Opens pt lg lg₁ ls ls₁ ch s o → RoundDone bs pt pt lg lg₁ ls ls₁ ch claims polys round s (Stopped (IncorrectSubroundCount round round count) (o .first .pos))
+    → s .pos .put + (16 * round + 24) ≤ length lg → LayerOpened pt lg lg₁ ls ls₁ ch s o → RoundDone bs pt pt lg lg₁ ls ls₁ ch claims polys round s (Stopped (IncorrectSubroundCount round round count) (o .first .pos))
 round-stopped bs pt lg lg₁ ch claims polys round count s o e h room a =
     record {
       run = λ mss cs.

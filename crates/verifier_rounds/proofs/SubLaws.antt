@@ -23,9 +23,10 @@ use Rattle.gkr.specs.Sumcheck as Sumcheck
 use Rattle.transcript.specs.Log.{Drawing, logOf}
 use Rattle.transcript.proofs.Logs.{then, retold, no-steps}
 use Rattle.verifier_round.specs.declared.Sums.{Sums}
-use Rattle.verifier_round.specs.Values.{decCubic, CanonCubic, CanonSums}
+use Rattle.stored.specs.ReadWords.{CanonCubic}
+use Rattle.verifier_round.specs.Values.{decCubic, CanonSums}
 use Rattle.verifier_round.specs.Points.{ahead}
-use Rattle.verifier_round.specs.Rounds.{told, SubRound}
+use Rattle.verifier_round.specs.Rounds.{told, SubChecked}
 use Rattle.verifier_round.proofs.Points.{ahead-next, grown}
 use Rattle.verifier_rounds.specs.Runs.{cubicsAt, summing, Summed, Summing}
 use Rattle.verifier_rounds.proofs.Messages.{cubic-first, cubics-rest}
@@ -34,9 +35,9 @@ use Rattle.verifier_rounds.proofs.Messages.{cubic-first, cubics-rest}
 pub cubic-told : (m : SubroundEvals) (n : Cubic Ext) → cubicIn m ≡ n → CanonCubic n → CanonCubic (cubicIn m)
 cubic-told m n e h = subst CanonCubic (sym e) h
 
-pub told-again : (pt pt' lg lg' : List ℕ) {ls ls' : List ℕ} (ch : Source E.Ext) (j : ℕ) (m : SubroundEvals) (n : Cubic Ext) (s r : Sums) → cubicIn m ≡ n → SubRound pt pt' lg lg' ls ls' ch j (decCubic (cubicIn m)) s r
-    → SubRound pt pt' lg lg' ls ls' ch j (decCubic n) s r
-told-again pt pt' lg lg' {ls} {ls'} ch j m n s r e h = subst (λ k. SubRound pt pt' lg lg' ls ls' ch j (decCubic k) s r) e h
+pub told-again : (pt pt' lg lg' : List ℕ) {ls ls' : List ℕ} (ch : Source E.Ext) (j : ℕ) (m : SubroundEvals) (n : Cubic Ext) (s r : Sums) → cubicIn m ≡ n → SubChecked pt pt' lg lg' ls ls' ch j (decCubic (cubicIn m)) s r
+    → SubChecked pt pt' lg lg' ls ls' ch j (decCubic n) s r
+told-again pt pt' lg lg' {ls} {ls'} ch j m n s r e h = subst (λ k. SubChecked pt pt' lg lg' ls ls' ch j (decCubic k) s r) e h
 
 pub sub-start : (bs pt lg : List ℕ) {ls : List ℕ} (ch : Source E.Ext) (from k : ℕ) (s : Sums) → Clean pt → CanonSums s → allCanonical (cubicsWords (cubicsFrom k (drop from bs))) ≡ true
     → Summing bs pt pt lg lg ls ls ch from from k 0 s s
@@ -58,7 +59,7 @@ sub-start bs pt lg ch from k s c d w =
     }
 
 -- the model's next sub-round is the one that the code made
-one-sub : (bs pt pt' lg lg' : List ℕ) {ls ls' : List ℕ} (ch : Source E.Ext) (at j n : ℕ) (s r : Sums) → SubRound pt pt' lg lg' ls ls' ch j (decCubic (cubicOf (drop at bs))) s r
+one-sub : (bs pt pt' lg lg' : List ℕ) {ls ls' : List ℕ} (ch : Source E.Ext) (at j n : ℕ) (s r : Sums) → SubChecked pt pt' lg lg' ls ls' ch j (decCubic (cubicOf (drop at bs))) s r
     → summing bs pt lg ch at j (suc n) s
     ≡ record {
       claim = summing bs pt' lg' ch (at + 48) (j + 1) n r .claim;
@@ -81,7 +82,7 @@ module _ (bs pt₀ pt lg₀ lg : List ℕ) {ls₀ ls : List ℕ} (ch : Source E.
       let e : k - j ≡ suc (k - (j + 1)) = omega arith in
       cubic-first (k - (j + 1)) at bs (ap (λ n. allCanonical (cubicsWords (cubicsFrom n (drop at bs)))) (sym e) ∙ i .words)
 
-  pub sub-turn : (pt' lg' : List ℕ) {ls' : List ℕ} (r : Sums) → j < k → length pt' ≡ length pt → length lg' ≡ length lg → SubRound pt pt' lg lg' ls ls' ch j (decCubic (cubicOf (drop at bs))) s r
+  pub sub-turn : (pt' lg' : List ℕ) {ls' : List ℕ} (r : Sums) → j < k → length pt' ≡ length pt → length lg' ≡ length lg → SubChecked pt pt' lg lg' ls ls' ch j (decCubic (cubicOf (drop at bs))) s r
       → Summing bs pt₀ pt' lg₀ lg' ls₀ ls' ch from (at + 48) k (j + 1) s₀ r
   sub-turn pt' lg' r h p l d =
       let e : k - j ≡ suc (k - (j + 1)) = omega arith in

@@ -11,8 +11,9 @@ ghost use Rattle.stored.specs.Layout.{cubicsWords};
 ghost use Rattle.stored.specs.Parse.{cubicOf, claimsOf, cubicsFrom};
 ghost use Rattle.transcript.specs.Source.{source};
 ghost use Rattle.transcript.specs.Log.{Enough};
-ghost use Rattle.verifier_round.specs.Values.{decCubic, CanonCubic, CanonClaims, CanonSums};
-ghost use Rattle.verifier_round.specs.Rounds.{SubRound};
+ghost use Rattle.stored.specs.ReadWords.{CanonClaims, CanonCubic};
+ghost use Rattle.verifier_round.specs.Values.{decCubic, CanonSums};
+ghost use Rattle.verifier_round.specs.Rounds.{SubChecked};
 ghost use Rattle.verifier_rounds.specs.Runs.{Summed, RoundDone, Readable, Space, RootSpace, LayersEnd, RootEnd};
 use refusal::Refusal;
 use transcript::Pos;
@@ -33,7 +34,7 @@ fn sub_round_at(
 ) -> Sums
     requires room { ⌜ (at + 48 ≤ length (now proof)) × (4 * j + 7 < length (now point)) × (s .pos .put + 16 ≤ length (now log)) × Enough (now log) (now lanes) (now challenges) (s .pos) 1 ⌝ }
     requires clean { ⌜ Clean (now point) × CanonCubic (cubicOf (drop at (now proof))) × CanonSums s ⌝ }
-    ensures { λ r. ⌜ SubRound (now (point .entry)) (now (point .exit)) (now (log .entry)) (now (log .exit)) (now (lanes .entry)) (now (lanes .exit))
+    ensures { λ r. ⌜ SubChecked (now (point .entry)) (now (point .exit)) (now (log .entry)) (now (log .exit)) (now (lanes .entry)) (now (lanes .exit))
         (source (s .pos .drawn) (now (challenges .entry))) j (decCubic (cubicOf (drop at (now (proof .entry))))) s r ⌝ }
 {
     let m = stored::read_subround(proof, at);
