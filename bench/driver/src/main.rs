@@ -67,7 +67,7 @@ fn prover(n: usize, challenges: Option<&[u32]>) {
 
 fn verifier(n: usize, challenges: Option<&[u32]>) {
     let (_, (proof, ..)) = theirs::prove(&theirs::fractions(&zero_sum(n)), challenges);
-    let parsed = stored::load(&proof).ok().expect("a stored proof");
+    let (_, parsed) = stored::load(&proof).ok().expect("a stored proof");
     let verified = || {
         let mut rooms = Rooms::cleared(n);
         let (t, number) = timed(|| ours::verify(&proof, n, challenges, &mut rooms));

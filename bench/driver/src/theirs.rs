@@ -39,7 +39,7 @@ fn carried() -> Carried {
 fn run_prover(rows: &[Frac<Ext>], ts: &mut impl FiatShamirTranscript<SC>) -> (f64, Vec<u8>, Vec<u32>) {
     let (t, answer) = timed(|| fractional_sumcheck::<SC, _>(ts, rows, true));
     let (proof, point) = answer.ok().expect("proved");
-    (t, stored::store(proof.fractional_sum.1, &proof.claims_per_layer, &proof.sumcheck_polys), flat(&point))
+    (t, stored::store(1, proof.fractional_sum.1, &proof.claims_per_layer, &proof.sumcheck_polys), flat(&point))
 }
 
 fn run_verifier(proof: &GkrProof<SC>, n: usize, ts: &mut impl FiatShamirTranscript<SC>) -> (f64, Vec<u32>) {
