@@ -47,6 +47,10 @@ fn element(answer: &ffi::Answer, at: usize) -> Element {
     Element([answer[at], answer[at + 1], answer[at + 2], answer[at + 3]])
 }
 
+fn claims(answer: &ffi::Answer) -> Claims {
+    Claims { numer: element(answer, 4), denom: element(answer, 8) }
+}
+
 /// Reads a sheet's bytes into words, eight a row; answers the number of rows.
 pub fn read_sheet_into(sheet: &[u8], rows: &mut [u32]) -> Result<usize, Refusal> {
     let mut answer = [0; 16];
@@ -98,6 +102,14 @@ pub fn prove_into<'a>(
     }
 }
 
+/// The answer of the verifier and of a replay.
+fn verdict(number: u32, answer: &ffi::Answer) -> Result<Verified, Refused> {
+    match number {
+        0 => Ok(Verified { claims: claims(answer), used: Used::told(answer) }),
+        _ => Err(Refused::told(answer)),
+    }
+}
+
 /// Verifies a proof of so many rounds, by its exact bytes.
 pub fn verify_into<'a>(
     proof: &[u8],
@@ -127,13 +139,7 @@ pub fn verify_into<'a>(
             &mut answer,
         )
     };
-    match number {
-        0 => {
-            let claims = Claims { numer: element(&answer, 4), denom: element(&answer, 8) };
-            Ok(Verified { claims, used: Used::told(&answer) })
-        }
-        _ => Err(Refused::told(&answer)),
-    }
+    verdict(number, &answer)
 }
 
 /// Replays a proof of so many rounds, by its exact bytes, from the log of a run; only the point is written.
@@ -161,13 +167,7 @@ pub fn replay_into(
             &mut answer,
         )
     };
-    match number {
-        0 => {
-            let claims = Claims { numer: element(&answer, 4), denom: element(&answer, 8) };
-            Ok(Verified { claims, used: Used::told(&answer) })
-        }
-        _ => Err(Refused::told(&answer)),
-    }
+    verdict(number, &answer)
 }
 
 /// Evaluates both columns of the rows, eight words each, at a point, four words a coordinate; only reads.
@@ -176,7 +176,7 @@ pub fn evaluate_words(rows: &[u32], point: &[u32]) -> Result<Evaluated, Refusal>
     // Safe: as in `read_sheet_into`.
     let number = unsafe { ffi::accudrina_evaluate(rows.as_ptr(), rows.len(), point.as_ptr(), point.len(), &mut answer) };
     match number {
-        0 => Ok(Evaluated { rounds: answer[1] as usize, values: Claims { numer: element(&answer, 4), denom: element(&answer, 8) } }),
+        0 => Ok(Evaluated { rounds: answer[1] as usize, values: claims(&answer) }),
         _ => Err(Refusal::told(&answer)),
     }
 }

@@ -1,14 +1,8 @@
 //! Challenges that are drawn from the log by both sides, and by one of them only.
+mod plain;
+
 use accudrina::*;
-
-fn row(p: u32, q: u32) -> Fraction {
-    Fraction::new(Element::new(p), Element::new(q))
-}
-
-/// Rows in pairs p/q and -p/q, which sum to zero.
-fn zero_sum(rounds: usize) -> Vec<Fraction> {
-    (0..1 << (rounds - 1)).flat_map(|i| [row(i + 1, i + 2), row(PRIME - i - 1, i + 2)]).collect()
-}
+use plain::make::{row, zero_sum};
 
 #[test]
 fn both_draw() {

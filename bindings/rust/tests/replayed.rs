@@ -1,18 +1,8 @@
 //! A verdict from a stored log alone: the log of an accepted proof, of a rejected one, and logs that are another's.
+mod plain;
+
 use accudrina::*;
-
-fn row(p: u32, q: u32) -> Fraction {
-    Fraction::new(Element::new(p), Element::new(q))
-}
-
-/// Rows in pairs p/q and -p/q, which sum to zero.
-fn zero_sum(rounds: usize) -> Vec<Fraction> {
-    (0..1 << (rounds - 1)).flat_map(|i| [row(i + 1, i + 2), row(PRIME - i - 1, i + 2)]).collect()
-}
-
-fn counted() -> Vec<Element> {
-    (1..=64).map(Element::new).collect()
-}
+use plain::make::{counted, zero_sum};
 
 /// The verifier's own log, and so the prover's, replays to the same verdict, in both versions.
 #[test]

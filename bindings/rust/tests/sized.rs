@@ -1,18 +1,8 @@
 //! Proofs that bind their size: version 2, whose log begins with the number of rounds.
+mod plain;
+
 use accudrina::*;
-
-fn row(p: u32, q: u32) -> Fraction {
-    Fraction::new(Element::new(p), Element::new(q))
-}
-
-/// Rows in pairs p/q and -p/q, which sum to zero.
-fn zero_sum(rounds: usize) -> Vec<Fraction> {
-    (0..1 << (rounds - 1)).flat_map(|i| [row(i + 3, i + 2), row(PRIME - i - 3, i + 2)]).collect()
-}
-
-fn counted() -> Vec<Element> {
-    (1..=64).map(Element::new).collect()
-}
+use plain::make::{counted, zero_sum};
 
 /// With supplied challenges the version and the front of the log are all that differs.
 #[test]

@@ -47,3 +47,17 @@ impl Source {
         rows
     }
 }
+
+pub fn row(p: u32, q: u32) -> Fraction {
+    Fraction::new(Element::new(p), Element::new(q))
+}
+
+/// Rows in pairs p/q and -p/q, which sum to zero.
+pub fn zero_sum(rounds: usize) -> Vec<Fraction> {
+    (0..1 << (rounds - 1)).flat_map(|i| [row(i + 1, i + 2), row(PRIME - i - 1, i + 2)]).collect()
+}
+
+/// The challenges 1, 2, 3, .., as many as ten rounds take.
+pub fn counted() -> Vec<Element> {
+    (1..=64).map(Element::new).collect()
+}
