@@ -112,11 +112,11 @@ Base =
       add_neg = f_add_neg;
       mul_assoc = f_mul_assoc;
       mul_comm = f_mul_comm;
-      mul-one = f_mul_one;
-      mul-add = f_mul_add;
+      mul_one = f_mul_one;
+      mul_add = f_mul_add;
     }
 
--- ---- from the numbers that code computes to elements: `simp of-rules` carries `of` to the words
+-- ---- from the numbers that code computes to elements: `simp of_rules` carries `of` to the words
 pub of_neg : (n : ℕ) → n ≤ P → of (P - n) ≡ neg (of n)
 of_neg n h = neg_unique Base (of n) (of (P - n)) (sym (of_add n (P - n)) ∙ ap of (add-sub_of_le h) ∙ of_P)
   where
@@ -133,7 +133,7 @@ from_zero a = nil_add Base (neg a)
 pub of_inj : (m n : ℕ) → m < P → n < P → of m ≡ of n → m ≡ n
 of_inj m n hm hn e = sym (mod-eq_of_lt hm) ∙ sym (val_of m) ∙ ap (λ a. a.val) e ∙ val_of n ∙ mod-eq_of_lt hn
 
-pub ruleset of-rules = (of_mod, of_add, of_mul, of_sub, of_neg)
+pub ruleset of_rules = (of_mod, of_add, of_mul, of_sub, of_neg)
 
 -- the numbers of the ring
 pub num_of : (n : ℕ) → num Base n ≡ of n

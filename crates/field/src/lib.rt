@@ -18,7 +18,7 @@ pub struct Base {
 }
 
 // An element of the extension: c0 + c1·x + c2·x² + c3·x³, each word by its remainder.
-#[derive(Drop)]
+#[derive(Clone, Copy)]
 pub struct Ext {
     pub c0: u32,
     pub c1: u32,

@@ -125,19 +125,19 @@ module _ (F : Field) (S : Transcript F.ring.carrier) (D : Domain F.ring) (exact 
       → (polyss ≡ (send f h (draw t₂ ∷ C.point) (drawn t₂)).polys) × (cs ≡ (send f h (draw t₂ ∷ C.point) (drawn t₂)).claims)
       → Layer f (suc h) v xi t (polys ∷ polyss) (c ∷ cs)
   unfolding Gkr.send
-  layer_from f h v xi t polys polyss c cs true-v true-polys true-c later =
+  layer_from f h v xi t polys polyss c cs true_v true_polys true_c later =
       let lambda = draw t in
       let claim = batched F v lambda in
       let g = children f h in
       let P = sub_send (length xi) lambda (Table.weight K xi) g (drawn t) in
       let C = check polys xi claim one (drawn t) in
-      let H = SumcheckLaws.honest F S xi lambda (Table.weight K xi) g (drawn t) one claim (whole_eq F S xi) true-polys.0 in
-      let logs : C.log ≡ P.log = ap (λ x. (check x xi claim one (drawn t)).log) true-polys.1 ∙ H.logs in
-      let points : C.point ≡ P.point = ap (λ x. (check x xi claim one (drawn t)).point) true-polys.1 ∙ H.points in
-      let lasts : c ≡ P.last = true-c ∙ ap (RoundSum.values K g) points ∙ sym H.lasts in
+      let H = SumcheckLaws.honest F S xi lambda (Table.weight K xi) g (drawn t) one claim (whole_eq F S xi) true_polys.0 in
+      let logs : C.log ≡ P.log = ap (λ x. (check x xi claim one (drawn t)).log) true_polys.1 ∙ H.logs in
+      let points : C.point ≡ P.point = ap (λ x. (check x xi claim one (drawn t)).point) true_polys.1 ∙ H.points in
+      let lasts : c ≡ P.last = true_c ∙ ap (RoundSum.values K g) points ∙ sym H.lasts in
       record {
-        holds = true-v;
-        polys = (λ i. true-polys.1 i ∷ later.0 i) ∙ (λ i. let u = Gkr.observe_layer_claims F S (lasts i) (logs i) in P.polys ∷ (send f h (draw u ∷ points i) (drawn u)).polys);
+        holds = true_v;
+        polys = (λ i. true_polys.1 i ∷ later.0 i) ∙ (λ i. let u = Gkr.observe_layer_claims F S (lasts i) (logs i) in P.polys ∷ (send f h (draw u ∷ points i) (drawn u)).polys);
         claims = (λ i. lasts i ∷ later.1 i) ∙ (λ i. let u = Gkr.observe_layer_claims F S (lasts i) (logs i) in P.last ∷ (send f h (draw u ∷ points i) (drawn u)).claims);
       }
 

@@ -1,0 +1,5 @@
+use borrow.Author.Rules.{rules}
+use Rattle.field.proofs.Ext.new.Goals as goal
+
+pub returns : goal.returns
+returns c = c.canonical.ensures

@@ -1,0 +1,7 @@
+use Rattle.field.proofs.LateSums.{less}
+use native.Mathlib.Omega.{arith}
+use borrow.Author.Rules.{rules}
+use Rattle.field.proofs.sums.lowered.Goals as goal
+
+pub returns : goal.returns
+returns c = (search rules, less _ (search rules))

@@ -1,0 +1,11 @@
+use Rattle.field.specs.BaseRing.{of_rules}
+use native.Mathlib.Omega.{arith}
+use borrow.Author.Rules.{rules}
+use Rattle.field.proofs.words.dot.Goals as goal
+
+pub returns : goal.returns
+returns c = let s = c.prod.ensures.0 in
+    let t = c.prod-2.ensures.0 in
+    let u = c.prod-3.ensures.0 in
+    let v = c.prod-4.ensures.0 in
+    (search rules, simp (of_rules, s, t, u, v))
