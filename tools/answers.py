@@ -18,6 +18,38 @@ HEAD = re.compile(r"^(?:pub )?(?:abbrev )?(?:pub )?(?:private )?(" + NAME + r")\
 COMMON = set()
 
 
+# The names of the clauses `ensures` of each function of the repository that has two or more.
+def clauses_of(top):
+    out = {}
+    for crate in sorted(os.listdir(os.path.join(top, "crates"))):
+        src = os.path.join(top, "crates", crate, "src")
+        for folder, _, files in os.walk(src):
+            for name in files:
+                if not name.endswith(".rt"):
+                    continue
+                with open(os.path.join(folder, name), encoding="utf-8") as it:
+                    text = it.read()
+                inside = os.path.relpath(os.path.join(folder, name), src)[:-3].split("/")
+                module = [] if inside in (["lib"], ["main"]) else inside
+                owner, fn = None, None
+                for line in text.split("\n"):
+                    m = re.match(r"impl(?:<[^>]*>)? (\w+)", line)
+                    if m:
+                        owner = m.group(1)
+                    if line.startswith("}"):
+                        owner = None
+                    m = re.match(r"\s*(?:pub(?:\([^)]*\))? )?(?:unsafe )?(?:extern \"C\" )?(?:const )?fn (\w+)", line)
+                    if m:
+                        fn = [crate] + ([owner] if owner else module) + [m.group(1)]
+                    m = re.match(r"\s*ensures (\w+) \{", line)
+                    if m and fn:
+                        out.setdefault("::".join(fn), []).append(m.group(1))
+    return {f: names for f, names in out.items() if len(names) > 1}
+
+
+ENSURES = {}
+
+
 def alike(name):
     return re.sub(r"[-_]", "", name)
 
@@ -97,8 +129,14 @@ def turn_path(f, place, path, env):
     new = f.label[where][1]
     out = ["c", new]
     rest = rest[1:]
+    if rest[:2] == ["given", "1"]:
+        arm = where
+        while arm and not f.label[arm][1].startswith("in-"):
+            arm = f.parent.get(arm)
+        if arm:
+            return ("text", ".".join(["c", f.label[arm][1], "is"] + rest[2:]))
     if rest and rest[0] == "ensures":
-        return ("text", ".".join(out) + ".ensures" + names_of(rest[1:], f.clauses.get(where)))
+        return ("text", ".".join(out) + ".ensures" + names_of(rest[1:], ENSURES.get(f.callee[where])))
     if rest and rest[0] == "new" and len(rest) > 1 and rest[1] in ("0", "1"):
         params = f.of["params"].get(f.callee[where] or "", [])
         got, k = part(rest[1:], params)
@@ -150,8 +188,8 @@ def turn_body(f, place, body, subst=None):
                     while path[ups] == "before":
                         ups += 1
                     w = f.step(f.up(env[m.group(2)][1], ups) or env[m.group(2)][1], path[ups])
-                    if w and f.clauses.get(w) and len(f.clauses[w]) > 1:
-                        parts[m.group(1)] = f.clauses[w]
+                    if w and ENSURES.get(f.callee[w]):
+                        parts[m.group(1)] = ENSURES[f.callee[w]]
         before = "".join(text[-1:])
         if re.match(NAME + r"\Z", t) and before != ".":
             path, j = [], i + 1
@@ -177,7 +215,7 @@ def turn_body(f, place, body, subst=None):
                 continue
         text.append(t)
         i += 1
-    return "".join(text)
+    return re.sub(r"\(not-(?:true|false) _ (c\.[^\s()]+)\)", r"\1", "".join(text))
 
 
 def top_commas(text):
@@ -309,7 +347,7 @@ def turn(crate, path, of, top):
             if not m2:
                 said(f"{path}: body of {name}")
                 continue
-            if m2.group(2).strip() == "search rules":
+            if m2.group(2).strip() == "search rules" and not unfold:
                 continue
             if old not in f.needs:
                 if old in f.settled:
@@ -354,6 +392,7 @@ def turn(crate, path, of, top):
 def main(argv):
     room, crates = argv[0], argv[1:]
     top = os.getcwd()
+    ENSURES.update(clauses_of(top))
     for c in crates:
         to = os.path.join(room, c)
         os.makedirs(to, exist_ok=True)

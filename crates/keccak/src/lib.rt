@@ -5,7 +5,7 @@ ghost use Rattle.keccak.specs.Keccak.{rot, spread, theta, rho, pi, chi, add_firs
 ghost use Rattle.keccak.specs.State.{as_list};
 
 // A state: the standard's lane (x, y) is lane 5y + x.
-#[derive(Drop)]
+#[derive(Clone, Copy)]
 pub struct Lanes {
     pub a0: u64,
     pub a1: u64,

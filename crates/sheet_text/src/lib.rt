@@ -15,7 +15,7 @@ pub struct Number {
 }
 
 // A word or an element, the place after it, and whether one stands there at all.
-#[derive(Drop)]
+#[derive(Clone, Copy)]
 pub struct Word {
     pub value: u32,
     pub at: usize,

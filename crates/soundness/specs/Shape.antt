@@ -41,7 +41,7 @@ module _ (F : Field) (S : Transcript F.ring.carrier) where
   sub_mosts h xi lambda rhos [] [] claim t n = refl
   sub_mosts h xi lambda rhos [] (x ∷ left) claim t n = absurd (suc-ne-zero _ (sym n))
   sub_mosts h xi lambda rhos (s ∷ polys) [] claim t n = absurd (suc-ne-zero _ n)
-  sub_mosts h xi lambda rhos (s ∷ polys) (x ∷ left) claim t n = ap (λ l. 3 ∷ l) (sub_mosts h xi lambda _ polys left _ _ (suc_inj n))
+  sub_mosts h xi lambda rhos (s ∷ polys) (x ∷ left) claim t n = ap (λ l. 3 ∷ l) (sub_mosts h xi lambda (draw (Sumcheck.observe_cubic F S s t) ∷ rhos) polys left _ _ (suc_inj n))
 
   pub sub_point : (polys : List (Cubic R)) (xi : List R) (claim eq : R) (t : Log) → length polys ≡ length xi → length (Sumcheck.verify_gkr_sumcheck F S polys xi claim eq t).point ≡ length xi
   unfolding Sumcheck.verify_gkr_sumcheck

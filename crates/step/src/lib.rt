@@ -14,14 +14,14 @@ pub mod eq; // eq, one coordinate more
 pub mod interpolate; // values at x of the polynomials through given values
 
 // A fraction p / q, never reduced.
-#[derive(Drop)]
+#[derive(Clone, Copy)]
 pub struct Frac {
     pub p: Ext,
     pub q: Ext,
 }
 
 // What a sub-round reads at one index: the eq column, and the claims on a left and a right child.
-#[derive(Drop)]
+#[derive(Clone, Copy)]
 pub struct Entry {
     pub e: Ext,
     pub l: Frac,

@@ -1,0 +1,16 @@
+use mathlib.Core.Path.{◌≡◌, ◌∙◌, ap, ap₂}
+use Prim.Native.Nat.{◌-◌, ◌≤◌}
+use Rattle.field.specs.Ext as E
+use Rattle.field.specs.Element.{Is}
+use Rattle.field.specs.ElementLaws.{is_of_enc, answer}
+use Rattle.field_bench.specs.Powers.{power, chains}
+use Rattle.field_bench.proofs.Chaining.{start, next}
+use borrow.Author.Rules.{rules}
+use native.Mathlib.Omega.{arith}
+use Rattle.field_bench.proofs.field_bench_chains.Given as goal
+
+abbrev pub invariant-loop-i : goal.invariant-loop-i
+invariant-loop-i l = (l.i ≤ l.n) × Is l.y (E.ext l.b l.a l.b l.a) × Is l.x0 (E.mul (E.ext l.a l.b l.a l.b) (power l.a l.b l.i)) × Is l.x1 (E.mul (E.ext l.b l.a l.a l.b) (power l.a l.b l.i)) × Is l.x2 (E.mul (E.ext l.a l.a l.b l.b) (power l.a l.b l.i)) × Is l.x3 (E.mul (E.ext l.b l.b l.a l.a) (power l.a l.b l.i))
+
+abbrev pub decreases-loop-i : goal.decreases-loop-i
+decreases-loop-i l = l.n - l.i

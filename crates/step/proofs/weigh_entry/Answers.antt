@@ -1,0 +1,11 @@
+use mathlib.Core.Path.{refl}
+use borrow.Author.Rules.{rules}
+use Rattle.step.proofs.weigh_entry.Goals as goal
+
+pub returns : goal.returns
+returns c = let t = c.requires.0 in
+    record {
+      e = record { canon = t.e; value = refl };
+      l = record { p = record { canon = t.l.p; value = refl }; q = record { canon = t.l.q; value = refl } };
+      r = record { p = c.times_plus-w.ensures; q = record { canon = t.r.q; value = refl } };
+    }
