@@ -35,7 +35,7 @@ pub struct Proving {
 }
 
 // How a proof is verified: whether a root over zero is refused, whether challenges are drawn, and whether 0 rounds are valid.
-#[derive(Drop)]
+#[derive(Clone, Copy)]
 pub struct Verifying {
     pub live: bool,
     pub drawn: bool,
@@ -43,7 +43,7 @@ pub struct Verifying {
 }
 
 // The list that a word stands in which is not canonical: the rows, the proof's elements, the challenges, the point of an evaluation, or a list of a helper's own.
-#[derive(Drop)]
+#[derive(Clone, Copy)]
 pub enum Words {
     Rows,
     Proof,
@@ -52,7 +52,7 @@ pub enum Words {
     Own,
 }
 
-#[derive(Drop)]
+#[derive(Clone, Copy)]
 pub enum Refusal {
     RaggedRows,
     TooManyRows,
@@ -113,7 +113,7 @@ pub enum Refusal {
 }
 
 // A refusal as document 01's table has it: its number, its plain fields and its elements in order, zero where it has none.
-#[derive(Drop)]
+#[derive(Clone, Copy)]
 pub struct Report {
     pub number: u32,
     pub first: usize,

@@ -11,7 +11,7 @@ use field::Ext;
 use refusal::Refusal;
 
 // The counts of the two lists, and the place of the first polynomial entry.
-#[derive(Drop)]
+#[derive(Clone, Copy)]
 pub struct Outline {
     pub layers: usize,
     pub entries: usize,

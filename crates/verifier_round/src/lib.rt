@@ -27,7 +27,7 @@ use stored::{LayerClaims, SubroundEvals};
 use transcript::Pos;
 
 // The claims on the two columns after a layer, and where the run stands.
-#[derive(Drop)]
+#[derive(Clone, Copy)]
 pub struct Layer {
     pub pos: Pos,
     pub numer: Ext,
@@ -51,7 +51,7 @@ pub struct Opened {
 }
 
 // What a layer ends in: the claims after it, or the check that failed and where the run stood.
-#[derive(Drop)]
+#[derive(Clone, Copy)]
 pub enum Advance {
     Next(Layer),
     Stopped { refusal: Refusal, pos: Pos },
