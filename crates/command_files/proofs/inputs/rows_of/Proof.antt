@@ -1,7 +1,7 @@
 -- `command_files::inputs::rows_of` meets its contract.
 -- Assumes nothing.
 use Rattle.command_files.proofs.Parts.{read_rows, no_rows, rows_given, rows_refused}
-use Rattle.stored_sheet.specs.SheetLaws.{read_most}
+use Rattle.stored_sheet.proofs.SheetLaws.{read_most}
 use native.Mathlib.Omega.{arith}
 use borrow.Author.Rules.{rules}
 use Rattle.command_files.proofs.inputs.rows_of.Statement.{statement}

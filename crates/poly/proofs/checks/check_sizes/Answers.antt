@@ -1,5 +1,5 @@
 use borrow.Author.Tests.{not-true, not-false}
-use Rattle.poly.specs.CheckLaws.{bad_lists, many_rounds, bad_table, many_entries, no_power, short_room, all_passed}
+use Rattle.poly.proofs.CheckLaws.{bad_lists, many_rounds, bad_table, many_entries, no_power, short_room, all_passed}
 use Rattle.poly.proofs.checks.check_sizes.Goals as goal
 
 pub returns-then-not-s : goal.returns-then-not-s
