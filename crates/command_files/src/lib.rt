@@ -1,4 +1,6 @@
 // A file read whole into a buffer, and a file written whole or not at all.
+#![tactic(auto)]
+
 ghost use Rattle.std.specs.Prelude.{◌≡◌, min, length};
 ghost use Rattle.io.specs.Counts.{IsPrefixLen};
 

@@ -1,4 +1,6 @@
 // The refusals of every call, by document 01's names, and the number and fields of each; and the limits on sizes.
+#![tactic(auto)]
+
 ghost use Rattle.std.specs.Prelude.{◌≡◌, ◌^◌};
 ghost use Rattle.refusal.specs.Limits.{max_rounds, max_rows};
 ghost use Rattle.refusal.specs.Numbers.{plain, elements, list_number, report_of};

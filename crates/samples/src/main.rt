@@ -1,4 +1,6 @@
 // The answers to sample sheets, each after the name of its file.
+#![tactic(auto)]
+
 fn more(file: i32) -> bool {
     let mut one = [0u8; 1];
     io::read_full(file, &mut one) != 0

@@ -23,4 +23,3 @@ slice_bounds-check_words-end c = sym (length-take-le _ c.args.challenges.now c.i
 
 pub check_words-requires : goal.check_words-requires
 check_words-requires c = shaped_by _ _ _ c.read_shape.ensures c.in-Good.is
-

@@ -6,4 +6,3 @@ use Rattle.verifier.proofs.check_root.Goals as goal
 
 pub returns-then-rounds-eq0 : goal.returns-then-rounds-eq0
 returns-then-rounds-eq0 c = no_rounds c.args.modes c.args.proof.now c.args.rounds c.args.outline c.requires c.if-rounds-eq0.true
-

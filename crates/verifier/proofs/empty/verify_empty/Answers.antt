@@ -13,4 +13,3 @@ returns-then-entries-ne0 c = entries_there c.args.proof.now c.args.outline c.req
 
 pub element_at-q0-requires : goal.element_at-q0-requires
 element_at-q0-requires c = omega (arith, c.requires.shaped.reads.room)
-
