@@ -1,3 +1,5 @@
+use mathlib.Core.Path.{ap}
+use mathlib.Core.Bool.{not}
 use native.Mathlib.Omega.{arith}
 use Rattle.field.specs.Base as B
 use Rattle.field.specs.Ext as E
@@ -13,3 +15,12 @@ returns-then-entries-ne0 c = entries_there c.args.proof.now c.args.outline c.req
 
 pub element_at-q0-requires : goal.element_at-q0-requires
 element_at-q0-requires c = omega (arith, c.requires.shaped.reads.room)
+
+pub returns-then-not-equals : goal.returns-then-not-equals
+unfolding E.one E.emb E.ext B.one B.nil B.of
+returns-then-not-equals c = not_one c.args.proof.now c.args.outline c.requires c.if-layers-ne0.false c.if-entries-ne0.false _ c.element_at-q0.ensures _ c.equals.ensures (ap not c.if-not-equals.true)
+
+pub returns : goal.returns
+unfolding E.one E.nil E.emb E.ext B.one B.nil B.of
+returns c = is_one c.args.proof.now c.args.outline c.requires c.if-layers-ne0.false c.if-entries-ne0.false _ c.element_at-q0.ensures _ c.equals.ensures (ap not c.if-not-equals.false)
+
