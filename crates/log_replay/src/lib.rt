@@ -13,7 +13,7 @@ use verifier::end::{at_once, copy_point};
 use verifier_round::Verdict;
 
 // How the log given compares with the log left: the same, or the refusal of the first place where it is not.
-#[derive(Drop)]
+#[derive(Clone, Copy)]
 pub enum Gap {
     Closed,
     At(Refusal),

@@ -82,5 +82,5 @@ unfolding fronts
 done_sum c r = go (first_refusal c r) refl
   where
     go : (t : Tested) → first_refusal c r ≡ t → Tells c.rows (entered c t)
-    go passed h = ran_tells c.rows _ _ (rounds_of (row_count c.rows)) (sized (row_count c.rows) (gate_opens c r h).all)
+    go passed h = ran_tells c.rows c.modes c.challenges (rounds_of (row_count c.rows)) (sized (row_count c.rows) (gate_opens c r h).all)
     go (refused e) h = λ n s d. absurd (done_refused n s e (sym d))

@@ -60,7 +60,7 @@ pub enum Advance {
 }
 
 // What the verifier answers.
-#[derive(Drop)]
+#[derive(Clone, Copy)]
 pub enum Verdict {
     Accepted { numer: Ext, denom: Ext },
     Refused(Refusal),

@@ -1,7 +1,7 @@
 -- Words and their bytes are the same thing: bytes of the words read are the bytes, words of the bytes written are the words.
 -- Assumes nothing.
-use Rattle.std.specs.Prelude.{◌≡◌, refl, List, [], ◌∷◌, ◌++◌, ℕ, zero, suc, ◌+◌, ◌*◌, ◌-◌, ◌/◌, ◌%◌, ◌<◌, ◌≤◌, length, get_or, take, drop}
-use Rattle.std.proofs.Common.{sym, ◌∙◌, ap, ap₂, div-add-mod', arith, length-append, drop-drop, get_or-drop, take-add}
+use Rattle.std.specs.Prelude.{◌≡◌, refl, List, [], ◌∷◌, ◌++◌, ℕ, zero, suc, ◌+◌, ◌*◌, ◌/◌, ◌%◌, ◌<◌, ◌≤◌, length, get_or, take, drop}
+use Rattle.std.proofs.Common.{sym, ◌∙◌, ap, ap₂, div-add-mod', arith, drop-drop, get_or-drop}
 use Rattle.std.proofs.Math.Nat.{div-div-eq-div-mul}
 use Rattle.wire.specs.Bytes.{be2, be4, half, word, words_from, elem, bytes_of, Bytes, Small}
 use Rattle.wire.specs.Words.{ext_words}

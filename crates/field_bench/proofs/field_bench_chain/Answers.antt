@@ -1,12 +1,9 @@
 use mathlib.Core.Path.{◌∙◌, ap}
-use Prim.Native.Nat.{◌-◌, ◌≤◌}
 use Rattle.field.specs.Ext as E
-use Rattle.field.specs.Element.{Is}
 use Rattle.field.specs.ElementLaws.{is_of_enc, enc_of_is}
 use Rattle.field_bench.specs.Powers.{chain}
 use Rattle.field_bench.proofs.Chaining.{start, next}
 use mathlib.Core.Path.{◌≡◌}
-use borrow.Author.Rules.{rules}
 use native.Mathlib.Omega.{arith}
 use Rattle.field_bench.proofs.field_bench_chain.Goals as goal
 

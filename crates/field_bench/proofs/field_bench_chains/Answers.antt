@@ -1,11 +1,8 @@
 use mathlib.Core.Path.{◌≡◌, ◌∙◌, ap, ap₂}
-use Prim.Native.Nat.{◌-◌, ◌≤◌}
 use Rattle.field.specs.Ext as E
-use Rattle.field.specs.Element.{Is}
 use Rattle.field.specs.ElementLaws.{is_of_enc, answer}
-use Rattle.field_bench.specs.Powers.{power, chains}
+use Rattle.field_bench.specs.Powers.{chains}
 use Rattle.field_bench.proofs.Chaining.{start, next}
-use borrow.Author.Rules.{rules}
 use native.Mathlib.Omega.{arith}
 use Rattle.field_bench.proofs.field_bench_chains.Goals as goal
 

@@ -1,6 +1,5 @@
 use Prim.Native.Nat.{◌-◌, ◌≤◌}
 use lib.ListN.{length}
-use borrow.Author.Rules.{rules}
 use Rattle.field_test.proofs.run.Given as goal
 
 abbrev pub invariant-loop-i : goal.invariant-loop-i

@@ -1,7 +1,5 @@
 use mathlib.Core.Path.{sym, ap, ◌∙◌}
-use Rattle.refusal.specs.Numbers.{plain, report_of}
-use native.Mathlib.Omega.{arith}
-use borrow.Author.Rules.{rules}
+use Rattle.refusal.specs.Numbers.{report_of}
 use Rattle.refusal.proofs.number_and_fields.Goals as goal
 
 pub returns-in-RaggedRows : goal.returns-in-RaggedRows

@@ -1,5 +1,4 @@
-use mathlib.Core.Path.{◌≡◌, refl, sym, ◌∙◌, ap}
-use Prim.Native.Nat.{ℕ, ◌+◌, ◌-◌, ◌^◌, ◌≤◌, ◌<◌}
+use mathlib.Core.Path.{refl, sym}
 use Rattle.refusal.specs.PowerLaws.{power_yes, power_between, doubled}
 use Rattle.refusal.specs.Powers.{any_power}
 use borrow.Author.Rules.{rules}

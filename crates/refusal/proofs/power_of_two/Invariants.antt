@@ -1,9 +1,5 @@
-use mathlib.Core.Path.{◌≡◌, refl, sym, ◌∙◌, ap}
-use Prim.Native.Nat.{ℕ, ◌+◌, ◌-◌, ◌^◌, ◌≤◌, ◌<◌}
-use Rattle.refusal.specs.PowerLaws.{power_yes, power_between, doubled}
-use Rattle.refusal.specs.Powers.{any_power}
-use borrow.Author.Rules.{rules}
-use native.Mathlib.Omega.{arith}
+use mathlib.Core.Path.{◌≡◌}
+use Prim.Native.Nat.{◌-◌, ◌^◌, ◌≤◌, ◌<◌}
 use Rattle.refusal.proofs.power_of_two.Given as goal
 
 abbrev pub invariant-loop-p : goal.invariant-loop-p

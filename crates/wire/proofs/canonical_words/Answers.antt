@@ -1,10 +1,5 @@
-use mathlib.Core.Path.{◌≡◌, refl, sym, ◌∙◌, ap}
-use Prim.Native.Nat.{ℕ, ◌+◌, ◌*◌, ◌-◌, ◌/◌, ◌%◌, ◌≤◌, ◌<◌}
-use lib.ListN.{length, get_or, drop, length-set}
-use Rattle.wire.specs.Bytes.{word, words_from}
-use Rattle.wire.specs.Words.{all_canonical, first_bad}
+use mathlib.Core.Path.{refl}
 use Rattle.wire.proofs.Steps.{canonical_go, canonical_stop, canonical_end}
-use borrow.Author.Rules.{rules}
 use native.Mathlib.Omega.{arith}
 use Rattle.wire.proofs.canonical_words.Goals as goal
 

@@ -1,10 +1,4 @@
-use mathlib.Core.Path.{◌≡◌, refl, sym, ◌∙◌, ap}
-use Prim.Native.Nat.{ℕ, ◌+◌, ◌*◌, ◌-◌, ◌/◌, ◌%◌, ◌≤◌, ◌<◌}
-use lib.ListN.{length, get_or, drop, length-set}
-use Rattle.wire.specs.Bytes.{word, words_from}
-use Rattle.wire.specs.Words.{all_canonical, first_bad}
 use Rattle.wire.proofs.Steps.{stored_start, stored_go, stored_stop, stored_end}
-use borrow.Author.Rules.{rules}
 use native.Mathlib.Omega.{arith}
 use Rattle.wire.proofs.first_bad_stored.Goals as goal
 

@@ -1,11 +1,8 @@
-use mathlib.Core.Path.{◌≡◌, refl, sym, ◌∙◌, ap}
-use Prim.Native.Nat.{ℕ, ◌+◌, ◌*◌, ◌-◌, ◌/◌, ◌%◌, ◌≤◌, ◌<◌}
-use lib.ListN.{length, get_or, drop, length-set}
-use Rattle.wire.specs.Bytes.{word, words_from}
-use Rattle.wire.specs.Words.{all_canonical, first_bad}
-use Rattle.wire.proofs.Steps.{stored_start, stored_go, stored_stop, stored_end}
-use borrow.Author.Rules.{rules}
-use native.Mathlib.Omega.{arith}
+use mathlib.Core.Path.{◌≡◌}
+use Prim.Native.Nat.{◌+◌, ◌*◌, ◌-◌, ◌≤◌}
+use lib.ListN.{drop}
+use Rattle.wire.specs.Bytes.{words_from}
+use Rattle.wire.specs.Words.{first_bad}
 use Rattle.wire.proofs.first_bad_stored.Given as goal
 
 abbrev pub invariant-loop-i : goal.invariant-loop-i

@@ -1,7 +1,6 @@
 use lib.ListN.{length-set}
 use Rattle.wire.proofs.Steps.{word_written}
 use native.Mathlib.Omega.{arith}
-use borrow.Author.Rules.{rules}
 use Rattle.wire.proofs.put_word.Goals as goal
 
 pub bounds-out-at-2 : goal.bounds-out-at-2

@@ -4,7 +4,6 @@ use Rattle.field.specs.Base as B
 use Rattle.field.specs.Base.{of}
 use Rattle.field.specs.BaseElement as W
 use Rattle.field.specs.ExtRing.{arithmetic}
-use borrow.Author.Rules.{rules}
 use Rattle.field_test.proofs.constants.of_base.Goals as goal
 
 pub expect-requires : goal.expect-requires

@@ -2,7 +2,6 @@ use mathlib.Core.Path.{◌∙◌, ap}
 use Rattle.field.specs.declared.Ext.{Ext}
 use Rattle.field.specs.Element.{same_words}
 use Rattle.field.specs.ExtRing.{arithmetic}
-use borrow.Author.Rules.{rules}
 use Rattle.field_test.proofs.constants.of_extension.Goals as goal
 
 pub expect-requires : goal.expect-requires
