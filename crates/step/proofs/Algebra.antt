@@ -1,7 +1,7 @@
 -- The identities behind the fast forms.
 -- Assumes nothing.
 use mathlib.Core.Path.{◌≡◌, refl, ◌∙◌}
-use mathlib.Core.List.{List, [], ◌∷◌}
+use mathlib.Core.List.{[], ◌∷◌}
 use Rattle.ring.specs.Ring.{num}
 use Rattle.ring.proofs.Quote.{ring, quote}
 use Rattle.field.specs.Base as B

@@ -1,6 +1,5 @@
 -- The model's values that the structs of this crate stand for.
 -- Assumes nothing.
-use Rattle.std.specs.Prelude.{◌≡◌}
 use Rattle.ring.specs.Ring.{num}
 use Rattle.field.specs.Ext as E
 use Rattle.field.specs.ExtRing.{ExtRing}

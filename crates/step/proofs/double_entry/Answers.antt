@@ -1,9 +1,7 @@
-use mathlib.Core.Path.{◌∙◌, ap, ap₂}
+use mathlib.Core.Path.{◌∙◌, ap}
 use Rattle.field.specs.Ext as E
 use Rattle.field.specs.Element.{dec}
 use Rattle.step.proofs.Algebra.{low_part}
-use native.Mathlib.Omega.{arith}
-use borrow.Author.Rules.{rules}
 use Rattle.step.proofs.double_entry.Goals as goal
 
 pub returns : goal.returns

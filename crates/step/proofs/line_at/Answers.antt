@@ -3,8 +3,6 @@ use Rattle.field.specs.Ext as E
 use Rattle.field.specs.ExtRing.{e_add_comm}
 use Rattle.field.specs.Element.{dec}
 use Rattle.step.proofs.Algebra.{line_turned}
-use native.Mathlib.Omega.{arith}
-use borrow.Author.Rules.{rules}
 use Rattle.step.proofs.line_at.Goals as goal
 
 pub returns : goal.returns

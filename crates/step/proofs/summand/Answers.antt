@@ -1,6 +1,4 @@
 use Rattle.step.proofs.Pairs.{summand_is}
-use native.Mathlib.Omega.{arith}
-use borrow.Author.Rules.{rules}
 use Rattle.step.proofs.summand.Goals as goal
 
 pub returns : goal.returns

@@ -1,5 +1,4 @@
 use mathlib.Core.Path.{refl}
-use borrow.Author.Rules.{rules}
 use Rattle.step.proofs.weigh_entry.Goals as goal
 
 pub returns : goal.returns

@@ -1,8 +1,6 @@
 use mathlib.Core.Path.{◌∙◌, ap}
 use Rattle.field.specs.Ext as E
 use Rattle.field.specs.Element.{dec}
-use native.Mathlib.Omega.{arith}
-use borrow.Author.Rules.{rules}
 use Rattle.step.proofs.weighed_summand.Goals as goal
 
 pub returns : goal.returns

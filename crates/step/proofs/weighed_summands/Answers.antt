@@ -1,6 +1,4 @@
 use Rattle.step.proofs.Pairs.{summands_are}
-use native.Mathlib.Omega.{arith}
-use borrow.Author.Rules.{rules}
 use Rattle.step.proofs.weighed_summands.Goals as goal
 
 pub returns : goal.returns

@@ -3,8 +3,6 @@ use Rattle.field.specs.Ext as E
 use Rattle.field.specs.ElementLaws.{is_eq}
 use Rattle.field.specs.Element.{dec}
 use Rattle.step.proofs.Algebra.{agree_steps, one_is}
-use native.Mathlib.Omega.{arith}
-use borrow.Author.Rules.{rules}
 use Rattle.step.proofs.eq.eq_step.Goals as goal
 
 pub returns : goal.returns

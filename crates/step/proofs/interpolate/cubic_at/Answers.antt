@@ -1,6 +1,5 @@
 use Rattle.field.specs.Element.{dec}
 use Rattle.step.proofs.Algebra.{cubic_steps}
-use borrow.Author.Rules.{rules}
 use Rattle.step.proofs.interpolate.cubic_at.Goals as goal
 
 pub times_plus-requires-3 : goal.times_plus-requires-3

@@ -1,6 +1,5 @@
 use Rattle.field.specs.Element.{dec}
 use Rattle.step.proofs.Algebra.{quadratic_steps}
-use borrow.Author.Rules.{rules}
 use Rattle.step.proofs.interpolate.quadratic_at.Goals as goal
 
 pub returns : goal.returns

@@ -1,6 +1,5 @@
 use Rattle.field.specs.Element.{dec}
 use Rattle.step.proofs.Algebra.{second_steps}
-use borrow.Author.Rules.{rules}
 use Rattle.step.proofs.interpolate.second_difference.Goals as goal
 
 pub returns : goal.returns
