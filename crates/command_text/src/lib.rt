@@ -1,4 +1,6 @@
 // Elements and fractions in short form, as the text reader takes them.
+#![tactic(auto)]
+
 use field::{Base, Ext};
 use step::Frac;
 

@@ -113,7 +113,7 @@ pub enum Refusal {
 }
 
 // A refusal as document 01's table has it: its number, its plain fields and its elements in order, zero where it has none.
-#[derive(Drop)]
+#[derive(Clone, Copy)]
 pub struct Report {
     pub number: u32,
     pub first: usize,
