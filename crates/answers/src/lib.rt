@@ -1,4 +1,6 @@
 // The lines that programs print of a run: counts, sum, claims and point.
+#![tactic(auto)]
+
 use field::Ext;
 use step::Frac;
 

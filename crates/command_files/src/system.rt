@@ -11,7 +11,9 @@ use std::rt::Files;
 
 // What the system calls a file that is there, a name that is none, and a name that is no text.
 const EXISTS: i32 = 17;
+
 const INVALID: i32 = 22;
+
 const NO_TEXT: i32 = 84;
 
 // The system's words for an error, without their number.
