@@ -12,14 +12,14 @@ import re
 import subprocess
 import sys
 
-NAME = r"[^\s(){}.;,@\"«»\[\]\\λ|]+"
+NAME = r"[^\s(){}.;,@\"«»⟪⟫\[\]\\λ|]+"
 TOKEN = re.compile(r"--[^\n]*|\"(?:[^\"\\]|\\.)*\"|" + NAME + r"|[\s\S]")
 HEAD = re.compile(r"^(?:pub )?(?:abbrev )?(?:pub )?(?:private )?(" + NAME + r")\s*:\s*([\s\S]*)")
 COMMON = set()
 
 
-# The names of the clauses `ensures` of each function of the repository that has two or more.
-def clauses_of(top):
+# The names of the named clauses of a kind, of each function of the repository.
+def clauses_of(top, kind):
     out = {}
     for crate in sorted(os.listdir(os.path.join(top, "crates"))):
         src = os.path.join(top, "crates", crate, "src")
@@ -41,17 +41,17 @@ def clauses_of(top):
                     m = re.match(r"\s*(?:pub(?:\([^)]*\))? )?(?:unsafe )?(?:extern \"C\" )?(?:const )?fn (\w+)", line)
                     if m:
                         fn = [crate] + ([owner] if owner else module) + [m.group(1)]
-                    m = re.match(r"\s*ensures (\w+) \{", line)
+                    m = re.match(r"\s*" + kind + r" (\w+) \{", line)
                     if m and fn:
                         out.setdefault("::".join(fn), []).append(m.group(1))
-    return {f: names for f, names in out.items() if len(names) > 1}
+    return out
 
 
-ENSURES = {}
+ENSURES, REQUIRES = {}, {}
 
 
 def alike(name):
-    return re.sub(r"[-_]", "", name)
+    return re.sub(r"[-_]", "", name).lower()
 
 
 def said(text):
@@ -71,9 +71,21 @@ class Function:
         for (old, new), at in zip(of["needs"], of["asked_at"]):
             self.needs[alike(old)] = (new, at[0])
         self.settled = {alike(it) for it in of.get("settled", [])}
-        self.pre = (of.get("pre") or {}).get("fields") if of.get("pre") else None
+        self.pre = REQUIRES.get("::".join([crate] + path.split("/")))
         self.asked = of.get("asked", {})
         self.loops = {alike(l[0][0]): (l[0][1], l[1], ch) for l, ch in zip(of["loops"], of["changed"])}
+
+    # What the first arm of that variant binds.
+    def bound(self, variant):
+        name = self.path.split("/")[-1]
+        for folder, _, files in os.walk(os.path.join("crates", self.crate, "src")):
+            for it in files:
+                with open(os.path.join(folder, it), encoding="utf-8") as file:
+                    m = re.search(r"\bfn " + name + r"\b[\s\S]*?\n *\{\n([\s\S]*?)\n(?:    )?\}\n", file.read())
+                arm = m and re.search(r"::" + re.sub(r"-\d+$", "", variant) + r"\s*[({]([^)}]*)[)}]", m.group(1))
+                if arm:
+                    return [b.strip().split(":")[-1].strip() for b in arm.group(1).split(",") if b.strip()]
+        return []
 
     def up(self, place, n):
         for _ in range(n):
@@ -83,6 +95,7 @@ class Function:
     # The place, from `place` upwards, at which the step has that label.
     def step(self, place, label):
         at = place
+        label = {"is_IsWord": "is_word"}.get(label, re.sub(r"_lem$", "", label))  # what port.py made of the labels
         while at:
             if alike(self.label[at][0]) == alike(label) and self.label[at][0]:
                 return at
@@ -116,9 +129,11 @@ def turn_path(f, place, path, env):
     if not rest:
         return ("place", at)
     field = rest[0]
-    if field in ("args", "ranges", "well_formed", "lifetimes", "utf8", "type_inv"):
-        return ("text", ".".join(["c"] + rest))
+    if field.replace("-", "_") in ("args", "ranges", "well_formed", "lifetimes", "utf8", "type_inv"):
+        return ("text", ".".join(["c", field.replace("-", "_")] + rest[1:]))
     if field == "requires":
+        if not rest[1:] and not env.get("raw"):
+            return ("text", whole("c.requires", f.pre))
         return ("text", "c.requires" + names_of(rest[1:], f.pre))
     where = f.step(at, field) if at else None
     if where is None:
@@ -129,12 +144,20 @@ def turn_path(f, place, path, env):
     new = f.label[where][1]
     out = ["c", new]
     rest = rest[1:]
-    if rest[:2] == ["given", "1"]:
+    if rest[:2] in (["given", "1"], ["given", "0"]):
         arm = where
         while arm and not f.label[arm][1].startswith("in-"):
             arm = f.parent.get(arm)
-        if arm:
+        if arm and rest[1] == "1":
             return ("text", ".".join(["c", f.label[arm][1], "is"] + rest[2:]))
+        k = 2
+        while rest[k : k + 1] == ["1"]:
+            k += 1
+        bound = f.bound(f.label[arm][1][3:]) if arm else []
+        if rest[k : k + 1] == ["0"] and k - 2 < len(bound):
+            return ("text", ".".join(["c", f.label[arm][1], bound[k - 2]] + rest[k + 1 :]))
+    if rest == ["ensures"] and not env.get("raw"):
+        return ("text", whole(".".join(out) + ".ensures", ENSURES.get(f.callee[where])))
     if rest and rest[0] == "ensures":
         return ("text", ".".join(out) + ".ensures" + names_of(rest[1:], ENSURES.get(f.callee[where])))
     if rest and rest[0] == "new" and len(rest) > 1 and rest[1] in ("0", "1"):
@@ -145,8 +168,33 @@ def turn_path(f, place, path, env):
     return ("text", ".".join(out + rest))
 
 
+# All of a contract of named clauses, as the older Rattle had it.
+def whole(head, names):
+    return head if not names else head + "." + names[0] if len(names) == 1 else "⟪" + ", ".join(head + "." + n for n in names) + "⟫"
+
+
+# Such a whole is a tuple, and in a tactic's list its parts.
+def settle(text):
+    out, stack, last = [], [], ""
+    for t in TOKEN.findall(text):
+        if t in "([{":
+            stack.append(last in ("omega", "grind", "cc", "search", "simp", "rw"))
+        elif t in ")]}" and stack:
+            stack.pop()
+        if t == "⟪":
+            t = "" if stack and stack[-1] else "("
+        elif t == "⟫":
+            t = "" if stack and stack[-1] else ")"
+        out.append(t)
+        if t.strip():
+            last = t
+    return "".join(out)
+
+
 def names_of(path, names):
-    if names and len(names) > 1:
+    if names and not path:
+        return ""
+    if names:
         got, k = part(path, names)
         if got:
             return "".join("." + it for it in [got] + path[k:])
@@ -198,6 +246,7 @@ def turn_body(f, place, body, subst=None):
                 j += 2
             if t in env and env[t][0] == "place":
                 if path:
+                    env["raw"] = j + 1 < len(tokens) and "".join(tokens[j : j + 3]).strip().startswith("in") and re.search(r"let " + NAME + r" = $", "".join(text))
                     r = turn_path(f, env[t][1], path, env)
                     text.append("c" if r[0] == "place" else r[1])
                     i = j
@@ -205,8 +254,8 @@ def turn_body(f, place, body, subst=None):
                 text.append("c")
                 i += 1
                 continue
-            if t in parts and path:
-                text.append(t + names_of(path, parts[t]))
+            if t in parts and "".join(text[-2:]) != "let ":
+                text.append(t + names_of(path, parts[t]) if path else whole(t, parts[t]))
                 i = j
                 continue
             if subst and t in subst:
@@ -215,7 +264,7 @@ def turn_body(f, place, body, subst=None):
                 continue
         text.append(t)
         i += 1
-    return re.sub(r"\(not-(?:true|false) _ (c\.[^\s()]+)\)", r"\1", "".join(text))
+    return re.sub(r"\(not-(?:true|false) (?:_|c\.[\w.-]+) (c\.[^\s()]+)\)", r"\1", settle("".join(text)))
 
 
 def top_commas(text):
@@ -228,7 +277,7 @@ def top_commas(text):
         elif ch == "," and depth == 0:
             out.append(text[at:i])
             at = i + 1
-    return out + [text[at:]]
+    return out + [text[at:]] if text[at:].strip() else out
 
 
 # A tuple of n parts at the end of a body into a record of the names.
@@ -242,6 +291,8 @@ def as_record(body, names):
             break
         lets += m.group(1)
         text = text[m.end() :]
+    if len(names) == 1:
+        return lets + "record { " + names[0] + " = " + text + " }"
     if not (text.startswith("(") and text.endswith(")")):
         return None
     depth = 0
@@ -257,7 +308,7 @@ def as_record(body, names):
             break
         if len(flat) + len(inner) > len(names):
             keep = len(names) - len(flat) - 1
-            flat += inner[:keep] + ["(" + ",".join(inner[keep:]).strip() + ")"]
+            flat += inner[:keep] + ["(" + ",".join(inner[keep:]).strip() + ")" if len(inner) > keep + 1 else inner[keep]]
             break
         last = inner[-1].strip()
         flat += inner[:-1]
@@ -361,12 +412,13 @@ def turn(crate, path, of, top):
             if "κs" in b:
                 said(f"{path}: κs in {name}")
             names = f.asked.get(new) or f.asked.get(m.group(1))
-            if names and len(names) > 1:
+            if names:
                 r = as_record(b, names)
                 if r:
                     b = r
                 else:
-                    said(f"{path}: {new} covers {names}")
+                    steps = ["".join(".1" for _ in range(i)) + (".0" if i < len(names) - 1 else "") for i in range(len(names))]
+                    b = "let whole = " + b.strip() + " in record { " + "; ".join(f"{n} = whole{p}" for n, p in zip(names, steps)) + " }"
             answers.append("".join(l + "\n" for l in d["note"]) + f"pub {new} : goal.{new}\n{unfold}{new} {' '.join(params)} = {b.strip()}\n")
             continue
         note = "".join(l + "\n" for l in d["note"])
@@ -392,7 +444,8 @@ def turn(crate, path, of, top):
 def main(argv):
     room, crates = argv[0], argv[1:]
     top = os.getcwd()
-    ENSURES.update(clauses_of(top))
+    ENSURES.update(clauses_of(top, "ensures"))
+    REQUIRES.update(clauses_of(top, "requires"))
     for c in crates:
         to = os.path.join(room, c)
         os.makedirs(to, exist_ok=True)

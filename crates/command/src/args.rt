@@ -51,7 +51,14 @@ fn prove_named(rt: &impl Files, args: &[u8], o: Options) {
         drawn: o.flags.drawn,
         sized: o.flags.sized,
     };
-    prove(rt, &args[a..b], &args[c..d], &args[e..f], modes, &args[g..h]);
+    prove(
+        rt,
+        &args[a..b],
+        &args[c..d],
+        &args[e..f],
+        modes,
+        &args[g..h],
+    );
 }
 
 fn run_prove(rt: &impl Files, args: &[u8], n: usize) {

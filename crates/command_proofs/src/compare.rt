@@ -58,13 +58,7 @@ fn print_comparison(rows: &[u32], point: &[u32], rounds: usize, stated: Frac) {
 }
 
 // The name of the sheet, an empty one for none; the front of the point is that of an accepted proof.
-pub fn compare_sheet(
-    rt: &impl Files,
-    sheet: &[u8],
-    point: &[u32],
-    rounds: usize,
-    stated: Frac,
-) {
+pub fn compare_sheet(rt: &impl Files, sheet: &[u8], point: &[u32], rounds: usize, stated: Frac) {
     if sheet.len() == 0 {
         return;
     }
