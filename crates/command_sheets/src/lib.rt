@@ -1,4 +1,6 @@
 // `show SHEET`: the fraction tree. `make TEXT SHEET`: a list of fractions becomes a sheet.
+#![tactic(auto)]
+
 use crate::levels::show_rows;
 use command_files::{After, inputs};
 use command_text::print;

@@ -1,4 +1,6 @@
 // The answers to sample sheets, each after the name of its file.
+#![tactic(auto)]
+
 use command_files::system::{open_read, read_full, tell};
 use std::io::Read;
 use std::rt::Files;

@@ -1,4 +1,6 @@
 // `sheetproof`: proves and verifies sheets, shows their fraction tree, and makes them from text.
+#![tactic(auto)]
+
 ghost use Rattle.std.specs.Prelude.{◌≤◌, length};
 ghost use Rattle.io.specs.Counts.{IsPrefixLen};
 

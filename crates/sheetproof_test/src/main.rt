@@ -1,5 +1,7 @@
 // Runs the command lines of standard input, words with single spaces between them, and prints each before its answer;
 // `size NAME` prints the bytes of a file. Then the words of each refusal are printed.
+#![tactic(auto)]
+
 ghost use Rattle.io.specs.Counts.{IsPrefixLen};
 
 use command_files::system::{open_read, read_full};
