@@ -47,7 +47,21 @@ def clauses_of(top, kind):
     return out
 
 
-ENSURES, REQUIRES = {}, {}
+# The parameters that each function is lent as `&mut`, in order.
+def lent_of(top):
+    out = {}
+    for folder, _, files in os.walk(os.path.join(top, "crates")):
+        if "/src" not in folder:
+            continue
+        for name in files:
+            if name.endswith(".rt"):
+                with open(os.path.join(folder, name), encoding="utf-8") as it:
+                    for m in re.finditer(r"\bfn (\w+)(?:<[^>]*>)?\(([^)]*)\)", it.read()):
+                        out.setdefault(m.group(1), re.findall(r"(\w+): &(?:'\w+ )?mut\b", m.group(2)))
+    return out
+
+
+ENSURES, REQUIRES, LENT = {}, {}, {}
 
 
 def alike(name):
@@ -72,7 +86,7 @@ class Function:
             self.needs[alike(old)] = (new, at[0])
         self.settled = {alike(it) for it in of.get("settled", [])}
         self.pre = REQUIRES.get("::".join([crate] + path.split("/")))
-        self.asked = of.get("asked", {})
+        self.asked = {alike(k): v for k, v in of.get("asked", {}).items()}
         self.loops = {alike(l[0][0]): (l[0][1], l[1], ch) for l, ch in zip(of["loops"], of["changed"])}
 
     # What the first arm of that variant binds.
@@ -100,7 +114,8 @@ class Function:
             if alike(self.label[at][0]) == alike(label) and self.label[at][0]:
                 return at
             at = self.parent.get(at)
-        return None
+        all_ = [p for p in self.label if self.label[p][0] and alike(self.label[p][0]) == alike(label)]
+        return all_[0] if len({self.label[p][1] for p in all_}) == 1 else None
 
 
 # .0, .1.0, .1.1.0, .., .1.1.1 into the names of n parts; how many of the steps that took.
@@ -160,6 +175,11 @@ def turn_path(f, place, path, env):
         return ("text", whole(".".join(out) + ".ensures", ENSURES.get(f.callee[where])))
     if rest and rest[0] == "ensures":
         return ("text", ".".join(out) + ".ensures" + names_of(rest[1:], ENSURES.get(f.callee[where])))
+    if rest and rest[0] == "auto" and len(rest) > 1 and rest[1] in ("0", "1"):
+        got, k = part(rest[1:], LENT.get((f.callee[where] or "").split("::")[-1], []))
+        if got:
+            k += rest[1 + k : 2 + k] == ["0"] and not (k and rest[k] == "0")
+            return ("text", ".".join(out + ["auto", got] + rest[1 + k :]))
     if rest and rest[0] == "new" and len(rest) > 1 and rest[1] in ("0", "1"):
         params = f.of["params"].get(f.callee[where] or "", [])
         got, k = part(rest[1:], params)
@@ -264,7 +284,12 @@ def turn_body(f, place, body, subst=None):
                 continue
         text.append(t)
         i += 1
-    return re.sub(r"\(not-(?:true|false) (?:_|c\.[\w.-]+) (c\.[^\s()]+)\)", r"\1", settle("".join(text)))
+    return re.sub(r"\(?\bnot-(?:true|false) (?:_|[\w.'-]+) (c\.[\w.'-]+)(\)?)", not_not, settle("".join(text)))
+
+
+# A test of `!f(x)` says today what f(x) is.
+def not_not(m):
+    return m[1] if m[0][0] == "(" and m[2] else ("(" if m[0][0] == "(" else "") + m[1] + m[2]
 
 
 def top_commas(text):
@@ -411,11 +436,13 @@ def turn(crate, path, of, top):
             b = turn_body(f, place, m2.group(2))
             if "κs" in b:
                 said(f"{path}: κs in {name}")
-            names = f.asked.get(new) or f.asked.get(m.group(1))
+            names = f.asked.get(alike(m.group(1))) or f.asked.get(alike(new))
             if names:
                 r = as_record(b, names)
                 if r:
                     b = r
+                elif re.match(r"(search|omega|grind|cc)\b", b.strip()):
+                    b = "record { " + "; ".join(f"{n} = {b.strip()}" for n in names) + " }"
                 else:
                     steps = ["".join(".1" for _ in range(i)) + (".0" if i < len(names) - 1 else "") for i in range(len(names))]
                     b = "let whole = " + b.strip() + " in record { " + "; ".join(f"{n} = whole{p}" for n, p in zip(names, steps)) + " }"
@@ -444,6 +471,7 @@ def turn(crate, path, of, top):
 def main(argv):
     room, crates = argv[0], argv[1:]
     top = os.getcwd()
+    LENT.update(lent_of(top))
     ENSURES.update(clauses_of(top, "ensures"))
     REQUIRES.update(clauses_of(top, "requires"))
     for c in crates:

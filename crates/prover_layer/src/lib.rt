@@ -21,7 +21,7 @@ pub struct Pair {
 }
 
 // What a sub-round begins with: eq of the coordinates and challenges before it, the old point's coordinate, and the values at 0 and 1 of the sum h.
-#[derive(Drop)]
+#[derive(Clone, Copy)]
 pub struct Turn {
     pub c: Ext,
     pub x: Ext,

@@ -13,7 +13,7 @@ use keccak::{Lanes, permute};
 mod padded; // the padded message, lane by lane
 
 // The state after whole blocks of a message, and how many blocks.
-#[derive(Drop)]
+#[derive(Clone, Copy)]
 pub struct Sponge {
     pub lanes: Lanes,
     pub blocks: usize,

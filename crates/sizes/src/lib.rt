@@ -5,7 +5,7 @@ ghost use Rattle.refusal.specs.Limits.{max_rounds};
 ghost use Rattle.sizes.specs.Sizes.{rounds_of, is_size, needed_words, log_room, work_room};
 
 // n rounds, and the 2^n rows that they take.
-#[derive(Drop)]
+#[derive(Clone, Copy)]
 pub struct Size {
     pub n: usize,
     pub rows: usize,

@@ -1,0 +1,19 @@
+use borrow.Author.Rules.{rules}
+use Prim.Native.Nat.{◌≤◌, ◌-◌}
+use mathlib.Core.Path.{◌≡◌}
+use lib.ListN.{length}
+use Rattle.prover_layer.specs.Passes.{Risen}
+use Rattle.prover_layer.proofs.Passing.{rises_none, rises_next}
+use native.Mathlib.Omega.{arith}
+use Rattle.prover_layer.proofs.passes.differences.Goals as goal
+
+pub loop-y-init : goal.loop-y-init
+loop-y-init c = (search rules, search rules, rises_none _ _ (search rules))
+
+pub loop-y-preserved : goal.loop-y-preserved
+loop-y-preserved c = let l = c.loop-y in
+    (search rules, search rules, rises_next _ l.work _ _ l.y l.invariant.2 c.rise_entry.ensures)
+
+pub returns : goal.returns
+returns c = let e : c.loop-y.y ≡ c.args.half = omega arith in
+    rw e at c.loop-y.invariant.2

@@ -1,0 +1,10 @@
+use mathlib.Core.Path.{◌≡◌, refl, sym, ◌∙◌, ap}
+use Prim.Native.Nat.{ℕ, ◌+◌, ◌*◌, ◌-◌, ◌≤◌, ◌<◌}
+use lib.ListN.{length, get_or, drop}
+use Rattle.stored.proofs.ShapeLaws.{claims_read}
+use native.Mathlib.Omega.{arith}
+use borrow.Author.Rules.{rules}
+use Rattle.stored.proofs.read_claims.Goals as goal
+
+pub returns : goal.returns
+returns c = claims_read c.args.proof.now c.args.at _ _ _ _ c.element_at.ensures c.element_at-2.ensures c.element_at-3.ensures c.element_at-4.ensures
