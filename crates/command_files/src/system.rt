@@ -44,6 +44,7 @@ fn as_text(path: &[u8]) -> Result<&str, Error> {
     }
 }
 
+// The file, to be read from its start.
 pub fn open_read<R: Files>(rt: &R, path: &[u8]) -> Result<R::File, Error> {
     fs::open(rt, as_text(path)?)
 }
@@ -83,7 +84,7 @@ fn put_number(name: &mut [u8], number: u32)
 }
 
 // A new file, whose name gets the first number in its last six bytes that makes it new.
-pub fn create_temp<R: Files>(rt: &R, name: &mut [u8]) -> Result<R::File, Error> {
+pub(crate) fn create_temp<R: Files>(rt: &R, name: &mut [u8]) -> Result<R::File, Error> {
     if name.len() < 6 {
         return Err(Error::from_raw_os_error(INVALID));
     }
@@ -102,16 +103,18 @@ pub fn create_temp<R: Files>(rt: &R, name: &mut [u8]) -> Result<R::File, Error> 
 }
 
 // All bytes go into the file, which is closed. A close tells no failure here, so that the bytes are synced before it.
-pub fn fill<F: Write + OpenFile + Drop>(file: F, bytes: &[u8]) -> Result<(), Error> {
+pub(crate) fn fill<F: Write + OpenFile + Drop>(file: F, bytes: &[u8]) -> Result<(), Error> {
     let mut file = file;
     file.write_all(bytes)?;
     file.sync_all()
 }
 
-pub fn rename(rt: &impl Files, from: &[u8], to: &[u8]) -> Result<(), Error> {
+// The first name's file takes the second.
+pub(crate) fn rename(rt: &impl Files, from: &[u8], to: &[u8]) -> Result<(), Error> {
     fs::rename(rt, as_text(from)?, as_text(to)?)
 }
 
-pub fn remove(rt: &impl Files, path: &[u8]) -> Result<(), Error> {
+// The name is no file's any more.
+pub(crate) fn remove(rt: &impl Files, path: &[u8]) -> Result<(), Error> {
     fs::remove_file(rt, as_text(path)?)
 }
