@@ -47,7 +47,7 @@ def clauses_of(top, kind):
     return out
 
 
-# The parameters that each function is lent as `&mut`, in order.
+# The parameters of each function of which a step tells something: what is lent as `&mut`, and structs, in order.
 def lent_of(top):
     out = {}
     for folder, _, files in os.walk(os.path.join(top, "crates")):
@@ -57,7 +57,7 @@ def lent_of(top):
             if name.endswith(".rt"):
                 with open(os.path.join(folder, name), encoding="utf-8") as it:
                     for m in re.finditer(r"\bfn (\w+)(?:<[^>]*>)?\(([^)]*)\)", it.read()):
-                        out.setdefault(m.group(1), re.findall(r"(\w+): &(?:'\w+ )?mut\b", m.group(2)))
+                        out.setdefault(m.group(1), re.findall(r"(\w+): (?:&(?:'\w+ )?mut\b|[A-Z])", m.group(2)))
     return out
 
 
@@ -179,11 +179,13 @@ def turn_path(f, place, path, env):
         got, k = part(rest[1:], LENT.get((f.callee[where] or "").split("::")[-1], []))
         if got:
             k += rest[1 + k : 2 + k] == ["0"] and not (k and rest[k] == "0")
+            # with one thing told, or the last
             return ("text", ".".join(out + ["auto", got] + rest[1 + k :]))
     if rest and rest[0] == "new" and len(rest) > 1 and rest[1] in ("0", "1"):
         params = f.of["params"].get(f.callee[where] or "", [])
         got, k = part(rest[1:], params)
         if got:
+            k += got == params[-1] and rest[1 + k : 2 + k] == ["0"]
             return ("text", ".".join(out + ["new", got] + rest[1 + k :]))
     return ("text", ".".join(out + rest))
 
@@ -226,7 +228,7 @@ LETV = re.compile(r"let (" + NAME + r") = (" + NAME + r")((?:\." + NAME + r")*) 
 
 
 def turn_body(f, place, body, subst=None):
-    env = {"c": ("place", place, [])}
+    env = {} if subst else {"c": ("place", place, [])}
     parts = {}
     out = []
     tokens = [t for t in TOKEN.findall(body)]
@@ -274,7 +276,7 @@ def turn_body(f, place, body, subst=None):
                 text.append("c")
                 i += 1
                 continue
-            if t in parts and "".join(text[-2:]) != "let ":
+            if t in parts and "".join(text[-2:]) != "let " and "".join(tokens[i + 1 : i + 3]) not in (" =", " :"):
                 text.append(t + names_of(path, parts[t]) if path else whole(t, parts[t]))
                 i = j
                 continue
@@ -284,6 +286,7 @@ def turn_body(f, place, body, subst=None):
                 continue
         text.append(t)
         i += 1
+    text = [re.sub(r"\A(?!c\.|goal\.)([a-z][\w']{0,3})\.([a-z]\w*(?:-[a-z]\w*)+)\Z", lambda m: m[1] + "." + m[2].replace("-", "_"), t) for t in text]
     return re.sub(r"\(?\bnot-(?:true|false) (?:_|[\w.'-]+) (c\.[\w.'-]+)(\)?)", not_not, settle("".join(text)))
 
 

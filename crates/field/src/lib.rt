@@ -12,7 +12,7 @@ mod extension; // Ext: the public operations
 mod tests; // Ext: equality, zero, canonical
 
 // An element of the base field: the remainder of its word.
-#[derive(Drop)]
+#[derive(Clone, Copy)]
 pub struct Base {
     pub value: u32,
 }

@@ -26,7 +26,7 @@ pub fn most_rows() -> usize
 }
 
 // How a sheet is proved: whether a row over zero is refused, whether the sum's numerator must be zero, whether challenges are drawn, and whether the proof binds its size.
-#[derive(Drop)]
+#[derive(Clone, Copy)]
 pub struct Proving {
     pub live: bool,
     pub assert_zero: bool,

@@ -25,7 +25,7 @@ pub enum Shape {
 }
 
 // The claims of a layer, and the polynomial of a sub-round, their words not yet checked.
-#[derive(Drop)]
+#[derive(Clone, Copy)]
 pub struct LayerClaims {
     pub p_xi_0: Ext,
     pub q_xi_0: Ext,
@@ -33,7 +33,7 @@ pub struct LayerClaims {
     pub q_xi_1: Ext,
 }
 
-#[derive(Drop)]
+#[derive(Clone, Copy)]
 pub struct SubroundEvals {
     pub s_1: Ext,
     pub s_2: Ext,

@@ -14,7 +14,7 @@ use shake::Sponge;
 
 // How many words of the log are written, how many challenges are used, whether they are drawn, and how many whole blocks of label and log were taken in,
 // by a sponge whose lanes are lent beside the log.
-#[derive(Drop)]
+#[derive(Clone, Copy)]
 pub struct Pos {
     pub put: usize,
     pub used: usize,

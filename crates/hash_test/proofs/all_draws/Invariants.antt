@@ -1,0 +1,14 @@
+use mathlib.Core.Path.{◌≡◌, refl}
+use Prim.Native.Nat.{◌≤◌, ◌-◌}
+use lib.ListN.{length, take, length-take}
+use native.Mathlib.Omega.{arith}
+use Rattle.shake.specs.Drawn.{message, Holds}
+use Rattle.shake.proofs.SpongeLaws.{holds_next}
+use borrow.Author.Rules.{rules}
+use Rattle.hash_test.proofs.all_draws.Given as goal
+
+abbrev pub invariant-loop-n : goal.invariant-loop-n
+invariant-loop-n l = (l.n ≤ l.n-end) × (l.n-end ≡ length l.words) × Holds l.s (message l.label (take l.n l.words))
+
+abbrev pub decreases-loop-n : goal.decreases-loop-n
+decreases-loop-n l = l.n-end - l.n

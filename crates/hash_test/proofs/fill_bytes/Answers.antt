@@ -1,0 +1,15 @@
+use mathlib.Core.Path.{◌≡◌}
+use Prim.Native.Nat.{◌≤◌, ◌-◌}
+use lib.ListN.{length}
+use native.Mathlib.Omega.{arith}
+use borrow.Author.Rules.{rules}
+use Rattle.hash_test.proofs.fill_bytes.Goals as goal
+
+pub bounds-m-i : goal.bounds-m-i
+bounds-m-i c = omega arith
+
+pub overflow_step-i : goal.overflow_step-i
+overflow_step-i c = omega arith
+
+pub loop-i-smaller : goal.loop-i-smaller
+loop-i-smaller c = omega arith

@@ -1,0 +1,12 @@
+use mathlib.Core.Path.{sym, ◌∙◌, ap}
+use Rattle.field.specs.Element.{canon_words}
+use Rattle.poly.specs.declared.Outcome.TheVariants.{Done}
+use Rattle.poly.specs.Checks.{and_words}
+use borrow.Author.Rules.{rules}
+use Rattle.poly.proofs.checks.check_element.Goals as goal
+
+pub returns-in-Refused : goal.returns-in-Refused
+returns-in-Refused c = sym (ap (λ o. and_words o (canon_words c.args.e)) c.in-Refused.is)
+
+pub returns-in-Done : goal.returns-in-Done
+returns-in-Done c = c.words_found.ensures ∙ ap (and_words Done) c.is_canonical.ensures ∙ sym (ap (λ o. and_words o (canon_words c.args.e)) c.in-Done.is)
