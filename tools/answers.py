@@ -47,21 +47,7 @@ def clauses_of(top, kind):
     return out
 
 
-# The parameters of each function of which a step tells something: what is lent as `&mut`, and structs, in order.
-def lent_of(top):
-    out = {}
-    for folder, _, files in os.walk(os.path.join(top, "crates")):
-        if "/src" not in folder:
-            continue
-        for name in files:
-            if name.endswith(".rt"):
-                with open(os.path.join(folder, name), encoding="utf-8") as it:
-                    for m in re.finditer(r"\bfn (\w+)(?:<[^>]*>)?\(([^)]*)\)", it.read()):
-                        out.setdefault(m.group(1), re.findall(r"(\w+): (?:&(?:'\w+ )?mut\b|[A-Z])", m.group(2)))
-    return out
-
-
-ENSURES, REQUIRES, LENT = {}, {}, {}
+ENSURES, REQUIRES = {}, {}
 
 
 def alike(name):
@@ -176,10 +162,10 @@ def turn_path(f, place, path, env):
     if rest and rest[0] == "ensures":
         return ("text", ".".join(out) + ".ensures" + names_of(rest[1:], ENSURES.get(f.callee[where])))
     if rest and rest[0] == "auto" and len(rest) > 1 and rest[1] in ("0", "1"):
-        got, k = part(rest[1:], LENT.get((f.callee[where] or "").split("::")[-1], []))
+        params = f.of["params"].get(f.callee[where] or "", [])
+        got, k = part(rest[1:], params)
         if got:
-            k += rest[1 + k : 2 + k] == ["0"] and not (k and rest[k] == "0")
-            # with one thing told, or the last
+            k += got == params[-1] and rest[1 + k : 2 + k] == ["0"]
             return ("text", ".".join(out + ["auto", got] + rest[1 + k :]))
     if rest and rest[0] == "new" and len(rest) > 1 and rest[1] in ("0", "1"):
         params = f.of["params"].get(f.callee[where] or "", [])
@@ -229,7 +215,7 @@ LETV = re.compile(r"let (" + NAME + r") = (" + NAME + r")((?:\." + NAME + r")*) 
 
 def turn_body(f, place, body, subst=None):
     env = {} if subst else {"c": ("place", place, [])}
-    parts = {}
+    parts, autos = {}, {}
     out = []
     tokens = [t for t in TOKEN.findall(body)]
     i = 0
@@ -253,6 +239,13 @@ def turn_body(f, place, body, subst=None):
                 # an alias of a contract with named clauses
                 if path and path[-1] == "requires" and f.pre:
                     parts[m.group(1)] = f.pre
+                elif path and path[-1] == "auto":
+                    ups = 0
+                    while path[ups] == "before":
+                        ups += 1
+                    w = f.step(f.up(env[m.group(2)][1], ups) or env[m.group(2)][1], path[ups])
+                    if w and f.of["params"].get(f.callee[w] or ""):
+                        autos[m.group(1)] = f.of["params"][f.callee[w]]
                 elif path and path[-1] == "ensures":
                     ups = 0
                     while path[ups] == "before":
@@ -276,6 +269,13 @@ def turn_body(f, place, body, subst=None):
                 text.append("c")
                 i += 1
                 continue
+            if t in autos and path[:1] in (["0"], ["1"]):
+                got, k = part(path, autos[t])
+                if got:
+                    k += got == autos[t][-1] and path[k : k + 1] == ["0"]
+                    text.append(".".join([t, got] + path[k:]))
+                    i = j
+                    continue
             if t in parts and "".join(text[-2:]) != "let " and "".join(tokens[i + 1 : i + 3]) not in (" =", " :"):
                 text.append(t + names_of(path, parts[t]) if path else whole(t, parts[t]))
                 i = j
@@ -286,7 +286,7 @@ def turn_body(f, place, body, subst=None):
                 continue
         text.append(t)
         i += 1
-    text = [re.sub(r"\A(?!c\.|goal\.)([a-z][\w']{0,3})\.([a-z]\w*(?:-[a-z]\w*)+)\Z", lambda m: m[1] + "." + m[2].replace("-", "_"), t) for t in text]
+    text = [re.sub(r"(?<![\w.'-])(?!c\.|goal\.)([a-z][\w']{0,3})\.([a-z]\w*(?:-[a-z]\w*)+)", lambda m: m[1] + "." + m[2].replace("-", "_"), "".join(text))]
     return re.sub(r"\(?\bnot-(?:true|false) (?:_|[\w.'-]+) (c\.[\w.'-]+)(\)?)", not_not, settle("".join(text)))
 
 
@@ -474,7 +474,6 @@ def turn(crate, path, of, top):
 def main(argv):
     room, crates = argv[0], argv[1:]
     top = os.getcwd()
-    LENT.update(lent_of(top))
     ENSURES.update(clauses_of(top, "ensures"))
     REQUIRES.update(clauses_of(top, "requires"))
     for c in crates:

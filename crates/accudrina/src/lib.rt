@@ -1,4 +1,6 @@
 // The functions that C and Rust call: a number is returned, and sixteen words of answer are written.
+#![tactic(auto)]
+
 ghost use Rattle.std.specs.Prelude.{◌≡◌};
 ghost use Rattle.prover_gate.specs.Refusals.{call};
 ghost use Rattle.prover.specs.Proved.{lent};

@@ -21,9 +21,9 @@ use Rattle.gkr.specs.Tests.{fail}
 use Rattle.gkr.specs.Tree as Tree
 use Rattle.gkr.specs.Gkr as Gkr
 use Rattle.gkr.specs.Gkr.{done, accepted}
-use Rattle.gkr.specs.Honest as Honest
-use Rattle.gkr.specs.Count as Count
-use Rattle.gkr.specs.TranscriptLaws as TranscriptLaws
+use Rattle.gkr.proofs.Honest as Honest
+use Rattle.gkr.proofs.Count as Count
+use Rattle.gkr.proofs.TranscriptLaws as TranscriptLaws
 use Rattle.transcript.specs.Log.{Drawing}
 use Rattle.transcript.specs.Bound.{bound}
 use Rattle.transcript.specs.Source as Source
@@ -31,7 +31,7 @@ use Rattle.sizes.specs.SizeLaws.{counted}
 use Rattle.wire.specs.Words.{all_canonical}
 use Rattle.stored.specs.Layout.{layout, proof_words}
 use Rattle.stored.specs.ParseLaws.{Answered, parse_reads}
-use Rattle.stored.specs.RoundTrip.{write_read}
+use Rattle.stored.proofs.RoundTrip.{write_read}
 use Rattle.stored.specs.Elements.{encoded, decoded, over_zero}
 use Rattle.prover_tree.specs.Nodes.{node}
 use Rattle.sizes.specs.Sizes.{row_count, rounds_of, needed_words, log_room}
@@ -47,7 +47,7 @@ use Rattle.verifier.proofs.GateLaws.{opens_all}
 use Rattle.verifier.proofs.NoRounds.{all_alike}
 use Rattle.agreement.specs.Demand3.{Taken, root, Room, verdict, Agreed, Demand3}
 use Rattle.agreement.specs.Companions.{OtherSum, ProvedLive}
-use Rattle.stored.specs.ElementLaws.{decoded_encoded, encoded_canonical, root_nil}
+use Rattle.stored.proofs.ElementLaws.{decoded_encoded, encoded_canonical, root_nil}
 use Rattle.roots.proofs.Rows.{rows_and_sum}
 use Rattle.roots.proofs.Live.{live_root}
 use Rattle.agreement.proofs.HonestSize.{honest_size}

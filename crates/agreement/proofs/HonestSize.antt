@@ -11,10 +11,12 @@ use Rattle.field.specs.Element.{enc}
 use Rattle.field.specs.Extension.{Extension}
 use Rattle.gkr.specs.Run.{Transcript, Frac, Cubic, Proof}
 use Rattle.gkr.specs.Sizes.{proof_bytes}
-use Rattle.gkr.specs.Count as Count
+use Rattle.gkr.proofs.Count as Count
+use Rattle.gkr.specs.Count.{lengths}
 use Rattle.gkr.specs.Gkr as Gkr
 use Rattle.stored.specs.Layout.{layout}
-use Rattle.stored.specs.Lengths.{up_from, lengths, Rounds, rounds_size}
+use Rattle.stored.specs.Lengths.{up_from, lengths, Rounds}
+use Rattle.stored.proofs.Lengths.{rounds_size}
 use Rattle.stored.specs.Elements.{map_claims, map_cubic, encoded}
 
 counts : (mss : List (List (Cubic E.Ext))) → lengths (map (map (map_cubic enc)) mss) ≡ map length mss
@@ -22,8 +24,8 @@ unfolding lengths
 counts [] = refl
 counts (ms ∷ mss) = ap₂ ◌∷◌ (length-map ms (map_cubic enc)) (counts mss)
 
-upward : (h r : ℕ) → Count.lengths h r ≡ up_from r h
-unfolding Count.lengths up_from
+upward : (h r : ℕ) → lengths h r ≡ up_from r h
+unfolding lengths up_from
 upward zero r = refl
 upward (suc h) r = ap (λ l. r ∷ l) (upward h (suc r))
 

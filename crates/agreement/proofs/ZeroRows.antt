@@ -13,7 +13,7 @@ use Rattle.field.specs.ElementLaws.{dec_enc}
 use Rattle.field.specs.Extension.{Extension}
 use Rattle.gkr.specs.Run.{Transcript, Proof}
 use Rattle.gkr.specs.Transcripts.{Words, empty}
-use Rattle.gkr.specs.Count as Count
+use Rattle.gkr.proofs.Count as Count
 use Rattle.gkr.specs.Gkr as Gkr
 use Rattle.gkr.specs.Gkr.{done}
 use Rattle.transcript.specs.Log.{Drawing}

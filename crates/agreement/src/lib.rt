@@ -1,4 +1,6 @@
 // Prover and verifier one after the other: demand 3 about the two functions that run.
+#![tactic(auto)]
+
 ghost use Rattle.std.specs.Prelude.{◌≡◌, true, ℕ};
 ghost use Rattle.field.specs.Ext as E;
 ghost use Rattle.prover_gate.specs.Refusals.{call};

@@ -1,4 +1,6 @@
 // Calls at the limits of document 01, and the number that each answers: rows, rounds, words.
+#![tactic(auto)]
+
 use prover::Answer;
 use refusal::{Proving, Verifying};
 

@@ -1,4 +1,6 @@
 // Recorded cases: numbers read from decimal text into lent buffers, and answers printed.
+#![tactic(auto)]
+
 pub mod read; // numbers, elements and lists out of a text
 pub mod print; // numbers, elements and lists to standard output
 

@@ -1,4 +1,6 @@
 // What an accepted proof's claims say about a sheet.
+#![tactic(auto)]
+
 ghost use Rattle.std.specs.Prelude.{◌≡◌, cond};
 ghost use Rattle.evaluation.specs.Evaluated.{evaluated};
 ghost use Rattle.claims.specs.declared.Comparison.TheVariants.{Same, Different};

@@ -15,10 +15,10 @@ use Rattle.field.specs.Ext as E
 use Rattle.field.specs.ExtRing.{ExtRing}
 use Rattle.field.specs.Cells.{cell, Clean, Stored, cells}
 use Rattle.field.specs.Column.{flat}
-use Rattle.field.specs.ColumnLaws.{flat_cells, flat_cong}
-use Rattle.field.specs.PointLaws.{cells_length, point_snoc}
+use Rattle.field.proofs.ColumnLaws.{flat_cells, flat_cong}
+use Rattle.field.proofs.PointLaws.{cells_length, point_snoc}
 use Rattle.multilinear.specs.Table as Table
-use Rattle.multilinear.specs.TableLaws as TableLaws
+use Rattle.multilinear.proofs.TableLaws as TableLaws
 use Rattle.step.specs.Values.{minus}
 use Rattle.columns.specs.Passes.{GrownEntry, Grown}
 

@@ -11,9 +11,9 @@ use Rattle.field.specs.Ext as E
 use Rattle.field.specs.ExtRing.{ExtRing}
 use Rattle.field.specs.Cells.{cell, cells}
 use Rattle.field.specs.CellLaws.{cell_take, cell_drop}
-use Rattle.field.specs.PointLaws.{cells_length, point_snoc}
+use Rattle.field.proofs.PointLaws.{cells_length, point_snoc}
 use Rattle.multilinear.specs.Table as Table
-use Rattle.multilinear.specs.TableLaws as TableLaws
+use Rattle.multilinear.proofs.TableLaws as TableLaws
 use Rattle.step.specs.Values.{line}
 
 pub half : (n l : ℕ) → (n ≡ 0 → ⊥) → l ≡ 4 * 2 ^ n → (l / 2 ≡ 4 * 2 ^ (n - 1)) × (l ≡ l / 2 + l / 2)

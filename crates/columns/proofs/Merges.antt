@@ -13,8 +13,8 @@ use Rattle.field.specs.Ext as E
 use Rattle.field.specs.ExtRing.{ExtRing}
 use Rattle.field.specs.Cells.{cell, Clean, Stored, cells}
 use Rattle.field.specs.Column.{flat}
-use Rattle.field.specs.ColumnLaws.{flat_cells}
-use Rattle.field.specs.PointLaws.{cells_length, point_snoc}
+use Rattle.field.proofs.ColumnLaws.{flat_cells}
+use Rattle.field.proofs.PointLaws.{cells_length, point_snoc}
 use Rattle.step.specs.Values.{line}
 use Rattle.multilinear.specs.Table as Table
 use Rattle.columns.specs.Tables as Tables

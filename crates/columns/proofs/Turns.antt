@@ -13,7 +13,7 @@ use Rattle.field.specs.Ext as E
 use Rattle.field.specs.ExtRing.{ExtRing}
 use Rattle.field.specs.Element.{Is}
 use Rattle.field.specs.Cells.{cell, cells}
-use Rattle.field.specs.PointLaws.{cells_length, point_snoc}
+use Rattle.field.proofs.PointLaws.{cells_length, point_snoc}
 use Rattle.multilinear.specs.Forms as Forms
 use Rattle.multilinear.specs.Table as Table
 use Rattle.columns.specs.Tables as Tables

@@ -12,7 +12,7 @@ use Rattle.field.specs.declared.Ext.{Ext}
 use Rattle.field.specs.Element.{dec, words, Canon}
 use Rattle.field.specs.ElementLaws.{enc_dec}
 use Rattle.field.specs.Column.{flat}
-use Rattle.field.specs.ColumnLaws.{put_next}
+use Rattle.field.proofs.ColumnLaws.{put_next}
 
 pub put_words : (s : List ℕ) (i : ℕ) (e : Ext) → Canon e
     → set (set (set (set s (4 * i) e.c0) (4 * i + 1) e.c1) (4 * i + 2) e.c2) (4 * i + 3) e.c3 ≡ sets s (4 * i) (words (dec e))

@@ -9,10 +9,10 @@ use Prim.Native.Nat.{ℕ, zero, suc, ◌<◌, ◌^◌}
 use Rattle.std.proofs.Math.Nat.{suc_inj}
 use Rattle.std.proofs.Math.ListN.{length}
 use Rattle.ring.specs.Ring.{CommRing, pow}
-use Rattle.ring.specs.Quote.{ring, quote}
+use Rattle.ring.proofs.Quote.{ring, quote}
 use Rattle.multilinear.specs.Forms
 use Rattle.multilinear.specs.Table
-use Rattle.multilinear.specs.TableLaws
+use Rattle.multilinear.proofs.TableLaws
 use Rattle.columns.specs.Tables
 
 module _ (K : CommRing) where

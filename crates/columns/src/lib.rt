@@ -1,4 +1,6 @@
 // Loops over columns: lists of words, four to an entry. They take canonical words and rooms that were checked before.
+#![tactic(auto)]
+
 ghost use Rattle.std.specs.Prelude.{◌≡◌, ◌+◌, ◌*◌, ◌<◌, length};
 ghost use Rattle.std.proofs.lemmas.List.Edits.{sets};
 ghost use Rattle.field.specs.Element.{dec, words, Canon};

@@ -8,7 +8,7 @@ use borrow.Author.Tests.{eq-eqb, ne_eqb, lt-ltb, le-ltb}
 use lib.ListN.{length, get_or, drop, set}
 use lib.Seq.{drop-cons, set_at}
 use Rattle.wire.specs.Bytes.{word, words_from}
-use Rattle.wire.specs.ByteLaws.{words_length, words_add}
+use Rattle.wire.proofs.ByteLaws.{words_length, words_add}
 use Rattle.command_files.specs.Given.{some, nothing}
 use Rattle.command_files.specs.Logs.{log_of}
 

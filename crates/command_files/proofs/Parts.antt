@@ -15,7 +15,7 @@ use Rattle.stored_sheet.specs.declared.SheetAnswer.{SheetAnswer}
 use Rattle.stored_sheet.specs.declared.SheetAnswer.TheVariants.{Done, Refused}
 use Rattle.stored_sheet.specs.Sheet.{row_words}
 use Rattle.stored_sheet.specs.SheetReads.{SheetEnd, sheet_read}
-use Rattle.stored_sheet.specs.SheetLaws.{is_read, read_front, read_long, read_most, read_fits}
+use Rattle.stored_sheet.proofs.SheetLaws.{is_read, read_front, read_long, read_most, read_fits}
 use Rattle.sheet_text.specs.declared.ListAnswer.{ListAnswer}
 use Rattle.sheet_text.specs.declared.ListAnswer.TheVariants as Ends
 use Rattle.sheet_text.specs.Reading.{Ended, list_read, Within}

@@ -10,7 +10,7 @@ use Rattle.field.specs.ElementLaws.{is_enc, canon_enc}
 use Rattle.field.specs.Cells as Cells
 use Rattle.field.specs.Cells.{cells}
 use Rattle.field.specs.CellLaws.{cell_right, cell_words}
-use Rattle.field.specs.PointLaws.{point_length}
+use Rattle.field.proofs.PointLaws.{point_length}
 use Rattle.gkr.specs.Tree as Tree
 use Rattle.refusal.specs.Fronts.{over}
 use Rattle.refusal.specs.Limits as Limits

@@ -1,4 +1,6 @@
 // Reads one sheet on standard input, of at most 64 rows, proves and verifies it, and prints the answers.
+#![tactic(auto)]
+
 fn more() -> bool {
     let mut one = [0u8; 1];
     io::read_full(0, &mut one) != 0

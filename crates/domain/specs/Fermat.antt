@@ -7,9 +7,9 @@ use Rattle.std.proofs.Math.Path.{ap, ap₂}
 use Rattle.std.proofs.Math.Nat.{pow-succ'}
 use Rattle.ring.specs.Ring.{CommRing, num, pow}
 use Rattle.ring.specs.RingLaws.{nil_mul, num_zero, num_one, num_add, num_mul, pow_zero, pow_suc, pow_add}
-use Rattle.ring.specs.Quote.{ring, ring_by, quote, ◌▷◌}
+use Rattle.ring.proofs.Quote.{ring, ring_by, quote, ◌▷◌}
 use Rattle.multilinear.specs.Table as Table
-use Rattle.multilinear.specs.TableLaws.{sum_below, sum_add, sum_mul}
+use Rattle.multilinear.proofs.TableLaws.{sum_below, sum_add, sum_mul}
 
 -- THE BINOMIALS
 

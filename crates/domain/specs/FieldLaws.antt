@@ -3,7 +3,7 @@
 use Rattle.std.specs.Prelude.{◌≡◌, [], ◌∷◌, ◌⊎◌}
 use Rattle.std.proofs.Common.{inl, inr}
 use Rattle.ring.specs.Ring.{CommRing}
-use Rattle.ring.specs.Quote.{ring_by, quote, ◌▷◌}
+use Rattle.ring.proofs.Quote.{ring_by, quote, ◌▷◌}
 use Rattle.domain.specs.Field.{IsField, Domain}
 
 module _ (R : CommRing) (f : IsField R) where

@@ -14,9 +14,9 @@ use Rattle.field.specs.Element.{dec, Is}
 use Rattle.field.specs.ElementLaws.{is_eq}
 use Rattle.field.specs.Cells.{cell, cells}
 use Rattle.field.specs.CellLaws.{cell_take, cell_drop}
-use Rattle.field.specs.PointLaws.{cells_length, point_snoc}
+use Rattle.field.proofs.PointLaws.{cells_length, point_snoc}
 use Rattle.multilinear.specs.Table as Table
-use Rattle.multilinear.specs.TableLaws as TableLaws
+use Rattle.multilinear.proofs.TableLaws as TableLaws
 use Rattle.gkr.specs.Run.{Frac}
 use Rattle.gkr.specs.Tree as Tree
 use Rattle.step.specs.declared.Frac.{Frac as FracW}

@@ -1,4 +1,6 @@
 // The values of both columns of a sheet at a point, with what is refused before; only reads.
+#![tactic(auto)]
+
 ghost use Rattle.std.specs.Prelude.{◌≡◌};
 ghost use Rattle.evaluation.specs.declared.Evaluation.TheVariants.{Done};
 ghost use Rattle.evaluation.specs.Evaluated.{evaluated};

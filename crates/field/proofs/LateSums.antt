@@ -1,11 +1,11 @@
 -- Sums of products that are reduced late.
 -- Assumes nothing.
 use mathlib.Core.Path.{◌≡◌, sym, ◌∙◌, ap, ap₂}
-use mathlib.Core.List.{List, [], ◌∷◌}
+use mathlib.Core.List.{[], ◌∷◌}
 use Prim.Native.Nat.{ℕ, ◌+◌, ◌*◌, ◌-◌, ◌/◌, ◌%◌, ◌≤◌, ◌<◌}
 use native.Mathlib.Nat.{mul-add-mod_self_left, div-add-mod, mod-lt}
 use native.Mathlib.Omega.{arith}
-use Rattle.ring.specs.Quote.{ring, quote}
+use Rattle.ring.proofs.Quote.{ring, quote}
 use Rattle.field.specs.Base as B
 use Rattle.field.specs.Base.{F, P, of, add, mul}
 use Rattle.field.specs.BaseRing.{Base, of_eq, of_mul, f_add_assoc}

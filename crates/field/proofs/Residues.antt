@@ -11,7 +11,7 @@ use Rattle.field.specs.Ext as E
 use Rattle.field.specs.ExtRing.{ext_path}
 use Rattle.field.specs.declared.Ext.{Ext}
 use Rattle.field.specs.Element.{Is}
-use Rattle.ring.specs.Quote.{ring, quote}
+use Rattle.ring.proofs.Quote.{ring, quote}
 
 pub over : (s : ℕ) → P ≤ s → of (s - P) ≡ of s
 over s h = of_eq _ _ (sym (mod-eq-sub-mod h))

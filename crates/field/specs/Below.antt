@@ -2,7 +2,7 @@
 -- Assumes nothing.
 use Prim.Native.Nat.compare
 use Prim.Native.Nat.{ℕ, zero, suc, ◌<◌, compare, Ordering, zero-le, suc-le-suc}
-use Rattle.std.specs.Prelude.{◌≡◌, refl}
+use Rattle.std.specs.Prelude.{refl}
 use Rattle.std.proofs.Common.{subst, not-suc-le-zero, le_of_suc-le-suc}
 use Rattle.std.proofs.Math.Path.{subst⁻¹}
 

@@ -5,7 +5,7 @@ use Rattle.std.proofs.Math.Path.{refl, sym}
 use Rattle.std.proofs.Common.{◌∙◌, ap, eqb-true, eq-eqb}
 use Rattle.ring.specs.Ring.{CommRing, num}
 use Rattle.ring.specs.RingLaws.{nil_add}
-use Rattle.ring.specs.Quote.{ring, quote}
+use Rattle.ring.proofs.Quote.{ring, quote}
 use Rattle.field.specs.Base as B
 use Rattle.field.specs.Base.{F, of}
 use Rattle.field.specs.BaseRing as L

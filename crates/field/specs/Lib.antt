@@ -1,5 +1,5 @@
 -- The field. Definitions: Base, Ext, BaseElement, Element, Cells, Column. That they are rings: BaseRing, ExtRing, Extension.
--- Laws of words, cells, points and columns: ElementLaws, CellLaws, PointLaws, ColumnLaws.
+-- Laws of words and cells: ElementLaws, CellLaws.
 pub mod Below
 pub mod Base
 pub mod BaseRing
@@ -12,5 +12,3 @@ pub mod ElementLaws
 pub mod Cells
 pub mod Column
 pub mod CellLaws
-pub mod PointLaws
-pub mod ColumnLaws

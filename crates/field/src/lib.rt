@@ -1,4 +1,6 @@
 // Elements of the field as words: of the base one word, of the extension four; and cells of four words in slices.
+#![tactic(auto)]
+
 ghost use Rattle.std.specs.Prelude.{◌≡◌, ◌+◌, ◌*◌, ◌<◌, length};
 ghost use Rattle.field.specs.Element.{dec, Canon, Is};
 ghost use Rattle.field.specs.Cells.{cell, Clean, Stored};

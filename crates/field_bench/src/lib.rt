@@ -1,4 +1,6 @@
 // Products of the extension in a loop, exported so that they can be timed.
+#![tactic(auto)]
+
 ghost use Rattle.std.specs.Prelude.{◌≡◌};
 ghost use Rattle.field_bench.specs.Powers.{chain, chains};
 

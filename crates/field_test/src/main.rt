@@ -1,5 +1,7 @@
 // Runs the cases of standard input and prints each answer; scripts/field_vectors makes the cases and the answers.
 // A case is nine numbers of ten digits: the operation, the words of a, the words of b.
+#![tactic(auto)]
+
 ghost use Rattle.std.specs.Prelude.{◌<◌};
 
 use field::{Base, Ext};

@@ -9,16 +9,8 @@ pub mod Tests
 pub mod TreeLaws
 pub mod SumcheckLaws
 pub mod Count
-pub mod Honest
-pub mod VerifierCount
-pub mod Keeps
 pub mod TranscriptLaws
-pub mod Steps
-pub mod Reads
 pub mod Samples
-pub mod Replays
-pub mod Forks
-pub mod OneWord
 pub mod Compute
 pub mod Pins
 pub mod Order

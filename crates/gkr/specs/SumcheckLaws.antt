@@ -10,11 +10,11 @@ use Rattle.std.proofs.Math.ListN.{length}
 use Rattle.ring.specs.Field.{Field}
 use Rattle.multilinear.specs.Forms
 use Rattle.multilinear.specs.Table
-use Rattle.multilinear.specs.TableLaws
+use Rattle.multilinear.proofs.TableLaws
 use Rattle.multilinear.specs.Interpolate
 use Rattle.multilinear.specs.RoundSum
 use Rattle.multilinear.specs.RoundSum.{Claims}
-use Rattle.multilinear.specs.RoundSumLaws
+use Rattle.multilinear.proofs.RoundSumLaws
 use Rattle.gkr.specs.Run.{Transcript, Cubic}
 use Rattle.gkr.specs.Sumcheck
 

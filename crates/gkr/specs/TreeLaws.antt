@@ -12,7 +12,7 @@ use Rattle.ring.specs.Ring.{CommRing}
 use Rattle.multilinear.specs.Forms
 use Rattle.multilinear.specs.Table
 use Rattle.multilinear.specs.Table.{even, odd}
-use Rattle.multilinear.specs.TableLaws
+use Rattle.multilinear.proofs.TableLaws
 use Rattle.multilinear.specs.RoundSum
 use Rattle.multilinear.specs.RoundSum.{Claims}
 use Rattle.gkr.specs.Run.{Frac}

@@ -1,1 +1,2 @@
 // This crate is its specs/: prover and verifier as pure functions, and the theorem about them.
+#![tactic(auto)]

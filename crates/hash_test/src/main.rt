@@ -1,4 +1,6 @@
 // SHAKE128 and drawn words, run on messages of many lengths and printed; scripts/hash_vectors has the answers by Python's hashlib.
+#![tactic(auto)]
+
 ghost use Rattle.std.specs.Prelude.{◌^◌, ◌<◌, length};
 ghost use Rattle.shake.specs.Drawn.{message, Holds};
 

@@ -1,4 +1,6 @@
 // The permutation Keccak-p[1600, 24] of FIPS 202, on 25 lanes of 64 bits.
+#![tactic(auto)]
+
 ghost use Rattle.std.specs.Prelude.{◌≡◌, [], ◌∷◌, ◌<◌, get_or};
 ghost use Rattle.keccak.specs.Values.{values};
 ghost use Rattle.keccak.specs.Keccak.{rot, spread, theta, rho, pi, chi, add_first, keccak};

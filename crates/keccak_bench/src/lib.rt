@@ -1,4 +1,6 @@
 // The permutation in a loop, words drawn with a sponge that is carried, and the hash, exported so that they can be timed.
+#![tactic(auto)]
+
 ghost use Rattle.std.specs.Prelude.{◌≡◌, ◌∷◌, ◌^◌, ◌<◌, get_or, length, replicate};
 ghost use Rattle.keccak.specs.State.{as_list};
 ghost use Rattle.shake.specs.Sponge.{shake128};

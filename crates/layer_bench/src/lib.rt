@@ -1,4 +1,6 @@
 // Round sums and fold of a layer's claims, exported so that they can be timed.
+#![tactic(auto)]
+
 ghost use Rattle.std.specs.Prelude.{◌+◌, ◌*◌, ◌≤◌, length};
 ghost use Rattle.field.specs.Ext as E;
 ghost use Rattle.field.specs.Element.{dec};

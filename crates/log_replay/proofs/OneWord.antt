@@ -17,9 +17,9 @@ use Rattle.field.specs.CellLaws.{clean_words}
 use Rattle.gkr.specs.Run.{Proof}
 use Rattle.gkr.specs.Transcripts.{Words}
 use Rattle.gkr.specs.Gkr as Gkr
-use Rattle.gkr.specs.Forks.{decided}
-use Rattle.gkr.specs.Replays.{ext_layout}
-use Rattle.gkr.specs.OneWord as Two
+use Rattle.gkr.proofs.Forks.{decided}
+use Rattle.gkr.proofs.Replays.{ext_layout}
+use Rattle.gkr.proofs.OneWord as Two
 use Rattle.transcript.specs.Source.{source}
 use Rattle.transcript.specs.Log.{Drawing}
 use Rattle.refusal.specs.Limits.{max_rounds}

@@ -16,8 +16,8 @@ use Rattle.gkr.specs.Run.{Frac, Cubic, Proof}
 use Rattle.gkr.specs.Transcripts.{Words, Source}
 use Rattle.gkr.specs.Gkr as Gkr
 use Rattle.gkr.specs.Gkr.{accepted, zero_rounds, layer_count, poly_count, zero_check, root_check, subround_count, layer_check}
-use Rattle.gkr.specs.Reads as Reads
-use Rattle.gkr.specs.Steps as Steps
+use Rattle.gkr.proofs.ReadLaws as Reads
+use Rattle.gkr.proofs.Steps as Steps
 use Rattle.gkr.specs.Tree as Tree
 use Rattle.transcript.specs.Log.{Drawing}
 use Rattle.verifier_round.specs.Verdicts.{Model, answer_of, left_by}

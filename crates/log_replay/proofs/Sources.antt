@@ -14,14 +14,16 @@ use Rattle.field.specs.CellLaws.{clean_nil, clean_append, clean_words}
 use Rattle.gkr.specs.Run.{Proof}
 use Rattle.gkr.specs.Sizes.{challenges}
 use Rattle.gkr.specs.Transcripts.{Words, Source, empty}
-use Rattle.gkr.specs.TranscriptLaws as TranscriptLaws
-use Rattle.gkr.specs.TranscriptLaws.{sampled_words, Marked}
+use Rattle.gkr.proofs.TranscriptLaws as TranscriptLaws
+use Rattle.gkr.specs.TranscriptLaws.{sampled_words}
+use Rattle.gkr.proofs.TranscriptLaws.{Marked}
 use Rattle.gkr.specs.Gkr as Gkr
-use Rattle.gkr.specs.Keeps as Keeps
-use Rattle.gkr.specs.Reads as Reads
-use Rattle.gkr.specs.Samples.{unmark, words_sampled, drawn_sampled, observed_sampled}
-use Rattle.gkr.specs.Replays as Replays
-use Rattle.gkr.specs.Replays.{ext_layout}
+use Rattle.gkr.proofs.Keeps as Keeps
+use Rattle.gkr.proofs.ReadLaws as Reads
+use Rattle.gkr.specs.Samples.{unmark, words_sampled}
+use Rattle.gkr.proofs.Samples.{drawn_sampled, observed_sampled}
+use Rattle.gkr.proofs.Replays as Replays
+use Rattle.gkr.proofs.Replays.{ext_layout}
 use Rattle.transcript.specs.Source.{source}
 use Rattle.transcript.specs.Log.{Drawing}
 use Rattle.transcript.specs.Bound.{bound}

@@ -1,4 +1,6 @@
 // The verdict of a proof from a stored log alone: the plain verifier runs on the log's own challenges, into a log of its own, and both logs must be the same.
+#![tactic(auto)]
+
 ghost use Rattle.std.specs.Prelude.{◌≡◌, ◌++◌, ◌^◌, ◌≤◌, eqb, length, take, drop, replicate};
 ghost use Rattle.verifier_round.specs.declared.Verdict.TheVariants.{Refused};
 ghost use Rattle.log_replay.specs.Replayed.{kept, plain_word, most_words, challenges_of, of_run, compared, outcome, replayed};

@@ -2,7 +2,7 @@
 -- Assumes nothing.
 use Rattle.std.specs.Prelude.{◌≡◌, [], ◌∷◌}
 use Rattle.ring.specs.Ring.{CommRing, num}
-use Rattle.ring.specs.Quote.{ring, ring_by, quote, ◌▷◌}
+use Rattle.ring.proofs.Quote.{ring, ring_by, quote, ◌▷◌}
 use Rattle.multilinear.specs.Forms
 
 module _ (K : CommRing) where

@@ -1,1 +1,2 @@
 // This crate is its specs/: multilinear tables over a commutative ring, and their laws.
+#![tactic(auto)]

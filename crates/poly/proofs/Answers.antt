@@ -15,7 +15,7 @@ use Rattle.field.specs.declared.Ext.{Ext}
 use Rattle.field.specs.Element.{dec, Is}
 use Rattle.field.specs.ElementLaws.{enc_of_is}
 use Rattle.field.specs.Cells.{cell}
-use Rattle.field.specs.ColumnLaws.{length_flat}
+use Rattle.field.proofs.ColumnLaws.{length_flat}
 use Rattle.refusal.specs.declared.Refusal.{Refusal}
 use Rattle.multilinear.specs.Table as Table
 use Rattle.poly.specs.declared.Outcome.{Outcome}

@@ -21,7 +21,7 @@ use Rattle.columns.specs.PowerLaws.{variables_of_is}
 use Rattle.columns.specs.Passes.{Room}
 use Rattle.poly.specs.declared.Outcome.TheVariants.{Done}
 use Rattle.poly.specs.Checks.{whole, count}
-use Rattle.poly.specs.CheckLaws.{passed}
+use Rattle.poly.proofs.CheckLaws.{passed}
 use Rattle.poly.specs.Evaluations.{eq_sizes, eq_refusal, mle_sizes, mle_refusal, cube_sizes, cube_refusal, horner_sizes, horner_refusal, horner_base_refusal}
 use Rattle.poly.specs.Folds.{fold_sizes, fold_refusal, round_sizes, round_refusal, all_five}
 

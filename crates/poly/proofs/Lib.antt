@@ -3,3 +3,4 @@ pub mod Tests
 pub mod Gates
 pub mod Answers
 pub mod Rounds
+pub mod CheckLaws

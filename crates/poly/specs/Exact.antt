@@ -5,12 +5,12 @@ use Rattle.std.specs.Prelude.{◌≡◌, List, [], ◌∷◌, length}
 use Rattle.std.proofs.Common.{sym}
 use Rattle.ring.specs.Ring.{num}
 use Rattle.ring.specs.Field.{Field}
-use Rattle.ring.specs.Quote.{ring, quote}
+use Rattle.ring.proofs.Quote.{ring, quote}
 use Rattle.multilinear.specs.Forms
 use Rattle.multilinear.specs.Identities
 use Rattle.multilinear.specs.Interpolate
 use Rattle.multilinear.specs.Table
-use Rattle.multilinear.specs.TableLaws
+use Rattle.multilinear.proofs.TableLaws
 
 module _ (F : Field) where
   open F use {ring as K, half, sixth, two_half, six_sixth}

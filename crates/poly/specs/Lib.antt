@@ -1,6 +1,5 @@
--- What the helpers answer. Definitions: Checks, Evaluations, Folds, Reports. Laws: CheckLaws, Exact, Unique.
+-- What the helpers answer. Definitions: Checks, Evaluations, Folds, Reports. Laws: Exact, Unique.
 pub mod Checks
-pub mod CheckLaws
 pub mod Evaluations
 pub mod Folds
 pub mod Reports

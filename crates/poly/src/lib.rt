@@ -1,5 +1,7 @@
 // Polynomials and folds over lists of words, four to an element: the carried part of poly_common.rs, prover/poly.rs and prover/sumcheck.rs.
 // Every function answers for all words and lengths; a refused call writes nothing.
+#![tactic(auto)]
+
 use field::Ext;
 use refusal::{Refusal, Report};
 use step::Three;

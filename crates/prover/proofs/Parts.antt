@@ -10,9 +10,9 @@ use lib.Seq.{length-take-le}
 use Rattle.field.specs.Ext as E
 use Rattle.field.specs.Extension.{Extension}
 use Rattle.field.specs.Element.{words_of_point}
-use Rattle.field.specs.PointLaws.{point_length}
+use Rattle.field.proofs.PointLaws.{point_length}
 use Rattle.gkr.specs.Transcripts.{empty, Source}
-use Rattle.gkr.specs.Count as Count
+use Rattle.gkr.proofs.Count as Count
 use Rattle.gkr.specs.Gkr as Gkr
 use Rattle.gkr.specs.Gkr.{done, non_zero_root_sum}
 use Rattle.transcript.specs.Source.{source}

@@ -14,7 +14,7 @@ use Rattle.field.specs.Extension.{Extension}
 use Rattle.gkr.specs.Sizes.{challenges, log_words}
 use Rattle.gkr.specs.Tests.{either}
 use Rattle.gkr.specs.Transcripts.{empty, Source}
-use Rattle.gkr.specs.TranscriptLaws as TranscriptLaws
+use Rattle.gkr.proofs.TranscriptLaws as TranscriptLaws
 use Rattle.gkr.specs.TranscriptLaws.{sampled_words}
 use Rattle.gkr.specs.Gkr as Gkr
 use Rattle.gkr.specs.Gkr.{done, non_zero_root_sum}

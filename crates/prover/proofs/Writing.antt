@@ -12,7 +12,7 @@ use Rattle.field.specs.ExtRing.{ExtRing}
 use Rattle.field.specs.Extension.{Extension}
 use Rattle.field.specs.Element.{dec, words_of_point}
 use Rattle.field.specs.Cells.{Clean, cells}
-use Rattle.field.specs.PointLaws.{cells_length, point_length, point_is}
+use Rattle.field.proofs.PointLaws.{cells_length, point_length, point_is}
 use Rattle.gkr.specs.Run.{Frac}
 use Rattle.gkr.specs.Transcripts.{Words, empty, Source}
 use Rattle.gkr.specs.Tree as Tree

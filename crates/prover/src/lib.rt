@@ -1,4 +1,6 @@
 // The prover: fractional_sumcheck over lent buffers.
+#![tactic(auto)]
+
 ghost use Rattle.std.specs.Prelude.{◌≡◌, not, ◌&&◌, List, [], ℕ, suc, ◌*◌, ◌≤◌, length};
 ghost use Rattle.field.specs.Ext as E;
 ghost use Rattle.field.specs.ExtRing.{ExtRing};

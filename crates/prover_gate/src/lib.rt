@@ -1,4 +1,6 @@
 // The prover's gate: refusals 1 to 7 in their order. What passes it is a sheet of canonical words, of a size that is taken, with room for all that a run writes.
+#![tactic(auto)]
+
 ghost use Rattle.std.specs.Prelude.{◌≡◌, ◌*◌, ◌^◌, ◌≤◌, length};
 ghost use Rattle.field.specs.Cells.{Clean};
 ghost use Rattle.refusal.specs.Limits.{max_rounds};

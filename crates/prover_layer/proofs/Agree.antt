@@ -8,7 +8,7 @@ use Rattle.ring.specs.Ring.{CommRing, num}
 use Rattle.ring.specs.Field.{Field}
 use Rattle.multilinear.specs.Forms as Forms
 use Rattle.multilinear.specs.Table as Table
-use Rattle.multilinear.specs.TableLaws as TableLaws
+use Rattle.multilinear.proofs.TableLaws as TableLaws
 use Rattle.multilinear.specs.RoundSum as RoundSum
 use Rattle.multilinear.specs.RoundSum.{Claims}
 use Rattle.gkr.specs.Run.{Transcript, Cubic}

@@ -2,7 +2,7 @@
 -- Assumes nothing.
 use mathlib.Core.Path.{◌≡◌, ◌∙◌, ap₂, subst}
 use mathlib.Core.List.{[], ◌∷◌}
-use Rattle.ring.specs.Quote.{ring, quote}
+use Rattle.ring.proofs.Quote.{ring, quote}
 use Rattle.field.specs.Ext.{Ext, add, mul, one}
 use Rattle.field.specs.ExtRing.{ExtRing}
 use Rattle.field.specs.Element.{dec, Is}

@@ -1,5 +1,7 @@
 // One layer's claims on pairs of nodes, from node `pq` on, and its eq tables in the workspace: read where they stand, and folded in place.
 // For the sub-rounds of a layer p1 is weighed: p1 + lambda·q1 stands in its place, so that no sub-round multiplies by lambda.
+#![tactic(auto)]
+
 ghost use Rattle.std.specs.Prelude.{◌+◌, ◌*◌, ◌<◌, ◌≤◌, length};
 ghost use Rattle.field.specs.Ext as E;
 ghost use Rattle.field.specs.Element.{dec, Canon};

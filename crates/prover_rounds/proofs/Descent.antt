@@ -15,12 +15,12 @@ use Rattle.field.specs.ExtRing.{ExtRing}
 use Rattle.field.specs.Extension.{Extension}
 use Rattle.field.specs.Element.{dec, Is}
 use Rattle.field.specs.Cells.{cell, Clean, Stored, cells}
-use Rattle.field.specs.PointLaws.{cells_kept, cells_length}
+use Rattle.field.proofs.PointLaws.{cells_kept, cells_length}
 use Rattle.multilinear.specs.Table as Table
-use Rattle.multilinear.specs.TableLaws as TableLaws
+use Rattle.multilinear.proofs.TableLaws as TableLaws
 use Rattle.multilinear.specs.RoundSum as RoundSum
 use Rattle.multilinear.specs.RoundSum.{Claims}
-use Rattle.multilinear.specs.RoundSumLaws as RoundSumLaws
+use Rattle.multilinear.proofs.RoundSumLaws as RoundSumLaws
 use Rattle.gkr.specs.Run.{Frac}
 use Rattle.gkr.specs.Transcripts.{Words, Source}
 use Rattle.gkr.specs.Tree as Tree

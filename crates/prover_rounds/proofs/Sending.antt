@@ -13,10 +13,10 @@ use Rattle.field.specs.Extension.{Extension}
 use Rattle.field.specs.Element.{dec, Is}
 use Rattle.field.specs.declared.Ext.{Ext}
 use Rattle.field.specs.Cells.{cell, Clean, Stored, cells}
-use Rattle.field.specs.PointLaws.{cells_snoc, cells_kept}
+use Rattle.field.proofs.PointLaws.{cells_snoc, cells_kept}
 use Rattle.multilinear.specs.Forms as Forms
 use Rattle.multilinear.specs.Table as Table
-use Rattle.multilinear.specs.TableLaws as TableLaws
+use Rattle.multilinear.proofs.TableLaws as TableLaws
 use Rattle.multilinear.specs.RoundSum as RoundSum
 use Rattle.gkr.specs.Run.{Cubic}
 use Rattle.gkr.specs.Transcripts.{Words, Source}

@@ -11,7 +11,7 @@ use Rattle.field.specs.ExtRing.{ExtRing}
 use Rattle.field.specs.Extension.{Extension}
 use Rattle.field.specs.Cells.{cells}
 use Rattle.multilinear.specs.Table as Table
-use Rattle.multilinear.specs.TableLaws as TableLaws
+use Rattle.multilinear.proofs.TableLaws as TableLaws
 use Rattle.multilinear.specs.RoundSum as RoundSum
 use Rattle.multilinear.specs.RoundSum.{Claims}
 use Rattle.gkr.specs.Run.{Transcript, Cubic}

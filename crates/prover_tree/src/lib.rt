@@ -1,4 +1,6 @@
 // The fraction tree in one lent workspace: node k is the cells 2k and 2k + 1, the rows are the leaves, and each node above is the sum of its two.
+#![tactic(auto)]
+
 ghost use Rattle.std.specs.Prelude.{◌≡◌, ◌+◌, ◌*◌, ◌<◌, ◌≤◌, length, replicate};
 ghost use Rattle.field.specs.ExtRing.{ExtRing};
 ghost use Rattle.field.specs.Cells.{cell, Clean};

@@ -1,4 +1,6 @@
 // The refusals of every call, by document 01's names, and the number and fields of each; and the limits on sizes.
+#![tactic(auto)]
+
 ghost use Rattle.std.specs.Prelude.{◌≡◌, ◌^◌};
 ghost use Rattle.refusal.specs.Limits.{max_rounds, max_rows};
 ghost use Rattle.refusal.specs.Numbers.{plain, elements, list_number, report_of};
@@ -35,7 +37,7 @@ pub struct Proving {
 }
 
 // How a proof is verified: whether a root over zero is refused, whether challenges are drawn, and whether 0 rounds are valid.
-#[derive(Drop)]
+#[derive(Clone, Copy)]
 pub struct Verifying {
     pub live: bool,
     pub drawn: bool,
@@ -43,7 +45,7 @@ pub struct Verifying {
 }
 
 // The list that a word stands in which is not canonical: the rows, the proof's elements, the challenges, the point of an evaluation, or a list of a helper's own.
-#[derive(Drop)]
+#[derive(Clone, Copy)]
 pub enum Words {
     Rows,
     Proof,
@@ -52,7 +54,7 @@ pub enum Words {
     Own,
 }
 
-#[derive(Drop)]
+#[derive(Clone, Copy)]
 pub enum Refusal {
     RaggedRows,
     TooManyRows,

@@ -1,4 +1,6 @@
 // Replays recorded cases of the evaluation of a sheet: a case a line on standard input, its answer a line on standard output.
+#![tactic(auto)]
+
 use cases::print;
 use cases::read::{next_number, next_words};
 

@@ -1,4 +1,6 @@
 // Answers recorded cases of replays from a log: a case a line on standard input, an answer a line on standard output.
+#![tactic(auto)]
+
 use cases::print;
 use cases::read::{fill_words, next_bytes, next_number, next_word, next_words};
 use refusal::Verifying;

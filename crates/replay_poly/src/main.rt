@@ -1,4 +1,6 @@
 // Replays recorded cases of the functions on polynomials: a case a line on standard input, its answer a line on standard output.
+#![tactic(auto)]
+
 use cases::print;
 use cases::read::{next_ext, next_word};
 use field::Ext;

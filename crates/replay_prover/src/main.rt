@@ -1,4 +1,6 @@
 // Replays recorded cases of the prover: a case a line on standard input, its answer a line on standard output.
+#![tactic(auto)]
+
 use cases::print;
 use cases::read::{fill_bytes, fill_words, next_number, next_word, next_words};
 use refusal::Proving;

@@ -1,4 +1,6 @@
 // Replays recorded cases of the sheet reader: a case a line on standard input, its answer a line on standard output.
+#![tactic(auto)]
+
 use cases::print;
 use cases::read::{fill_words, next_bytes, next_number, next_word};
 

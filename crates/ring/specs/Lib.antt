@@ -1,4 +1,4 @@
--- Commutative rings (Ring, RingLaws, Field), and the solver for equations in them (Quote reads the goal; the rest is how it works).
+-- Commutative rings (Ring, RingLaws, Field), and the expressions that the solver for equations in them reads.
 pub mod Ring
 pub mod RingLaws
 pub mod Field
@@ -7,6 +7,3 @@ pub mod Variables
 pub mod Monomial
 pub mod Meaning
 pub mod Degree
-pub mod Solver
-pub mod Quote
-pub mod Examples

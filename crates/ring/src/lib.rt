@@ -1,1 +1,2 @@
 // This crate is its specs/: commutative rings, and the solver for equations in them.
+#![tactic(auto)]

@@ -8,7 +8,7 @@ use Prim.Native.Nat.{ℕ, ◌^◌}
 use Rattle.field.specs.Ext as E
 use Rattle.field.specs.Element.{dec}
 use Rattle.field.specs.ElementLaws.{dec_enc}
-use Rattle.domain.specs.Extension.{one_not_nil}
+use Rattle.domain.proofs.Extension.{one_not_nil}
 use Rattle.step.specs.declared.Frac.{Frac}
 use Rattle.refusal.specs.Tests.{Tested, passed, refused}
 use Rattle.refusal.specs.declared.Refusal.TheVariants.{ZeroDenominator}

@@ -10,7 +10,7 @@ use native.Mathlib.Omega.{arith}
 use Rattle.field.specs.Ext as E
 use Rattle.field.specs.ExtRing.{same_true, same_of}
 use Rattle.gkr.specs.Run.{Frac}
-use Rattle.domain.specs.Tree.{zero_root}
+use Rattle.domain.proofs.Tree.{zero_root}
 use Rattle.prover_tree.specs.Nodes.{node}
 use Rattle.sizes.specs.Sizes.{row_count}
 use Rattle.prover_gate.specs.Refusals.{degenerate}

@@ -17,7 +17,7 @@ use Rattle.gkr.specs.Transcripts.{empty, Source}
 use Rattle.gkr.specs.Tree as Tree
 use Rattle.gkr.specs.Gkr as Gkr
 use Rattle.gkr.specs.Gkr.{done, non_zero_root_sum}
-use Rattle.gkr.specs.Count as Count
+use Rattle.gkr.proofs.Count as Count
 use Rattle.transcript.specs.Log.{Drawing}
 use Rattle.transcript.specs.Bound.{bound}
 use Rattle.transcript.specs.Source.{source}

@@ -7,7 +7,7 @@ use native.Mathlib.Omega.{arith}
 use lib.ListN.{length, get_or, replicate, length-append, length-replicate, get_or-append}
 use lib.Seq.{get_or-set_same, get_or-set_other, get_or-append-add}
 use Rattle.wire.specs.Bytes.{be4, bytes_of}
-use Rattle.wire.specs.ByteLaws.{bytes_length}
+use Rattle.wire.proofs.ByteLaws.{bytes_length}
 use Rattle.shake.specs.Sponge.{closed, padded}
 use Rattle.shake.specs.Drawn.{message}
 

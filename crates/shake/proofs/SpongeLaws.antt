@@ -9,7 +9,7 @@ use lib.ListN.{length, get_or, take, length-append, get_or-append}
 use lib.Seq.{take-suc}
 use Rattle.field.specs.Base.{P}
 use Rattle.wire.specs.Bytes.{bytes_of}
-use Rattle.wire.specs.ByteLaws.{bytes_append}
+use Rattle.wire.proofs.ByteLaws.{bytes_append}
 use Rattle.keccak.specs.Values.{values}
 use Rattle.keccak.specs.State.{as_list}
 use Rattle.keccak.specs.Keccak.{chi, iota, round, rounds, keccak}

@@ -1,4 +1,6 @@
 // SHAKE128 of FIPS 202, of a label and words after it, and the words that are drawn by it.
+#![tactic(auto)]
+
 ghost use Rattle.std.specs.Prelude.{◌≡◌, List, ℕ, ◌+◌, ◌*◌, ◌/◌, ◌^◌, ◌<◌, ◌≤◌, get_or, take, length};
 ghost use Rattle.field.specs.Base.{P};
 ghost use Rattle.keccak.specs.Values.{values};

@@ -1,6 +1,8 @@
 // Lists of fractions, and of elements, as text, read into words.
 // A line is `p q` or `p/q`, or one element; blank lines, and lines that begin with #, are skipped.
 // An element is a number below the prime, `-k` for minus k, or its four words `c0,c1,c2,c3`.
+#![tactic(auto)]
+
 pub mod scan; // words and elements at a place of a text
 pub mod lines; // what a line says
 pub mod list; // all lines of a text, into words

@@ -1,4 +1,6 @@
 // A sheet's answers as text: it is proved in sandbox mode with zero asserted, and the proof is verified. Challenge k, from 1, is the element k.
+#![tactic(auto)]
+
 use agreement::Joint;
 use answers::counting::count_up;
 use answers::{print_accepted, print_number, print_sum};

@@ -1,4 +1,6 @@
 // Sizes, each once: the rounds of so many rows, and the room that so many rounds ask for.
+#![tactic(auto)]
+
 ghost use Rattle.std.specs.Prelude.{◌≡◌, cond, ◌*◌, ◌^◌, ◌≤◌};
 ghost use Rattle.gkr.specs.Sizes as Sizes;
 ghost use Rattle.refusal.specs.Limits.{max_rounds};

@@ -6,7 +6,7 @@ use Rattle.std.proofs.Common.{arith}
 use Rattle.ring.specs.Ring.{num}
 use Rattle.ring.specs.RingLaws.{eq_of_sub}
 use Rattle.ring.specs.Field.{Field}
-use Rattle.ring.specs.Quote.{ring, ring_by, quote, ◌▷◌}
+use Rattle.ring.proofs.Quote.{ring, ring_by, quote, ◌▷◌}
 use Rattle.multilinear.specs.Forms
 use Rattle.multilinear.specs.Interpolate
 use Rattle.domain.specs.Field.{Domain}

@@ -7,14 +7,14 @@ use Rattle.std.proofs.Common.{◌∙◌, inl, inr, arith}
 use Rattle.std.proofs.Math.Nat.{pow-succ'}
 use Rattle.ring.specs.Ring.{CommRing}
 use Rattle.ring.specs.RingLaws.{mul_nil, nil_mul}
-use Rattle.ring.specs.Quote.{ring_by, quote, ◌▷◌}
+use Rattle.ring.proofs.Quote.{ring_by, quote, ◌▷◌}
 use Rattle.multilinear.specs.Table
 use Rattle.multilinear.specs.Table.{even, odd}
-use Rattle.multilinear.specs.TableLaws
+use Rattle.multilinear.proofs.TableLaws
 use Rattle.gkr.specs.Run.{Frac}
 use Rattle.gkr.specs.Tree
 use Rattle.domain.specs.Field.{Domain}
-use Rattle.domain.specs.Tree.{paired, tree_paired, root_over_zero}
+use Rattle.domain.proofs.Tree.{paired, tree_paired, root_over_zero}
 use Rattle.soundness.specs.Fractions.{Inverts, fractions}
 
 module _ (K : CommRing) (D : Domain K) where

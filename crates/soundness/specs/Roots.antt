@@ -5,7 +5,7 @@ use Rattle.std.proofs.Common.{sym, ap, subst, inl, inr, le_of_suc-le-suc, arith}
 use Rattle.std.proofs.Math.Decide.{dec_le}
 use Rattle.ring.specs.Ring.{CommRing}
 use Rattle.ring.specs.RingLaws.{eq_of_sub}
-use Rattle.ring.specs.Quote.{ring, ring_by, quote, ◌▷◌}
+use Rattle.ring.proofs.Quote.{ring, ring_by, quote, ◌▷◌}
 use Rattle.multilinear.specs.Forms
 use Rattle.domain.specs.Field.{Domain}
 use Rattle.soundness.specs.Few.{All, Distinct, AtMost}

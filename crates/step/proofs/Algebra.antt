@@ -3,7 +3,7 @@
 use mathlib.Core.Path.{◌≡◌, refl, ◌∙◌}
 use mathlib.Core.List.{List, [], ◌∷◌}
 use Rattle.ring.specs.Ring.{num}
-use Rattle.ring.specs.Quote.{ring, quote}
+use Rattle.ring.proofs.Quote.{ring, quote}
 use Rattle.field.specs.Base as B
 use Rattle.field.specs.Base.{of}
 use Rattle.field.specs.Ext as E

@@ -1,5 +1,7 @@
 // The formulas at one index, each once: sums of fractions, lines through two entries, the summands of a sub-round, one step of doubling.
 // All of these take canonical words; loops over columns and over the tree call them.
+#![tactic(auto)]
+
 ghost use Rattle.field.specs.Ext as E;
 ghost use Rattle.field.specs.ExtRing.{ExtRing};
 ghost use Rattle.field.specs.Element.{dec, Canon, Is};

@@ -4,8 +4,6 @@ pub mod Parse
 pub mod Shapes
 pub mod ParseLaws
 pub mod ReadWords
-pub mod RoundTrip
 pub mod Lengths
 pub mod Elements
-pub mod ElementLaws
 pub mod OneAnswer

@@ -1,4 +1,6 @@
 // The stored form of a proof: its shape, its elements, the search for a bad word in it, and whether its root is over zero.
+#![tactic(auto)]
+
 ghost use Rattle.std.specs.Prelude.{◌≡◌, true, ◌+◌, ◌*◌, ◌≤◌, length, drop};
 ghost use Rattle.wire.specs.Words.{first_bad};
 ghost use Rattle.stored.specs.Elements.{over_zero};
@@ -11,7 +13,7 @@ use field::Ext;
 use refusal::Refusal;
 
 // The counts of the two lists, and the place of the first polynomial entry.
-#[derive(Drop)]
+#[derive(Clone, Copy)]
 pub struct Outline {
     pub layers: usize,
     pub entries: usize,

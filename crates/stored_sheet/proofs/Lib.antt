@@ -1,2 +1,3 @@
 pub mod SheetSteps
 pub mod SheetPuts
+pub mod SheetLaws

@@ -18,13 +18,13 @@ use Rattle.wire.specs.Bytes.{be4, bytes_of}
 use Rattle.wire.specs.Words.{first_bad}
 use Rattle.wire.specs.Written.{Wrote}
 use Rattle.wire.specs.WrittenLaws.{wrote_then, wrote_front}
-use Rattle.wire.specs.ByteLaws.{bytes_length}
+use Rattle.wire.proofs.ByteLaws.{bytes_length}
 use Rattle.wire.specs.WordLaws.{none_canonical, some_bad}
 use Rattle.stored_sheet.specs.declared.SheetAnswer.{SheetAnswer}
 use Rattle.stored_sheet.specs.declared.SheetAnswer.TheVariants.{Done, Refused}
 use Rattle.stored_sheet.specs.Sheet.{sheet}
 use Rattle.stored_sheet.specs.SheetReads.{sized, tested, write_answer, SheetEnd, sheet_end, sheet_written}
-use Rattle.stored_sheet.specs.SheetLaws.{taken, write_done}
+use Rattle.stored_sheet.proofs.SheetLaws.{taken, write_done}
 use Rattle.stored_sheet.proofs.SheetSteps.{sized_many, sized_odd, sized_short, sized_words}
 
 module _ (ws : List ℕ) (room : ℕ) where

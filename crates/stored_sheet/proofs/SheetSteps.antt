@@ -18,13 +18,13 @@ use Rattle.refusal.specs.declared.Refusal.TheVariants.{TooManyRows, NotPowerOfTw
 use Rattle.refusal.specs.declared.Words.TheVariants.{Rows}
 use Rattle.wire.specs.Bytes.{word, words_from}
 use Rattle.wire.specs.Words.{all_canonical, first_bad}
-use Rattle.wire.specs.ByteLaws.{words_length, words_add}
+use Rattle.wire.proofs.ByteLaws.{words_length, words_add}
 use Rattle.wire.specs.WordLaws.{none_canonical, some_bad}
 use Rattle.stored_sheet.specs.declared.SheetAnswer.{SheetAnswer}
 use Rattle.stored_sheet.specs.declared.SheetAnswer.TheVariants.{Done, Refused}
 use Rattle.stored_sheet.specs.Sheet.{sheet, row_count, row_words}
 use Rattle.stored_sheet.specs.SheetReads.{sized, tested, read_answer, SheetEnd, sheet_end, sheet_read}
-use Rattle.stored_sheet.specs.SheetLaws.{taken, read_done}
+use Rattle.stored_sheet.proofs.SheetLaws.{taken, read_done}
 
 -- a count of rows
 pub taken_none : (n : ℕ) → n ≡ 0 → true ≡ taken n

@@ -2,5 +2,4 @@
 pub mod Sheet
 pub mod SheetReads
 pub mod Report
-pub mod SheetLaws
 pub mod OneAnswer

@@ -1,4 +1,6 @@
 // The stored form of a sheet: read into words, and written from them.
+#![tactic(auto)]
+
 ghost use Rattle.std.specs.Prelude.{◌≡◌, true, cond, ◌++◌, ◌+◌, ◌*◌, ◌<◌, ◌≤◌, eqb, length, drop};
 ghost use Rattle.refusal.specs.Powers.{power_of_two};
 ghost use Rattle.wire.specs.Bytes.{words_from, bytes_of};

@@ -1,5 +1,7 @@
 // Runs the cases of standard input and prints each answer; scripts/stored_vectors makes the cases and the answers.
 // A case is its size, the operation, the room of the buffer, and bytes or words: all decimal.
+#![tactic(auto)]
+
 use field::Ext;
 use refusal::Refusal;
 use stored::{LayerClaims, Outline, Shape, SubroundEvals};

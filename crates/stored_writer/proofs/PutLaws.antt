@@ -18,10 +18,10 @@ use Rattle.wire.specs.Bytes.{be4, bytes_of}
 use Rattle.wire.specs.Words.{ext_words}
 use Rattle.wire.specs.Written.{Wrote}
 use Rattle.wire.specs.WrittenLaws.{wrote_then, wrote_front}
-use Rattle.wire.specs.ByteLaws.{bytes_append}
+use Rattle.wire.proofs.ByteLaws.{bytes_append}
 use Rattle.stored.specs.Layout.{cubic_words, claim_words, cubics_words, claims_words, entries_bytes, body, layout}
 use Rattle.stored.specs.Lengths.{up_from, lengths}
-use Rattle.stored.specs.RoundTrip.{claims_size, cubics_size}
+use Rattle.stored.proofs.RoundTrip.{claims_size, cubics_size}
 use Rattle.stored_writer.specs.Messages.{stored_cubic, stored_claims, stored_polys, stored_layers, stored_entries, stored_proof, no_rows, words_of_log}
 
 -- PIECES

@@ -1,4 +1,6 @@
 // The stored form of a proof, written from the log in which its messages stand.
+#![tactic(auto)]
+
 ghost use Rattle.std.specs.Prelude.{◌≡◌, [], ◌∷◌, ◌++◌, ◌+◌, ◌-◌, ◌*◌, ◌<◌, ◌≤◌, length, drop};
 ghost use Rattle.field.specs.Element.{enc};
 ghost use Rattle.field.specs.Cells.{cell};

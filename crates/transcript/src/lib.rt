@@ -1,4 +1,6 @@
 // The transcript over lent buffers: elements are observed into a log, and challenges are drawn from it or taken from those supplied.
+#![tactic(auto)]
+
 ghost use Rattle.std.specs.Prelude.{◌≡◌, cond, List, ℕ, ◌+◌, ◌*◌, ◌<◌, ◌≤◌, length, take};
 ghost use Rattle.field.specs.Base.{P};
 ghost use Rattle.field.specs.Cells.{Clean};

@@ -22,7 +22,7 @@ use Rattle.gkr.specs.Tree as Tree
 use Rattle.gkr.specs.Gkr as Gkr
 use Rattle.gkr.specs.Gkr.{accepted, zero_rounds, layer_count, poly_count, zero_check, root_check, subround_count, layer_check}
 use Rattle.gkr.specs.Tests.{fail}
-use Rattle.gkr.specs.VerifierCount.{accepted_point}
+use Rattle.gkr.proofs.VerifierCount.{accepted_point}
 use Rattle.soundness.specs.Challenges.{Accepts}
 use Rattle.transcript.specs.Log.{Drawing}
 use Rattle.transcript.specs.Bound.{bound}

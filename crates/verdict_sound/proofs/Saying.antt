@@ -19,9 +19,11 @@ use Rattle.soundness.specs.FewLaws.{onto, onto_right}
 use Rattle.soundness.specs.Steps.{bad}
 use Rattle.soundness.specs.Challenges as Challenges
 use Rattle.soundness.specs.Challenges.{Accepts, RootIs}
-use Rattle.soundness.specs.Shape.{accepted_lengths}
-use Rattle.soundness.specs.Extension.{accepted_sound as model_sound, live_rows, three_bad}
-use Rattle.soundness.specs.WordLog.{at_log, DrewAt, source_sound}
+use Rattle.soundness.proofs.Shape.{accepted_lengths}
+use Rattle.soundness.specs.Extension.{live_rows}
+use Rattle.soundness.proofs.Extension.{accepted_sound as model_sound, three_bad}
+use Rattle.soundness.specs.WordLog.{DrewAt}
+use Rattle.soundness.proofs.WordLog.{at_log, source_sound}
 use Rattle.transcript.specs.Log.{Drawing}
 use Rattle.transcript.specs.BoundLaws.{bound_words}
 use Rattle.refusal.specs.Fronts.{over}

@@ -14,7 +14,7 @@ use Rattle.field.specs.ExtRing.{ExtRing}
 use Rattle.field.specs.Element.{enc}
 use Rattle.field.specs.Cells.{cells}
 use Rattle.field.specs.CellLaws.{cell_take}
-use Rattle.field.specs.PointLaws.{cells_kept}
+use Rattle.field.proofs.PointLaws.{cells_kept}
 use Rattle.field.specs.declared.Ext.{Ext}
 use Rattle.gkr.specs.Run.{Frac}
 use Rattle.gkr.specs.Sizes.{point_words}

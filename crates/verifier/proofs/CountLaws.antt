@@ -15,7 +15,8 @@ use Rattle.field.specs.Element.{dec, Canon}
 use Rattle.multilinear.specs.RoundSum.{Claims}
 use Rattle.gkr.specs.Run.{Cubic, Proof}
 use Rattle.gkr.specs.Transcripts.{Words, empty, Source}
-use Rattle.gkr.specs.Count.{run_cost, words, draws}
+use Rattle.gkr.specs.Count.{run_cost}
+use Rattle.gkr.proofs.Count.{words, draws}
 use Rattle.gkr.specs.Sizes.{challenges}
 use Rattle.gkr.specs.Gkr as Gkr
 use Rattle.gkr.specs.Gkr.{layer_count, poly_count}

@@ -13,7 +13,7 @@ use Rattle.field.specs.Ext as E
 use Rattle.field.specs.Element.{dec, enc, words_of_point}
 use Rattle.field.specs.ElementLaws.{enc_dec}
 use Rattle.field.specs.Cells.{Clean, cells}
-use Rattle.field.specs.PointLaws.{point_is}
+use Rattle.field.proofs.PointLaws.{point_is}
 use Rattle.gkr.specs.Gkr.{accepted}
 use Rattle.gkr.specs.Tests.{fail}
 use Rattle.gkr.specs.Transcripts.{Words, Source}

@@ -17,7 +17,7 @@ use Rattle.refusal.specs.TestWays.{next, each_way}
 use Rattle.stored.specs.Parse.{count_of_layers, count_of_entries}
 use Rattle.stored.specs.ParseLaws.{fits_reads}
 use Rattle.stored.specs.Elements.{over_zero}
-use Rattle.stored.specs.ElementLaws.{root_there, root_nil}
+use Rattle.stored.proofs.ElementLaws.{root_there, root_nil}
 use Rattle.verifier_round.specs.declared.Verdict.TheVariants.{Refused}
 use Rattle.verifier.specs.Verified.{Asked, Lent, counted, rootless, tests, fronts, laid, verified}
 use Rattle.verifier.specs.Companions.{in_mode, ZeroRooted, LiveVerifying}

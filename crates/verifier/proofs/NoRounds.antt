@@ -20,7 +20,7 @@ use Rattle.refusal.specs.TestLaws.{all_passed}
 use Rattle.refusal.specs.TestWays.{met_at, each_way}
 use Rattle.wire.specs.Bytes.{elem}
 use Rattle.stored.specs.declared.Outline.{Outline}
-use Rattle.stored.specs.ReadWords.{proof_q0}
+use Rattle.stored.proofs.ReadWords.{proof_q0}
 use Rattle.stored.specs.Parse.{count_of_layers, count_of_entries, proof_of}
 use Rattle.verifier_round.specs.declared.Verdict.{Verdict}
 use Rattle.verifier_round.specs.declared.Verdict.TheVariants.{Accepted, Refused}

@@ -17,7 +17,7 @@ use Rattle.gkr.specs.Run.{Frac, Proof}
 use Rattle.gkr.specs.Sizes.{challenges, log_words}
 use Rattle.gkr.specs.Tests.{either}
 use Rattle.gkr.specs.Transcripts.{Words, Source, empty}
-use Rattle.gkr.specs.TranscriptLaws as TranscriptLaws
+use Rattle.gkr.proofs.TranscriptLaws as TranscriptLaws
 use Rattle.gkr.specs.TranscriptLaws.{sampled_words}
 use Rattle.gkr.specs.Gkr as Gkr
 use Rattle.gkr.specs.Gkr.{accepted, zero_rounds, layer_count, poly_count, zero_check, root_check, subround_count, layer_check}

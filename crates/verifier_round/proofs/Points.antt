@@ -7,7 +7,7 @@ use native.Mathlib.Numerals.{add-one}
 use native.Mathlib.Omega.{arith}
 use Rattle.field.specs.Ext as E
 use Rattle.field.specs.Cells.{cell, Stored, cells}
-use Rattle.field.specs.PointLaws.{cells_snoc, cells_kept}
+use Rattle.field.proofs.PointLaws.{cells_snoc, cells_kept}
 use Rattle.verifier_round.specs.Points.{ahead}
 
 -- the whole old point, as it stands before the first sub-round

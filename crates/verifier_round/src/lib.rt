@@ -1,5 +1,7 @@
 // One round of the verifier, step by step, over messages that are read already: what is observed and sampled, how claims go on, what is checked.
 // All of these take canonical words.
+#![tactic(auto)]
+
 ghost use Rattle.std.specs.Prelude.{◌≡◌, List, ℕ, ◌+◌, ◌*◌, ◌<◌, ◌≤◌, length};
 ghost use Rattle.field.specs.Ext as E;
 ghost use Rattle.field.specs.ExtRing.{ExtRing};
@@ -27,7 +29,7 @@ use stored::{LayerClaims, SubroundEvals};
 use transcript::Pos;
 
 // The claims on the two columns after a layer, and where the run stands.
-#[derive(Drop)]
+#[derive(Clone, Copy)]
 pub struct Layer {
     pub pos: Pos,
     pub numer: Ext,
@@ -51,7 +53,7 @@ pub struct Opened {
 }
 
 // What a layer ends in: the claims after it, or the check that failed and where the run stood.
-#[derive(Drop)]
+#[derive(Clone, Copy)]
 pub enum Advance {
     Next(Layer),
     Stopped { refusal: Refusal, pos: Pos },

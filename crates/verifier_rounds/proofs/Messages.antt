@@ -12,7 +12,8 @@ use Rattle.stored.specs.Layout.{claim_words, cubic_words, claims_words, cubics_w
 use Rattle.stored.specs.Parse.{claims_of, cubic_of, claims_from, cubics_from, entries_from}
 use Rattle.stored.specs.ParseLaws.{claims_step, cubics_step, entries_step}
 use Rattle.gkr.specs.Run.{Cubic}
-use Rattle.stored.specs.ReadWords.{CanonClaims, CanonCubic, claim_canonical, cubic_canonical}
+use Rattle.stored.specs.ReadWords.{CanonClaims, CanonCubic}
+use Rattle.stored.proofs.ReadWords.{claim_canonical, cubic_canonical}
 
 -- the first, and the rest
 module _ (n at : ℕ) (bs : List ℕ) where

@@ -13,7 +13,7 @@ use Rattle.field.specs.Extension.{Extension}
 use Rattle.field.specs.declared.Ext.{Ext}
 use Rattle.field.specs.Element.{dec, Canon}
 use Rattle.field.specs.Cells.{cell, cells}
-use Rattle.field.specs.PointLaws.{cells_length}
+use Rattle.field.proofs.PointLaws.{cells_length}
 use Rattle.stored.specs.declared.LayerClaims.{LayerClaims}
 use Rattle.stored.specs.Shapes.{claims_in}
 use Rattle.wire.specs.Words.{all_canonical}

@@ -2,6 +2,5 @@
 pub mod Bytes
 pub mod Words
 pub mod Written
-pub mod ByteLaws
 pub mod WordLaws
 pub mod WrittenLaws

@@ -1,4 +1,6 @@
 // Words in bytes, the highest byte first, and the search for a word that is not canonical.
+#![tactic(auto)]
+
 ghost use Rattle.std.specs.Prelude.{◌≡◌, [], ◌∷◌, ◌+◌, ◌*◌, ◌<◌, ◌≤◌, length, drop};
 ghost use Rattle.wire.specs.Bytes.{be4, word, words_from, elem};
 ghost use Rattle.wire.specs.Words.{all_canonical, first_bad};

@@ -28,10 +28,13 @@ pub returns-then-count-eq0 : goal.returns-then-count-eq0
 returns-then-count-eq0 c = no_rows ∙ done_none _ _ c.if-rows-ne0.false c.if-count-gt-MAX_ROWS.false c.is_size.ensures c.if-not-is_size.false c.least_size-n.ensures.0 c.if-point-n.false c.first_bad_word-place.ensures c.if-place-rows.false c.first_bad_word-place-2.ensures c.if-place-point.false c.if-count-eq0.true
 
 pub eval_rows_by_halves-requires : goal.eval_rows_by_halves-requires
-eval_rows_by_halves-requires c = let a = c.args in record { room = (rows_length a.rows.now a.point.now c.if-rows-ne0.false c.if-count-gt-MAX_ROWS.false c.is_size.ensures c.if-not-is_size.false c.least_size-n.ensures.0 c.if-count-eq0.false, omega (arith, c.if-point-n.false)); clean = (
-        record { below = canonical_below a.rows.now (none_canonical a.rows.now (omega (arith, c.first_bad_word-place.ensures, c.if-place-rows.false))) },
-        record { below = canonical_below a.point.now (none_canonical a.point.now (omega (arith, c.first_bad_word-place-2.ensures, c.if-place-point.false))) },
-      ) }
+eval_rows_by_halves-requires c = let a = c.args in record {
+  room = (rows_length a.rows.now a.point.now c.if-rows-ne0.false c.if-count-gt-MAX_ROWS.false c.is_size.ensures c.if-not-is_size.false c.least_size-n.ensures.0 c.if-count-eq0.false, omega (arith, c.if-point-n.false));
+  clean = (
+    record { below = canonical_below a.rows.now (none_canonical a.rows.now (omega (arith, c.first_bad_word-place.ensures, c.if-place-rows.false))) },
+    record { below = canonical_below a.point.now (none_canonical a.point.now (omega (arith, c.first_bad_word-place-2.ensures, c.if-place-point.false))) },
+  );
+}
 
 pub returns : goal.returns
 returns c = c.done.ensures ∙ done_some _ _ c.if-rows-ne0.false c.if-count-gt-MAX_ROWS.false c.is_size.ensures c.if-not-is_size.false c.least_size-n.ensures.0 c.if-point-n.false c.first_bad_word-place.ensures c.if-place-rows.false c.first_bad_word-place-2.ensures c.if-place-point.false c.if-count-eq0.false c.eval_rows_by_halves.ensures

@@ -1,5 +1,4 @@
 use mathlib.Core.Path.{refl}
-use borrow.Author.Rules.{rules}
 use Rattle.keccak.proofs.load.Goals as goal
 
 pub returns : goal.returns

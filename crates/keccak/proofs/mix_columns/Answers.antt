@@ -1,6 +1,5 @@
 use Rattle.keccak.proofs.Steps.{theta_with}
 use native.Mathlib.Omega.{arith}
-use borrow.Author.Rules.{rules}
 use Rattle.keccak.proofs.mix_columns.Goals as goal
 
 pub rotated-requires : goal.rotated-requires

@@ -2,7 +2,6 @@ use mathlib.Core.Path.{◌∙◌, ap}
 use mathlib.Core.List.{List}
 use Prim.Native.Nat.{ℕ}
 use Rattle.keccak.specs.Keccak.{add_first, chi, pi, rho}
-use borrow.Author.Rules.{rules}
 use Rattle.keccak.proofs.one_round.Goals as goal
 
 pub returns : goal.returns

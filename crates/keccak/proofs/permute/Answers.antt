@@ -1,10 +1,7 @@
-use mathlib.Core.Path.{◌≡◌, refl}
-use Prim.Native.Nat.{◌≤◌, ◌-◌}
+use mathlib.Core.Path.{refl}
 use Rattle.keccak.specs.Keccak.{rounds}
-use Rattle.keccak.specs.State.{as_list}
 use Rattle.keccak.specs.Tables.{table}
 use Rattle.keccak.proofs.Rounds.{constant_at, one_more, with_constant, all_rounds}
-use borrow.Author.Rules.{rules}
 use native.Mathlib.Omega.{arith}
 use Rattle.keccak.proofs.permute.Goals as goal
 

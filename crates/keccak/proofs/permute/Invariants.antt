@@ -1,11 +1,7 @@
-use mathlib.Core.Path.{◌≡◌, refl}
+use mathlib.Core.Path.{◌≡◌}
 use Prim.Native.Nat.{◌≤◌, ◌-◌}
 use Rattle.keccak.specs.Keccak.{rounds}
 use Rattle.keccak.specs.State.{as_list}
-use Rattle.keccak.specs.Tables.{table}
-use Rattle.keccak.proofs.Rounds.{constant_at, one_more, with_constant, all_rounds}
-use borrow.Author.Rules.{rules}
-use native.Mathlib.Omega.{arith}
 use Rattle.keccak.proofs.permute.Given as goal
 
 abbrev pub invariant-loop-k : goal.invariant-loop-k

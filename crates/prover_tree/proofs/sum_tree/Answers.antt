@@ -9,4 +9,3 @@ use Rattle.prover_tree.proofs.sum_tree.Goals as goal
 
 pub loop-node_idx-init : goal.loop-node_idx-init
 loop-node_idx-init c = (search rules, search rules, sum_none _ _ (search rules))
-

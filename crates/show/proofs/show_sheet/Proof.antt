@@ -3,7 +3,7 @@
 use native.Mathlib.Omega.{arith}
 use borrow.Author.Rules.{rules}
 use Rattle.agreement.proofs.Joining.{all_taken}
-use Rattle.stored_sheet.specs.SheetLaws.{read_most, read_fits}
+use Rattle.stored_sheet.proofs.SheetLaws.{read_most, read_fits}
 use Rattle.show.proofs.show_sheet.Statement.{statement}
 use Rattle.show.proofs.show_sheet.Tie as tie
 

@@ -4,7 +4,7 @@ use Prim.Native.Nat.{ℕ, ◌+◌, ◌*◌, ◌-◌, ◌≤◌, ◌<◌}
 use lib.ListN.{length, get_or, drop}
 use Rattle.stored_sheet.proofs.SheetPuts.{words_turn, words_over, words_left}
 use Rattle.wire.specs.Bytes.{bytes_of}
-use Rattle.wire.specs.ByteLaws.{bytes_length}
+use Rattle.wire.proofs.ByteLaws.{bytes_length}
 use Rattle.wire.specs.Written.{Writing}
 use Rattle.wire.specs.WrittenLaws.{writing_none, writing_next, writing_end}
 use borrow.Author.Rules.{rules}

@@ -18,5 +18,8 @@ bounds-log-put-4 c = simp length-set (omega arith)
 
 pub returns : goal.returns
 returns c = let a = c.args in
-    let x = c.load-x in record { steps = λ ls. sampled _ ls ls (supplied a.challenges.now) a.pos x.result _ c.requires.room.0 x.ensures
-          (four_grown a.log.now a.pos.put (mark x.result.c0) (mark x.result.c1) (mark x.result.c2) (mark x.result.c3) c.requires.room.0 (sponge_of ls a.pos)); value = x.ensures }
+    let x = c.load-x in record {
+      steps = λ ls. sampled _ ls ls (supplied a.challenges.now) a.pos x.result _ c.requires.room.0 x.ensures
+          (four_grown a.log.now a.pos.put (mark x.result.c0) (mark x.result.c1) (mark x.result.c2) (mark x.result.c3) c.requires.room.0 (sponge_of ls a.pos));
+      value = x.ensures;
+    }

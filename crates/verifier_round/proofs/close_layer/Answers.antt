@@ -15,10 +15,8 @@ descend-requires c = let p = c.requires in
     let s = o.ensures c.args.lanes.now in
     record { room = (p.room.0, omega (arith, p.room.1, o.auto, s.put), enough_after 1 (omega arith) (omega arith) s p.room.2); clean = (p.clean.0, p.clean.1) }
 
-
 pub returns-then-not-same_words : goal.returns-then-not-same_words
 returns-then-not-same_words c = closed_stop _ _ _ _ (dec_claims (claims_in c.args.c)) c.args.round c.args.lambda c.args.s c.expected_claim-expected.result _ c.same_words.result c.expected_claim-expected.ensures c.requires.clean.2.claim c.same_words.ensures (ap not c.if-not-same_words.true) (c.observe_layer_claims-end.ensures c.args.lanes.now) c.requires.room.1
 
 pub returns : goal.returns
 returns c = closed_go _ _ _ _ _ _ (dec_claims (claims_in c.args.c)) c.args.round c.args.lambda c.args.s c.expected_claim-expected.result _ _ c.same_words.result c.expected_claim-expected.ensures c.requires.clean.2.claim c.same_words.ensures (ap not c.if-not-same_words.false) (c.observe_layer_claims-end.ensures _) (descended_alike c.args.challenges.now (c.observe_layer_claims-end.ensures c.args.lanes.now).drawn c.descend.ensures)
-

@@ -25,7 +25,6 @@ descend-requires c = let p = c.requires in
 pub shape_of-log : goal.shape_of-log
 shape_of-log c = omega (arith, c.descend.auto, c.observe_layer_claims-p.auto, c.observe_ext-a.auto)
 
-
 pub returns-then-not-same_words : goal.returns-then-not-same_words
 returns-then-not-same_words c = root_zero c.args.point.now _ _ _ _ c.args.q0 (dec_claims (claims_in c.args.c)) _ _ _ c.compute_recursive_relations-f.result c.same_words.result c.compute_recursive_relations-f.ensures c.requires.clean.2 c.same_words.ensures (c.observe_ext-a.ensures c.args.lanes.now) (c.observe_layer_claims-p.ensures c.args.lanes.now) (ap not c.if-not-same_words.true) c.requires.room.1
 
@@ -34,4 +33,3 @@ returns-then-not-same_words-2 c = root_differs c.args.point.now _ _ _ _ c.args.q
 
 pub returns : goal.returns
 returns c = root_go _ _ _ _ _ c.args.q0 (dec_claims (claims_in c.args.c)) _ _ _ c.compute_recursive_relations-f.result c.same_words.result c.compute_recursive_relations-f.ensures c.requires.clean.2 c.same_words.ensures (c.observe_ext-a.ensures _) (c.observe_layer_claims-p.ensures _) c.same_words-2.result (ap not c.if-not-same_words.false) c.same_words-2.ensures _ _ _ (ap not c.if-not-same_words-2.false) (descended_alike c.args.challenges.now ((c.observe_layer_claims-p.ensures c.args.lanes.now).drawn ∙ (c.observe_ext-a.ensures c.args.lanes.now).drawn) c.descend.ensures)
-

@@ -17,7 +17,7 @@ pub verify_rounds-requires : goal.verify_rounds-requires
 verify_rounds-requires c = let p = c.requires in
     let k = c.verify_root.auto in
     let g = root_goes c.args.proof.now _ _ _ _ _ c.args.polys c.args.rounds c.args.pos _ _ _ _ c.element_at-q0.ensures c.read_claims-c.ensures c.verify_root.ensures _ c.in-Next.is in
-    record { read = (p.read.0, p.read.2); room = (omega (arith, p.room.0, k), root_space c.args.proof.now _ _ _ _ _ c.args.polys c.args.rounds c.args.pos _ _ _ _ c.element_at-q0.ensures c.read_claims-c.ensures c.verify_root.ensures _ c.in-Next.is k.1.1.1.0 _ p.room.1); clean = (g.clean, g.numer, g.denom) }
+    record { read = (p.read.0, p.read.2); room = (omega (arith, p.room.0, k), root_space c.args.proof.now _ _ _ _ _ c.args.polys c.args.rounds c.args.pos _ _ _ _ c.element_at-q0.ensures c.read_claims-c.ensures c.verify_root.ensures _ c.in-Next.is k.log _ p.room.1); clean = (g.clean, g.numer, g.denom) }
 
 pub shape_of-point-in-Next : goal.shape_of-point-in-Next
 shape_of-point-in-Next c = omega (arith, c.verify_root.auto, c.verify_rounds.auto)

@@ -21,7 +21,7 @@ pub overflow_add-at : goal.overflow_add-at
 overflow_add-at c = omega (arith, c.loop-j.invariant.place, c.requires.room, c.loop-j-test.true, c.well_formed.0)
 
 pub loop-j-preserved : goal.loop-j-preserved
-loop-j-preserved c = sub_turn _ _ _ _ _ _ _ _ _ _ _ _ c.loop-j.invariant _ _ _ c.loop-j-test.true c.sub_round_at-s.auto.lanes c.sub_round_at-s.auto.s.1.0 (sub_round_alike c.args.challenges.now c.loop-j.invariant.steps.drawn c.sub_round_at-s.ensures)
+loop-j-preserved c = sub_turn _ _ _ _ _ _ _ _ _ _ _ _ c.loop-j.invariant _ _ _ c.loop-j-test.true c.sub_round_at-s.auto.point c.sub_round_at-s.auto.log (sub_round_alike c.args.challenges.now c.loop-j.invariant.steps.drawn c.sub_round_at-s.ensures)
 
 pub shape_of-point : goal.shape_of-point
 shape_of-point c = c.loop-j.invariant.points

@@ -16,7 +16,7 @@ verify_round-requires c = let p = c.requires in
     let t = c.loop-round-test.true in
     let r = next_read _ _ _ _ _ _ _ _ _ _ _ _ _ _ i t in
     let q = next_room _ _ _ _ _ _ _ _ _ _ _ _ _ _ i c.loop-round.invariant.1 t in
-    record { read = (r.claims-there, r.entry-there); room = (omega (arith, p.room, i.points, t), q.put, q.enough); clean = (i.clean, i.numer, i.denom); words = (r.claims-canon, r.entry-canon) }
+    record { read = (r.claims_there, r.entry_there); room = (omega (arith, p.room, i.points, t), q.put, q.enough); clean = (i.clean, i.numer, i.denom); words = (r.claims_canon, r.entry_canon) }
 
 pub shape_of-point-in-Stopped : goal.shape_of-point-in-Stopped
 shape_of-point-in-Stopped c = omega (arith, c.verify_round.auto, c.loop-round.invariant.0.points)
@@ -29,19 +29,19 @@ returns-in-Stopped c = going_stop _ _ _ _ _ _ _ _ _ _ _ _ _ _ c.loop-round.invar
 
 pub overflow_add-c : goal.overflow_add-c
 overflow_add-c c = let r = next_read _ _ _ _ _ _ _ _ _ _ _ _ _ _ c.loop-round.invariant.0 c.loop-round-test.true in
-    omega (arith, r.claims-there, c.well_formed)
+    omega (arith, r.claims_there, c.well_formed)
 
 pub overflow_mul-p : goal.overflow_mul-p
 overflow_mul-p c = let r = next_read _ _ _ _ _ _ _ _ _ _ _ _ _ _ c.loop-round.invariant.0 c.loop-round-test.true in
-    omega (arith, r.entry-there, c.verify_round.ensures.counted _ c.in-Next.is, c.well_formed)
+    omega (arith, r.entry_there, c.verify_round.ensures.counted _ c.in-Next.is, c.well_formed)
 
 pub overflow_add-p : goal.overflow_add-p
 overflow_add-p c = let r = next_read _ _ _ _ _ _ _ _ _ _ _ _ _ _ c.loop-round.invariant.0 c.loop-round-test.true in
-    omega (arith, r.entry-there, c.verify_round.ensures.counted _ c.in-Next.is, c.well_formed)
+    omega (arith, r.entry_there, c.verify_round.ensures.counted _ c.in-Next.is, c.well_formed)
 
 pub overflow_add-p-in-loop-round : goal.overflow_add-p-in-loop-round
 overflow_add-p-in-loop-round c = let r = next_read _ _ _ _ _ _ _ _ _ _ _ _ _ _ c.loop-round.invariant.0 c.loop-round-test.true in
-    omega (arith, r.entry-there, c.verify_round.ensures.counted _ c.in-Next.is, c.well_formed)
+    omega (arith, r.entry_there, c.verify_round.ensures.counted _ c.in-Next.is, c.well_formed)
 
 pub overflow_step-round : goal.overflow_step-round
 overflow_step-round c = omega (arith, c.loop-round-test.true, c.requires.room, c.well_formed)
@@ -51,8 +51,8 @@ loop-round-smaller c = omega (arith, c.loop-round-test.true)
 
 pub loop-round-preserved : goal.loop-round-preserved
 loop-round-preserved c = (
-  going_next _ _ _ _ _ _ _ _ _ _ _ _ _ _ c.loop-round.invariant.0 _ _ _ c.loop-round-test.true (round_done_alike c.args.challenges.now c.loop-round.invariant.0.drawn c.verify_round.ensures) _ c.in-Next.is c.verify_round.auto.s.1.0 c.verify_round.auto.s.1.1.0,
-  space_next _ _ _ _ _ _ _ _ _ _ _ _ _ _ c.loop-round.invariant.0 _ _ _ c.loop-round-test.true (round_done_alike c.args.challenges.now c.loop-round.invariant.0.drawn c.verify_round.ensures) _ c.in-Next.is c.verify_round.auto.s.1.1.0 c.loop-round.invariant.1,
+  going_next _ _ _ _ _ _ _ _ _ _ _ _ _ _ c.loop-round.invariant.0 _ _ _ c.loop-round-test.true (round_done_alike c.args.challenges.now c.loop-round.invariant.0.drawn c.verify_round.ensures) _ c.in-Next.is c.verify_round.auto.point c.verify_round.auto.log,
+  space_next _ _ _ _ _ _ _ _ _ _ _ _ _ _ c.loop-round.invariant.0 _ _ _ c.loop-round-test.true (round_done_alike c.args.challenges.now c.loop-round.invariant.0.drawn c.verify_round.ensures) _ c.in-Next.is c.verify_round.auto.log c.loop-round.invariant.1,
 )
 
 pub shape_of-point : goal.shape_of-point

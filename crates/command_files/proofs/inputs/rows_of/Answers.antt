@@ -1,5 +1,5 @@
 use Rattle.command_files.proofs.Parts.{read_rows, no_rows, rows_given, rows_refused}
-use Rattle.stored_sheet.specs.SheetLaws.{read_most}
+use Rattle.stored_sheet.proofs.SheetLaws.{read_most}
 use native.Mathlib.Omega.{arith}
 use Rattle.command_files.proofs.inputs.rows_of.Goals as goal
 

@@ -1,6 +1,6 @@
 use mathlib.Core.Path.{refl}
 use Rattle.stored_sheet.proofs.SheetPuts.{words_turn, words_over, words_left}
-use Rattle.wire.specs.ByteLaws.{bytes_length}
+use Rattle.wire.proofs.ByteLaws.{bytes_length}
 use Rattle.wire.specs.WrittenLaws.{writing_none, writing_next, writing_end}
 use native.Mathlib.Omega.{arith}
 use Rattle.command_files.proofs.logs.put_log.Goals as goal

@@ -1,7 +1,6 @@
 use mathlib.Core.Path.{ap₂}
 use lib.Dec.{eqb}
 use Rattle.field.specs.ElementLaws.{word_answer}
-use borrow.Author.Rules.{rules}
 use Rattle.field.proofs.Base.equals.Goals as goal
 
 pub returns : goal.returns

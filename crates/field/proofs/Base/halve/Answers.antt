@@ -1,7 +1,6 @@
 use mathlib.Core.Path.{refl}
 use Rattle.field.specs.Base as B
 use Rattle.field.specs.ElementLaws.{base_answer}
-use borrow.Author.Rules.{rules}
 use Rattle.field.proofs.Base.halve.Goals as goal
 
 pub returns : goal.returns

@@ -3,7 +3,6 @@ use lib.Dec.{eqb}
 use Rattle.field.specs.Base as B
 use Rattle.field.specs.Base.{of}
 use Rattle.field.specs.ElementLaws.{word_answer}
-use borrow.Author.Rules.{rules}
 use Rattle.field.proofs.Base.is_zero.Goals as goal
 
 pub returns : goal.returns

@@ -3,7 +3,6 @@ use Rattle.field.specs.Base as B
 use Rattle.field.specs.Base.{of}
 use Rattle.field.specs.BaseRing.{from_zero}
 use Rattle.field.specs.ElementLaws.{base_answer}
-use borrow.Author.Rules.{rules}
 use Rattle.field.proofs.Base.neg.Goals as goal
 
 pub returns : goal.returns

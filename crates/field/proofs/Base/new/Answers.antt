@@ -1,6 +1,5 @@
 use mathlib.Core.Path.{refl}
 use Rattle.field.specs.ElementLaws.{base_answer}
-use borrow.Author.Rules.{rules}
 use Rattle.field.proofs.Base.new.Goals as goal
 
 pub returns : goal.returns

@@ -1,5 +1,4 @@
 use Rattle.field.specs.ElementLaws.{enc_of_is}
-use borrow.Author.Rules.{rules}
 use Rattle.field.proofs.Ext.canonical.Goals as goal
 
 pub returns : goal.returns

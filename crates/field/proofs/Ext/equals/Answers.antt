@@ -1,7 +1,6 @@
 use mathlib.Core.Path.{◌∙◌, ap₂}
 use Rattle.field.specs.Element.{same_words}
 use Rattle.field.specs.ElementLaws.{same_enc}
-use borrow.Author.Rules.{rules}
 use Rattle.field.proofs.Ext.equals.Goals as goal
 
 pub returns : goal.returns

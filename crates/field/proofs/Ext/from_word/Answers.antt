@@ -1,6 +1,5 @@
 use Rattle.field.specs.Base as B
 use Rattle.field.specs.Ext as E
-use borrow.Author.Rules.{rules}
 use Rattle.field.proofs.Ext.from_word.Goals as goal
 
 pub returns : goal.returns

@@ -1,7 +1,6 @@
 use Rattle.field.specs.Base as B
 use Rattle.field.specs.Ext as E
 use Rattle.field.specs.ElementLaws.{enc_of_is}
-use borrow.Author.Rules.{rules}
 use Rattle.field.proofs.Ext.halve.Goals as goal
 
 pub returns : goal.returns

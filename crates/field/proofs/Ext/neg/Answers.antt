@@ -2,7 +2,6 @@ use mathlib.Core.Path.{ap, ◌∙◌}
 use Rattle.field.specs.Ext as E
 use Rattle.field.specs.ExtRing.{from_zero}
 use Rattle.field.specs.ElementLaws.{answer}
-use borrow.Author.Rules.{rules}
 use Rattle.field.proofs.Ext.neg.Goals as goal
 
 pub returns : goal.returns

@@ -1,4 +1,3 @@
-use borrow.Author.Rules.{rules}
 use Rattle.field.proofs.Ext.new.Goals as goal
 
 pub returns : goal.returns

@@ -1,6 +1,5 @@
 use Rattle.field.specs.Ext as E
 use Rattle.field.proofs.Residues.{is_four}
-use borrow.Author.Rules.{rules}
 use Rattle.field.proofs.Ext.plus.Goals as goal
 
 pub returns : goal.returns

@@ -1,7 +1,6 @@
 use mathlib.Core.Path.{ap₂}
 use Rattle.field.specs.Ext as E
 use Rattle.field.specs.ElementLaws.{answer}
-use borrow.Author.Rules.{rules}
 use Rattle.field.proofs.Ext.sub.Goals as goal
 
 pub returns : goal.returns

@@ -1,7 +1,5 @@
 use mathlib.Core.Path.{◌∙◌}
 use Rattle.field.proofs.LateSums.{nothing_more}
-use native.Mathlib.Omega.{arith}
-use borrow.Author.Rules.{rules}
 use Rattle.field.proofs.Ext.times.Goals as goal
 
 pub returns : goal.returns

@@ -2,8 +2,6 @@ use mathlib.Core.Path.{◌∙◌}
 use Rattle.field.specs.Base.{of}
 use Rattle.field.specs.Ext as E
 use Rattle.field.proofs.Residues.{is_four, coord0_by, coord1_by, coord2_by}
-use native.Mathlib.Omega.{arith}
-use borrow.Author.Rules.{rules}
 use Rattle.field.proofs.Ext.times_plus.Goals as goal
 
 pub returns : goal.returns

@@ -1,6 +1,4 @@
 use Rattle.field.proofs.LateSums.{eleven_small, eleven_folded}
-use native.Mathlib.Omega.{arith}
-use borrow.Author.Rules.{rules}
 use Rattle.field.proofs.sums.eleven_sum.Goals as goal
 
 pub returns : goal.returns

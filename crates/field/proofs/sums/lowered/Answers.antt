@@ -1,5 +1,4 @@
 use Rattle.field.proofs.LateSums.{less}
-use native.Mathlib.Omega.{arith}
 use borrow.Author.Rules.{rules}
 use Rattle.field.proofs.sums.lowered.Goals as goal
 

@@ -1,9 +1,8 @@
 use mathlib.Core.Path.{◌∙◌, ap, ap₂}
-use Rattle.field.specs.Base.{of, add, mul}
-use Rattle.field.specs.BaseRing.{of_add, of_mul}
+use Rattle.field.specs.Base.{add, mul}
+use Rattle.field.specs.BaseRing.{of_add}
 use Rattle.field.specs.Ext as E
 use Rattle.field.proofs.LateSums.{both}
-use native.Mathlib.Omega.{arith}
 use borrow.Author.Rules.{rules}
 use Rattle.field.proofs.sums.sum_c1.Goals as goal
 

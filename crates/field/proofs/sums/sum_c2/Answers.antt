@@ -3,7 +3,6 @@ use Rattle.field.specs.Base.{of, add, mul}
 use Rattle.field.specs.BaseRing.{of_add, of_mul}
 use Rattle.field.specs.Ext as E
 use Rattle.field.proofs.LateSums.{both_three}
-use native.Mathlib.Omega.{arith}
 use borrow.Author.Rules.{rules}
 use Rattle.field.proofs.sums.sum_c2.Goals as goal
 

@@ -1,6 +1,5 @@
 use Rattle.field.specs.Ext as E
 use Rattle.field.specs.ExtRing.{ext_path}
-use native.Mathlib.Omega.{arith}
 use borrow.Author.Rules.{rules}
 use Rattle.field.proofs.sums.sum_of_products.Goals as goal
 

@@ -1,5 +1,4 @@
 use Rattle.field.specs.BaseRing.{of_rules}
-use native.Mathlib.Omega.{arith}
 use borrow.Author.Rules.{rules}
 use Rattle.field.proofs.sums.two.Goals as goal
 

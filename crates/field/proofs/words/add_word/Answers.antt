@@ -2,7 +2,6 @@ use mathlib.Core.Path.{◌∙◌}
 use Rattle.field.specs.BaseRing.{of_add}
 use Rattle.field.proofs.Residues.{over}
 use native.Mathlib.Omega.{arith}
-use borrow.Author.Rules.{rules}
 use Rattle.field.proofs.words.add_word.Goals as goal
 
 pub returns-then-s-lt-ORDER_U32 : goal.returns-then-s-lt-ORDER_U32

@@ -5,7 +5,7 @@ use lib.ListN.{length}
 use lib.Dec.{leb}
 use Rattle.wire.specs.Words.{all_canonical}
 use Rattle.poly.specs.Checks.{whole, count}
-use Rattle.poly.specs.CheckLaws.{one_check, within}
+use Rattle.poly.proofs.CheckLaws.{one_check, within}
 use Rattle.poly.specs.Evaluations.{cube_sizes}
 use borrow.Author.Rules.{rules}
 use Rattle.poly.proofs.eq.cube_refusal.Goals as goal

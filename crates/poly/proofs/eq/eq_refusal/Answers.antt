@@ -2,7 +2,7 @@ use mathlib.Core.Path.{◌∙◌, ap}
 use mathlib.Core.Bool.{Bool, true}
 use Rattle.wire.specs.Words.{all_canonical}
 use Rattle.poly.specs.Checks.{refusal, count}
-use Rattle.poly.specs.CheckLaws.{two_checks}
+use Rattle.poly.proofs.CheckLaws.{two_checks}
 use Rattle.poly.specs.Evaluations.{eq_sizes}
 use borrow.Author.Rules.{rules}
 use Rattle.poly.proofs.eq.eq_refusal.Goals as goal

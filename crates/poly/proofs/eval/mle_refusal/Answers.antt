@@ -3,7 +3,7 @@ use mathlib.Core.Bool.{Bool, true, ◌&&◌}
 use lib.Dec.{eqb}
 use Rattle.wire.specs.Words.{all_canonical}
 use Rattle.poly.specs.Checks.{refusal, whole, count}
-use Rattle.poly.specs.CheckLaws.{two_checks, within}
+use Rattle.poly.proofs.CheckLaws.{two_checks, within}
 use Rattle.poly.specs.Evaluations.{mle_sizes}
 use borrow.Author.Rules.{rules}
 use Rattle.poly.proofs.eval.mle_refusal.Goals as goal

@@ -6,7 +6,7 @@ use lib.Dec.{leb}
 use Rattle.wire.specs.Words.{all_canonical}
 use Rattle.field.specs.Element.{canon_words}
 use Rattle.poly.specs.Checks.{refusal, whole, count}
-use Rattle.poly.specs.CheckLaws.{two_checks}
+use Rattle.poly.proofs.CheckLaws.{two_checks}
 use Rattle.poly.specs.Folds.{fold_sizes}
 use borrow.Author.Rules.{rules}
 use Rattle.poly.proofs.fold.fold_mle_evals_refusal.Goals as goal

@@ -2,7 +2,7 @@ use mathlib.Core.Bool.{true}
 use lib.ListN.{length}
 use Rattle.field.specs.Element.{canon_words}
 use Rattle.wire.specs.Words.{all_canonical}
-use Rattle.poly.specs.CheckLaws.{two_checks}
+use Rattle.poly.proofs.CheckLaws.{two_checks}
 use Rattle.poly.specs.Evaluations.{horner_sizes}
 use borrow.Author.Rules.{rules}
 use Rattle.poly.proofs.horner.horner_base_refusal.Goals as goal

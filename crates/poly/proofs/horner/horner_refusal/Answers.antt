@@ -1,7 +1,7 @@
 use Rattle.field.specs.Element.{canon_words}
 use Rattle.wire.specs.Words.{all_canonical}
 use Rattle.poly.specs.Checks.{whole, count}
-use Rattle.poly.specs.CheckLaws.{two_checks}
+use Rattle.poly.proofs.CheckLaws.{two_checks}
 use Rattle.poly.specs.Evaluations.{horner_sizes}
 use borrow.Author.Rules.{rules}
 use Rattle.poly.proofs.horner.horner_refusal.Goals as goal

@@ -2,7 +2,7 @@ use mathlib.Core.Path.{◌∙◌}
 use mathlib.Core.Bool.{true}
 use Rattle.field.specs.Element.{canon_words}
 use Rattle.poly.specs.Checks.{refusal, count}
-use Rattle.poly.specs.CheckLaws.{two_checks}
+use Rattle.poly.proofs.CheckLaws.{two_checks}
 use Rattle.poly.specs.Folds.{round_sizes, all_five}
 use borrow.Author.Rules.{rules}
 use Rattle.poly.proofs.round.round_refusal.Goals as goal

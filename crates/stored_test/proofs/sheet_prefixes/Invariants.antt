@@ -1,0 +1,12 @@
+use mathlib.Core.Path.{◌≡◌, refl, sym, ◌∙◌, ap}
+use Prim.Native.Nat.{ℕ, ◌+◌, ◌*◌, ◌-◌, ◌≤◌, ◌<◌}
+use lib.ListN.{length, get_or, drop, length-set}
+use borrow.Author.Rules.{rules}
+use native.Mathlib.Omega.{arith}
+use Rattle.stored_test.proofs.sheet_prefixes.Given as goal
+
+abbrev pub invariant-loop-k : goal.invariant-loop-k
+invariant-loop-k l = l.k ≤ 4096
+
+abbrev pub decreases-loop-k : goal.decreases-loop-k
+decreases-loop-k l = 4096 - l.k
