@@ -6,6 +6,7 @@ use command_proofs::replay::replay;
 use command_proofs::verify::verify;
 use command_sheets::{make, show};
 use refusal::{Proving, Verifying};
+use std::rt::Files;
 
 fn is_word(args: &[u8], k: usize, word: &[u8]) -> bool {
     let p = part_at(args, k);
@@ -31,7 +32,7 @@ fn usage() {
     io::write_all(2, b"sheetproof make TEXT SHEET\n");
 }
 
-fn prove_named(args: &[u8], o: Options) {
+fn prove_named(rt: &impl Files, args: &[u8], o: Options) {
     let sheet = part_at(args, 1);
     let proof = part_at(args, 2);
     let challenges = part_at(args, o.names.challenges);
@@ -50,10 +51,17 @@ fn prove_named(args: &[u8], o: Options) {
         drawn: o.flags.drawn,
         sized: o.flags.sized,
     };
-    prove(&args[a..b], &args[c..d], &args[e..f], modes, &args[g..h]);
+    prove(
+        rt,
+        &args[a..b],
+        &args[c..d],
+        &args[e..f],
+        modes,
+        &args[g..h],
+    );
 }
 
-fn run_prove(args: &[u8], n: usize) {
+fn run_prove(rt: &impl Files, args: &[u8], n: usize) {
     let o = read_options(args, 3, n);
     if n < 3 {
         return usage();
@@ -61,7 +69,7 @@ fn run_prove(args: &[u8], n: usize) {
     if !fit_prove(o, n) {
         return usage();
     }
-    prove_named(args, o);
+    prove_named(rt, args, o);
 }
 
 fn verifying(o: Options) -> Verifying {
@@ -81,7 +89,7 @@ fn is_number(word: &[u8]) -> bool {
     n.at == word.len()
 }
 
-fn verify_named(args: &[u8], rounds: usize, o: Options) {
+fn verify_named(rt: &impl Files, args: &[u8], rounds: usize, o: Options) {
     let proof = part_at(args, 1);
     let challenges = part_at(args, o.names.challenges);
     let sheet = part_at(args, o.names.sheet);
@@ -95,6 +103,7 @@ fn verify_named(args: &[u8], rounds: usize, o: Options) {
     let g = log.from;
     let h = log.to;
     verify(
+        rt,
         &args[a..b],
         rounds,
         verifying(o),
@@ -119,7 +128,7 @@ fn has_rounds(args: &[u8]) -> bool {
     is_number(&args[from..to])
 }
 
-fn run_verify(args: &[u8], n: usize) {
+fn run_verify(rt: &impl Files, args: &[u8], n: usize) {
     let o = read_options(args, 3, n);
     if n < 3 {
         return usage();
@@ -130,20 +139,20 @@ fn run_verify(args: &[u8], n: usize) {
     if !has_rounds(args) {
         return usage();
     }
-    verify_named(args, rounds_at(args), o);
+    verify_named(rt, args, rounds_at(args), o);
 }
 
-fn replay_named(args: &[u8], rounds: usize, o: Options) {
+fn replay_named(rt: &impl Files, args: &[u8], rounds: usize, o: Options) {
     let proof = part_at(args, 1);
     let log = part_at(args, 3);
     let a = proof.from;
     let b = proof.to;
     let c = log.from;
     let d = log.to;
-    replay(&args[a..b], rounds, verifying(o), &args[c..d]);
+    replay(rt, &args[a..b], rounds, verifying(o), &args[c..d]);
 }
 
-fn run_replay(args: &[u8], n: usize) {
+fn run_replay(rt: &impl Files, args: &[u8], n: usize) {
     let o = read_options(args, 4, n);
     if n < 4 {
         return usage();
@@ -154,20 +163,20 @@ fn run_replay(args: &[u8], n: usize) {
     if !has_rounds(args) {
         return usage();
     }
-    replay_named(args, rounds_at(args), o);
+    replay_named(rt, args, rounds_at(args), o);
 }
 
-fn run_show(args: &[u8], n: usize) {
+fn run_show(rt: &impl Files, args: &[u8], n: usize) {
     if n != 2 {
         return usage();
     }
     let sheet = part_at(args, 1);
     let a = sheet.from;
     let b = sheet.to;
-    show(&args[a..b]);
+    show(rt, &args[a..b]);
 }
 
-fn run_make(args: &[u8], n: usize) {
+fn run_make(rt: &impl Files, args: &[u8], n: usize) {
     if n != 3 {
         return usage();
     }
@@ -177,26 +186,26 @@ fn run_make(args: &[u8], n: usize) {
     let b = text.to;
     let c = sheet.from;
     let d = sheet.to;
-    make(&args[a..b], &args[c..d]);
+    make(rt, &args[a..b], &args[c..d]);
 }
 
 // Does what the arguments ask for, each ended by a byte 0, or says how they are used.
-pub fn run(args: &[u8]) {
+pub fn run(rt: &impl Files, args: &[u8]) {
     let n = count(args);
     if is_word(args, 0, b"prove") {
-        return run_prove(args, n);
+        return run_prove(rt, args, n);
     }
     if is_word(args, 0, b"verify") {
-        return run_verify(args, n);
+        return run_verify(rt, args, n);
     }
     if is_word(args, 0, b"replay") {
-        return run_replay(args, n);
+        return run_replay(rt, args, n);
     }
     if is_word(args, 0, b"show") {
-        return run_show(args, n);
+        return run_show(rt, args, n);
     }
     if is_word(args, 0, b"make") {
-        return run_make(args, n);
+        return run_make(rt, args, n);
     }
     usage();
 }

@@ -6,14 +6,14 @@ use crate::words::{Mode, Name, Word, word_at};
 use sheet_text::scan::both;
 
 // What the next argument has to be: an option, or what the option before it names.
-#[derive(Drop)]
+#[derive(Clone, Copy)]
 pub enum Awaits {
     Nothing,
     Name(Name),
 }
 
 // What the options that are modes set.
-#[derive(Drop)]
+#[derive(Clone, Copy)]
 pub struct Flags {
     pub live: bool,
     pub asserted: bool,
@@ -23,7 +23,7 @@ pub struct Flags {
 }
 
 // The arguments that name a text of challenges, a sheet, and a file for the log.
-#[derive(Drop)]
+#[derive(Clone, Copy)]
 pub struct Names {
     pub challenges: usize,
     pub sheet: usize,
@@ -31,7 +31,7 @@ pub struct Names {
 }
 
 // Modes, names, whether all of it is known, and what is still to come.
-#[derive(Drop)]
+#[derive(Clone, Copy)]
 pub struct Options {
     pub flags: Flags,
     pub names: Names,

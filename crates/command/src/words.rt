@@ -21,7 +21,7 @@ pub enum Mode {
 }
 
 // An option after which a name stands.
-#[derive(Drop)]
+#[derive(Clone, Copy)]
 pub enum Name {
     Challenges,
     Sheet,

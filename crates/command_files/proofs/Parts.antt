@@ -1,8 +1,8 @@
 -- Parts of a buffer: what was read into it, of a list and of a sheet.
 -- Assumes nothing.
-use mathlib.Core.Path.{◌≡◌, refl, sym, ◌∙◌, ap, subst}
+use mathlib.Core.Path.{◌≡◌, sym, ◌∙◌, ap, subst}
 use mathlib.Core.Bool.{false}
-use mathlib.Core.List.{List, [], ◌++◌}
+use mathlib.Core.List.{List}
 use Prim.Native.Nat.{ℕ, ◌*◌, ◌/◌, ◌≤◌}
 use native.Mathlib.Omega.{arith}
 use borrow.Author.Tests.{eq-eqb, ne_eqb}
@@ -22,7 +22,7 @@ use Rattle.sheet_text.specs.Reading.{Ended, list_read, Within}
 use Rattle.refusal.specs.declared.Refusal.{Refusal}
 use Rattle.answers.specs.Counting.{counted_up}
 use Rattle.command_files.specs.Rows.{Rows}
-use Rattle.command_files.specs.Given.{End, some, nothing, told_rows, rows_of, told_list, elements_of, Contents, unread, elements_given, challenges_given, FromFile}
+use Rattle.command_files.specs.Given.{End, some, nothing, told_rows, rows_of, told_list, elements_of, unread, elements_given, challenges_given, FromFile}
 
 pub counts : (r : ℕ) (ws : List ℕ) → r ≤ length ws → IsPrefixLen r ws
 counts r ws h = (h, sym (length-take-le r ws h))

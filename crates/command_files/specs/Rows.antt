@@ -1,6 +1,6 @@
 -- Rows that were read: the first n words of a buffer.
 -- Assumes nothing.
-use Rattle.std.specs.Prelude.{List, ℕ, ◌≤◌, length, take}
+use Rattle.std.specs.Prelude.{List, ℕ, ◌≤◌, take}
 use Rattle.io.specs.Counts.{IsPrefixLen}
 use Rattle.field.specs.Cells.{Clean}
 

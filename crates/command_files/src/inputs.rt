@@ -11,6 +11,7 @@ use command_text::refusals::{print_line_refusal, print_refusal};
 use refusal::Refusal;
 use sheet_text::ListAnswer;
 use sheet_text::list::read_list;
+use std::rt::Files;
 use stored_sheet::SheetAnswer;
 
 // How many words there are, and whether they are good.
@@ -40,12 +41,12 @@ fn rows_of(sheet: &[u8], rows: &mut [u32]) -> Given
 }
 
 // The rows of the sheet in a file. More bytes than those of 1,024 rows are refused as too many rows.
-pub fn read_sheet(path: &[u8], rows: &mut [u32]) -> Given
+pub fn read_sheet(rt: &impl Files, path: &[u8], rows: &mut [u32]) -> Given
     ensures rows { Rows result.count rows.new }
     ensures given { FromFile (sheet_given rows.old) (record { given = result; words = rows.new }) }
 {
     let mut bytes = [0u8; 32771];
-    let input = read(path, &mut bytes);
+    let input = read(rt, path, &mut bytes);
     let n = input.count;
     let after = input.after;
     match after {
@@ -82,12 +83,12 @@ fn elements_of(path: &[u8], text: &[u8], words: &mut [u32]) -> Given
 }
 
 // The elements of a text, one to a line: of a longer text those that the words take. No run needs more than 64.
-fn read_elements(path: &[u8], words: &mut [u32]) -> Given
+fn read_elements(rt: &impl Files, path: &[u8], words: &mut [u32]) -> Given
     ensures prefix_len { IsPrefixLen result.count words.new }
     ensures given { FromFile (elements_given words.old) (record { given = result; words = words.new }) }
 {
     let mut text = [0u8; 65536];
-    let input = read(path, &mut text);
+    let input = read(rt, path, &mut text);
     let n = input.count;
     let after = input.after;
     match after {
@@ -101,7 +102,7 @@ fn read_elements(path: &[u8], words: &mut [u32]) -> Given
 }
 
 // The challenges of a text; into cleared words, where no text is named, challenge k, from 1, is the element k.
-pub fn read_challenges(path: &[u8], words: &mut [u32]) -> Given
+pub fn read_challenges(rt: &impl Files, path: &[u8], words: &mut [u32]) -> Given
     ensures prefix_len { IsPrefixLen result.count words.new }
     ensures given { FromFile (challenges_given (length path.now) words.old) (record { given = result; words = words.new }) }
 {
@@ -112,5 +113,5 @@ pub fn read_challenges(path: &[u8], words: &mut [u32]) -> Given
             good: true,
         };
     }
-    read_elements(path, words)
+    read_elements(rt, path, words)
 }

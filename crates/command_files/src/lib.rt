@@ -4,8 +4,13 @@
 ghost use Rattle.std.specs.Prelude.{◌≡◌, min, length};
 ghost use Rattle.io.specs.Counts.{IsPrefixLen};
 
+use crate::system::{create_temp, fill, open_read, read_full, remove, rename, tell};
+use std::io::Read;
+use std::rt::Files;
+
 pub mod inputs; // rows and challenges as words
 pub mod logs; // a run's log
+pub mod system; // the system's files, by their names in bytes
 
 // What comes after the bytes that were read: the end of the file, more than the buffer takes, or a failure, which is told.
 #[derive(Drop)]
@@ -21,32 +26,37 @@ pub struct Input {
     pub after: After,
 }
 
-fn rest(file: i32, path: &[u8]) -> After {
+fn rest<F: Read>(file: &mut F, path: &[u8]) -> After {
     let mut one = [0u8; 1];
-    let got = libc::read(file, &mut one);
-    if got < 0 {
-        os::fail(path);
-        return After::Failed;
+    match file.read(&mut one) {
+        Ok(0) => After::End,
+        Ok(_) => After::More,
+        Err(error) => {
+            tell(path, error);
+            After::Failed
+        }
     }
-    if got == 0 { After::End } else { After::More }
 }
 
 // The file from its start into the front of the buffer.
-pub fn read(path: &[u8], buffer: &mut [u8]) -> Input
+pub fn read(rt: &impl Files, path: &[u8], buffer: &mut [u8]) -> Input
     ensures { IsPrefixLen result.count buffer.new }
 {
-    let file = os::open_read(path);
-    if file < 0 {
-        os::fail(path);
-        return Input {
-            count: 0,
-            after: After::Failed,
-        };
+    match open_read(rt, path) {
+        Ok(opened) => {
+            let mut file = opened;
+            let count = read_full(&mut file, buffer);
+            let after = rest(&mut file, path);
+            Input { count, after }
+        }
+        Err(error) => {
+            tell(path, error);
+            Input {
+                count: 0,
+                after: After::Failed,
+            }
+        }
     }
-    let count = io::read_full(file, buffer);
-    let after = rest(file, path);
-    libc::close(file);
-    Input { count, after }
 }
 
 // The front of a room: so many bytes, or all there are.
@@ -81,40 +91,37 @@ fn temporary_name(path: &[u8], name: &mut [u8]) -> usize
 }
 
 // Whether all bytes are in the file and the file has its name; a failure is told.
-fn written(file: i32, bytes: &[u8], temporary: &[u8], path: &[u8]) -> bool {
-    let put = io::write_all(file, bytes);
-    if !put {
-        os::fail(path);
-        libc::close(file);
+fn written<R: Files>(rt: &R, file: R::File, bytes: &[u8], temporary: &[u8], path: &[u8]) -> bool {
+    if let Err(error) = fill(file, bytes) {
+        tell(path, error);
         return false;
     }
-    if libc::close(file) < 0 {
-        os::fail(path);
-        return false;
-    }
-    if os::rename(temporary, path) < 0 {
-        os::fail(path);
+    if let Err(error) = rename(rt, temporary, path) {
+        tell(path, error);
         return false;
     }
     true
 }
 
-fn put_new(path: &[u8], name: &mut [u8], bytes: &[u8]) -> bool {
-    let file = os::create_temp(name);
-    if file < 0 {
-        os::fail(path);
-        return false;
+fn put_new(rt: &impl Files, path: &[u8], name: &mut [u8], bytes: &[u8]) -> bool {
+    match create_temp(rt, name) {
+        Ok(file) => {
+            let done = written(rt, file, bytes, name, path);
+            if !done {
+                let _ = remove(rt, name);
+            }
+            done
+        }
+        Err(error) => {
+            tell(path, error);
+            false
+        }
     }
-    let done = written(file, bytes, name, path);
-    if !done {
-        os::unlink(name);
-    }
-    done
 }
 
 // The bytes go to a new file of the same folder, which then takes the name: a file that had it is as it was until then.
-pub fn replace(path: &[u8], bytes: &[u8]) -> bool {
+pub fn replace(rt: &impl Files, path: &[u8], bytes: &[u8]) -> bool {
     let mut name = io::buffer();
     let n = temporary_name(path, &mut name);
-    put_new(path, &mut name[..n], bytes)
+    put_new(rt, path, &mut name[..n], bytes)
 }

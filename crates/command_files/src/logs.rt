@@ -9,6 +9,7 @@ ghost use Rattle.command_files.specs.Logs.{log_of, log_given};
 use crate::inputs::Given;
 use crate::{After, front, read, replace};
 use command_text::{print, print_count};
+use std::rt::Files;
 
 // The first n words of the bytes go to the front of the words.
 fn copy_log(bytes: &[u8], words: &mut [u32], n: usize)
@@ -61,12 +62,12 @@ fn log_of(path: &[u8], bytes: &[u8], words: &mut [u32]) -> Given
 }
 
 // The words of the log in a file, into the front of the words. More bytes than those of any verifier's log are not read.
-pub fn read_log(path: &[u8], words: &mut [u32]) -> Given
+pub fn read_log(rt: &impl Files, path: &[u8], words: &mut [u32]) -> Given
     ensures prefix_len { IsPrefixLen result.count words.new }
     ensures given { FromFile (log_given words.old) (record { given = result; words = words.new }) }
 {
     let mut bytes = [0u8; 3856];
-    let input = read(path, &mut bytes);
+    let input = read(rt, path, &mut bytes);
     let n = input.count;
     let after = input.after;
     match after {
@@ -108,20 +109,20 @@ fn log_front(words: usize, log: &[u32]) -> usize
     if words < most { words } else { most }
 }
 
-fn write_log(path: &[u8], log: &[u32]) -> bool
+fn write_log(rt: &impl Files, path: &[u8], log: &[u32]) -> bool
     requires { length log.now ≤ 968 }
 {
     let mut bytes = [0u8; 3872];
     let end = put_log(&mut bytes, log);
     let n = front(end, &bytes);
-    replace(path, &bytes[..n])
+    replace(rt, path, &bytes[..n])
 }
 
 // The first words of a log go to a file; an empty name stands for none.
-pub fn keep_log(path: &[u8], log: &[u32], words: usize) {
+pub fn keep_log(rt: &impl Files, path: &[u8], log: &[u32], words: usize) {
     if path.len() == 0 {
         return;
     }
     let n = log_front(words, log);
-    write_log(path, &log[..n]);
+    write_log(rt, path, &log[..n]);
 }

@@ -5,6 +5,7 @@ ghost use Rattle.command_files.specs.Given.{some, challenges_given, FromFile};
 
 use command_files::inputs;
 use command_files::inputs::Given;
+use std::rt::Files;
 
 // Whether they are counted: none are named, and none drawn.
 pub fn are_counted(path: &[u8], drawn: bool) -> bool
@@ -17,7 +18,7 @@ pub fn are_counted(path: &[u8], drawn: bool) -> bool
 }
 
 // The words that a run is lent: where it draws none, and no file is read.
-pub fn lend_challenges(path: &[u8], drawn: bool, words: &mut [u32]) -> Given
+pub fn lend_challenges(rt: &impl Files, path: &[u8], drawn: bool, words: &mut [u32]) -> Given
     ensures prefix_len { IsPrefixLen result.count words.new }
     ensures given { FromFile (λ file. cond drawn (some 0 words.old) (challenges_given (length path.now) words.old file))
         (record { given = result; words = words.new }) }
@@ -28,5 +29,5 @@ pub fn lend_challenges(path: &[u8], drawn: bool, words: &mut [u32]) -> Given
             good: true,
         };
     }
-    inputs::read_challenges(path, words)
+    inputs::read_challenges(rt, path, words)
 }

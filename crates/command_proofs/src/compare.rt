@@ -6,6 +6,7 @@ ghost use Rattle.refusal.specs.Limits.{max_rounds};
 use claims::Comparison;
 use command_files::inputs;
 use command_text::{print, print_count};
+use std::rt::Files;
 use step::Frac;
 
 // The rows that a proof of so many rounds is about: none for no rounds, and 0 where there is no such proof.
@@ -57,12 +58,12 @@ fn print_comparison(rows: &[u32], point: &[u32], rounds: usize, stated: Frac) {
 }
 
 // The name of the sheet, an empty one for none; the front of the point is that of an accepted proof.
-pub fn compare_sheet(sheet: &[u8], point: &[u32], rounds: usize, stated: Frac) {
+pub fn compare_sheet(rt: &impl Files, sheet: &[u8], point: &[u32], rounds: usize, stated: Frac) {
     if sheet.len() == 0 {
         return;
     }
     let mut rows = [0u32; 8192];
-    let given = inputs::read_sheet(sheet, &mut rows);
+    let given = inputs::read_sheet(rt, sheet, &mut rows);
     let n = given.count;
     if given.good {
         print_comparison(&rows[..n], point, rounds, stated);

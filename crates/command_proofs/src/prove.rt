@@ -6,6 +6,7 @@ use command_files::logs::keep_log;
 use command_text::refusals::print_refusal;
 use prover::Answer;
 use refusal::Proving;
+use std::rt::Files;
 use step::Frac;
 
 // How many bytes a proof of so many rounds has.
@@ -17,9 +18,16 @@ fn proof_length(rounds: usize) -> usize {
 }
 
 // The proof goes to its file, and then what it is of is printed; whether that was done.
-fn keep_proof(path: &[u8], proof: &[u8], count: usize, rounds: usize, sum: Frac) -> bool {
+fn keep_proof(
+    rt: &impl Files,
+    path: &[u8],
+    proof: &[u8],
+    count: usize,
+    rounds: usize,
+    sum: Frac,
+) -> bool {
     let n = command_files::front(proof_length(rounds), proof);
-    let kept = command_files::replace(path, &proof[..n]);
+    let kept = command_files::replace(rt, path, &proof[..n]);
     if kept {
         answers::print_number(b"rows ", count as u64);
         answers::print_number(b"rounds ", rounds as u64);
@@ -29,6 +37,7 @@ fn keep_proof(path: &[u8], proof: &[u8], count: usize, rounds: usize, sum: Frac)
 }
 
 fn prove_with(
+    rt: &impl Files,
     rows: &[u32],
     challenges: &[u32],
     counted: bool,
@@ -47,8 +56,8 @@ fn prove_with(
     let words = proved.used.words;
     match answer {
         Answer::Done { rounds, sum } => {
-            if keep_proof(path, &proof, rows.len() / 8, rounds, sum) {
-                keep_log(log_path, &log, words);
+            if keep_proof(rt, path, &proof, rows.len() / 8, rounds, sum) {
+                keep_log(rt, log_path, &log, words);
                 print_notes(sum.q.is_zero(), counted);
             }
         }
@@ -56,23 +65,37 @@ fn prove_with(
     }
 }
 
-fn prove_rows(rows: &[u32], challenges: &[u8], modes: Proving, path: &[u8], log_path: &[u8]) {
+fn prove_rows(
+    rt: &impl Files,
+    rows: &[u32],
+    challenges: &[u8],
+    modes: Proving,
+    path: &[u8],
+    log_path: &[u8],
+) {
     let mut words = [0u32; 256];
-    let given = lend_challenges(challenges, modes.drawn, &mut words);
+    let given = lend_challenges(rt, challenges, modes.drawn, &mut words);
     let n = given.count;
     if given.good {
         let counted = are_counted(challenges, modes.drawn);
-        prove_with(rows, &words[..n], counted, modes, path, log_path);
+        prove_with(rt, rows, &words[..n], counted, modes, path, log_path);
     }
 }
 
 // The names of the sheet, of the proof, of a text of challenges, and of a file for the log; an empty one stands for counted challenges, and for no log. Where challenges are
 // drawn none are read.
-pub fn prove(sheet: &[u8], proof: &[u8], challenges: &[u8], modes: Proving, log: &[u8]) {
+pub fn prove(
+    rt: &impl Files,
+    sheet: &[u8],
+    proof: &[u8],
+    challenges: &[u8],
+    modes: Proving,
+    log: &[u8],
+) {
     let mut rows = [0u32; 8192];
-    let given = inputs::read_sheet(sheet, &mut rows);
+    let given = inputs::read_sheet(rt, sheet, &mut rows);
     let n = given.count;
     if given.good {
-        prove_rows(&rows[..n], challenges, modes, proof, log);
+        prove_rows(rt, &rows[..n], challenges, modes, proof, log);
     }
 }

@@ -4,6 +4,7 @@ use crate::verify::too_long;
 use command_files::After;
 use command_files::logs::read_log;
 use refusal::Verifying;
+use std::rt::Files;
 use step::Frac;
 use verifier_round::Verdict;
 
@@ -25,9 +26,9 @@ fn replay_with(proof: &[u8], rounds: usize, modes: Verifying, log: &[u32]) {
     }
 }
 
-fn replay_bytes(proof: &[u8], rounds: usize, modes: Verifying, log: &[u8]) {
+fn replay_bytes(rt: &impl Files, proof: &[u8], rounds: usize, modes: Verifying, log: &[u8]) {
     let mut words = [0u32; 964];
-    let given = read_log(log, &mut words);
+    let given = read_log(rt, log, &mut words);
     let n = given.count;
     if given.good {
         replay_with(proof, rounds, modes, &words[..n]);
@@ -35,14 +36,14 @@ fn replay_bytes(proof: &[u8], rounds: usize, modes: Verifying, log: &[u8]) {
 }
 
 // The names of the proof and of the log.
-pub fn replay(proof: &[u8], rounds: usize, modes: Verifying, log: &[u8]) {
+pub fn replay(rt: &impl Files, proof: &[u8], rounds: usize, modes: Verifying, log: &[u8]) {
     let mut bytes = [0u8; 65536];
-    let input = command_files::read(proof, &mut bytes);
+    let input = command_files::read(rt, proof, &mut bytes);
     let n = input.count;
     let after = input.after;
     match after {
         After::Failed => {}
         After::More => too_long(proof),
-        After::End => replay_bytes(&bytes[..n], rounds, modes, log),
+        After::End => replay_bytes(rt, &bytes[..n], rounds, modes, log),
     }
 }

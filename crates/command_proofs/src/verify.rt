@@ -6,10 +6,12 @@ use command_files::After;
 use command_files::logs::keep_log;
 use command_text::print;
 use refusal::Verifying;
+use std::rt::Files;
 use step::Frac;
 use verifier_round::Verdict;
 
 fn verify_with(
+    rt: &impl Files,
     proof: &[u8],
     rounds: usize,
     modes: Verifying,
@@ -23,18 +25,19 @@ fn verify_with(
     let verified = verifier::verify_gkr(proof, rounds, modes, challenges, &mut point, &mut log);
     let verdict = verified.verdict;
     let used = verified.used;
-    keep_log(log_path, &log, used.words);
+    keep_log(rt, log_path, &log, used.words);
     match verdict {
         Verdict::Accepted { numer, denom } => {
             let stated = Frac { p: numer, q: denom };
             print_good(proof, rounds, stated, &point, used, counted);
-            compare_sheet(sheet, &point, rounds, stated);
+            compare_sheet(rt, sheet, &point, rounds, stated);
         }
         Verdict::Refused(refusal) => print_bad(proof, refusal, used),
     }
 }
 
 fn verify_bytes(
+    rt: &impl Files,
     proof: &[u8],
     rounds: usize,
     modes: Verifying,
@@ -43,11 +46,11 @@ fn verify_bytes(
     log: &[u8],
 ) {
     let mut words = [0u32; 256];
-    let given = lend_challenges(challenges, modes.drawn, &mut words);
+    let given = lend_challenges(rt, challenges, modes.drawn, &mut words);
     let n = given.count;
     if given.good {
         let counted = are_counted(challenges, modes.drawn);
-        verify_with(proof, rounds, modes, &words[..n], counted, sheet, log);
+        verify_with(rt, proof, rounds, modes, &words[..n], counted, sheet, log);
     }
 }
 
@@ -61,6 +64,7 @@ pub fn too_long(proof: &[u8]) {
 // The names of the proof, of a text of challenges, of a sheet, and of a file for the log; an empty one stands for counted challenges, for no sheet, and for no log. Where
 // challenges are drawn none are read.
 pub fn verify(
+    rt: &impl Files,
     proof: &[u8],
     rounds: usize,
     modes: Verifying,
@@ -69,12 +73,12 @@ pub fn verify(
     log: &[u8],
 ) {
     let mut bytes = [0u8; 65536];
-    let input = command_files::read(proof, &mut bytes);
+    let input = command_files::read(rt, proof, &mut bytes);
     let n = input.count;
     let after = input.after;
     match after {
         After::Failed => {}
         After::More => too_long(proof),
-        After::End => verify_bytes(&bytes[..n], rounds, modes, challenges, sheet, log),
+        After::End => verify_bytes(rt, &bytes[..n], rounds, modes, challenges, sheet, log),
     }
 }

@@ -1,13 +1,12 @@
 -- The search for a sub-round's entry, turn by turn, and the parts of a proof.
 -- Assumes nothing.
 use mathlib.Core.Path.{◌≡◌}
-use mathlib.Core.List.{List, [], ◌∷◌}
+use mathlib.Core.List.{List}
 use Prim.Native.Nat.{ℕ, suc, ◌+◌, ◌*◌, ◌-◌, ◌/◌, ◌%◌, ◌<◌, ◌≤◌}
 use native.Mathlib.Numerals.{add-one}
 use borrow.Author.Tests.{lt-ltb, le-ltb}
 use lib.ListN.{length, get_or, drop, drop_of_length-le}
 use lib.Seq.{drop-cons}
-use Rattle.command_text.specs.declared.places.SubroundAt.{SubroundAt}
 use Rattle.command_text.specs.declared.places.ProofWord.TheVariants.{Root, Claim}
 use Rattle.command_text.specs.Places.{layer_from, sum_word, proof_word}
 

@@ -4,9 +4,11 @@
 
 ghost use Rattle.io.specs.Counts.{IsPrefixLen};
 
+use command_files::system::{open_read, read_full};
 use field::Ext;
 use refusal::{Refusal, Words};
 use sheet_text::list::{beyond, find};
+use std::rt::Files;
 
 // The line with a byte 0 for each space and after it.
 fn split(line: &[u8], args: &mut [u8]) -> usize
@@ -27,38 +29,40 @@ fn zero_for_space(b: u8) -> u8 {
     if b == b' ' { 0 } else { b }
 }
 
-fn print_size(path: &[u8]) {
+fn print_size(rt: &impl Files, path: &[u8]) {
     let mut bytes = [0u8; 32772];
-    let file = os::open_read(path);
-    if file < 0 {
-        io::write_all(1, b"no such file\n");
-        return;
+    match open_read(rt, path) {
+        Ok(opened) => {
+            let mut file = opened;
+            let n = read_full(&mut file, &mut bytes);
+            answers::print_number(b"bytes ", n as u64);
+        }
+        Err(_) => {
+            io::write_all(1, b"no such file\n");
+        }
     }
-    let n = io::read_full(file, &mut bytes);
-    libc::close(file);
-    answers::print_number(b"bytes ", n as u64);
 }
 
 // `size` is the one command whose second letter is i.
-fn run_line(line: &[u8]) {
+fn run_line(rt: &impl Files, line: &[u8]) {
     io::write_all(1, b"$ ");
     io::write_all(1, line);
     io::write_all(1, b"\n");
     if line.len() > 5 {
         if line[1] == b'i' {
-            return print_size(&line[5..]);
+            return print_size(rt, &line[5..]);
         }
     }
     let mut args = [0u8; 4096];
     let n = split(line, &mut args);
-    command::args::run(&args[..n]);
+    command::args::run(rt, &args[..n]);
 }
 
-fn run_lines(text: &[u8]) {
+fn run_lines(rt: &impl Files, text: &[u8]) {
     let mut at = 0;
     while at < text.len() {
         let end = find(text, at, b'\n');
-        run_line(&text[at..end]);
+        run_line(rt, &text[at..end]);
         at = beyond(end, text.len());
     }
 }
@@ -185,10 +189,10 @@ fn print_sized_words() {
     command_text::refusals::print_replayed(Refusal::LogLong { place: 28 }, true);
 }
 
-fn main() {
+fn main(rt: HostRuntime) {
     let mut text = [0u8; 8192];
     let n = io::read_full(0, &mut text);
-    run_lines(&text[..n]);
+    run_lines(&rt, &text[..n]);
     io::write_all(1, b"the words of each refusal\n");
     print_plain();
     print_bad_words();

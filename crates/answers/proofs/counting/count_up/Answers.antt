@@ -1,5 +1,5 @@
 use mathlib.Core.Path.{◌≡◌, refl}
-use Prim.Native.Nat.{◌≤◌, ◌-◌, ◌/◌}
+use Prim.Native.Nat.{◌/◌}
 use lib.ListN.{length}
 use Rattle.answers.specs.Counting.{counted_up}
 use Rattle.answers.proofs.Counts.{one_more}

@@ -1,6 +1,5 @@
 use mathlib.Core.Path.{◌∙◌}
 use Rattle.command_text.proofs.LogParts.{in_subrounds, in_last}
-use borrow.Author.Rules.{rules}
 use Rattle.command_text.proofs.log_places.inner_word.Goals as goal
 
 pub returns-then-k-r : goal.returns-then-k-r

@@ -2,7 +2,6 @@ use mathlib.Core.Path.{◌∙◌, ap}
 use Prim.Native.Nat.{◌%◌}
 use Rattle.command_text.specs.declared.places.SubroundAt.{SubroundAt}
 use Rattle.command_text.specs.LogPlaces.{round_word}
-use borrow.Author.Rules.{rules}
 use Rattle.command_text.proofs.log_places.later_word.Goals as goal
 
 pub returns : goal.returns

@@ -1,6 +1,5 @@
 use mathlib.Core.Path.{◌∙◌}
 use Rattle.command_text.proofs.LogParts.{in_size, after_size, no_size}
-use borrow.Author.Rules.{rules}
 use Rattle.command_text.proofs.log_places.log_word.Goals as goal
 
 pub returns-then-place-lt4 : goal.returns-then-place-lt4

@@ -1,6 +1,5 @@
 use mathlib.Core.Path.{◌∙◌}
 use Rattle.command_text.proofs.LogParts.{in_lambda, in_inner}
-use borrow.Author.Rules.{rules}
 use Rattle.command_text.proofs.log_places.round_word.Goals as goal
 
 pub returns-then-k-eq0 : goal.returns-then-k-eq0

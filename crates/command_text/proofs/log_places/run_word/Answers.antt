@@ -1,6 +1,5 @@
 use mathlib.Core.Path.{◌∙◌}
 use Rattle.command_text.proofs.LogParts.{before_rounds, in_rounds}
-use borrow.Author.Rules.{rules}
 use Rattle.command_text.proofs.log_places.run_word.Goals as goal
 
 pub returns-then-place-lt24 : goal.returns-then-place-lt24

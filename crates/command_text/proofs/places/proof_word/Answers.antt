@@ -1,6 +1,5 @@
 use mathlib.Core.Path.{◌∙◌}
 use Rattle.command_text.proofs.Entries.{in_root, in_claims, in_sums}
-use borrow.Author.Rules.{rules}
 use Rattle.command_text.proofs.places.proof_word.Goals as goal
 
 pub returns-then-place-lt4 : goal.returns-then-place-lt4

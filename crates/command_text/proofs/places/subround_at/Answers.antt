@@ -1,9 +1,5 @@
-use mathlib.Core.Path.{◌≡◌, sym, ◌∙◌}
-use Prim.Native.Nat.{ℕ, ◌+◌, ◌-◌, ◌≤◌, ◌<◌}
-use lib.ListN.{length, get_or, drop}
-use Rattle.command_text.specs.Places.{layer_from}
+use mathlib.Core.Path.{sym, ◌∙◌}
 use Rattle.command_text.proofs.Entries.{entry_go, entry_stop, entry_end}
-use borrow.Author.Rules.{rules}
 use native.Mathlib.Omega.{arith}
 use Rattle.command_text.proofs.places.subround_at.Goals as goal
 

@@ -1,0 +1,4 @@
+use Rattle.command.proofs.words.read_mode.Goals as goal
+
+pub returns : goal.returns
+returns c = cc
