@@ -12,7 +12,7 @@ use Rattle.field.specs.Extension.{Extension}
 use Rattle.gkr.specs.Run.{Transcript, Frac, Cubic, Proof}
 use Rattle.gkr.specs.Sizes.{proof_bytes}
 use Rattle.gkr.proofs.Count as Count
-use Rattle.gkr.specs.Count.{lengths}
+use Rattle.gkr.specs.Count.{lengths as counted}
 use Rattle.gkr.specs.Gkr as Gkr
 use Rattle.stored.specs.Layout.{layout}
 use Rattle.stored.specs.Lengths.{up_from, lengths, Rounds}
@@ -24,8 +24,8 @@ unfolding lengths
 counts [] = refl
 counts (ms ∷ mss) = ap₂ ◌∷◌ (length-map ms (map_cubic enc)) (counts mss)
 
-upward : (h r : ℕ) → lengths h r ≡ up_from r h
-unfolding lengths up_from
+upward : (h r : ℕ) → counted h r ≡ up_from r h
+unfolding counted up_from
 upward zero r = refl
 upward (suc h) r = ap (λ l. r ∷ l) (upward h (suc r))
 

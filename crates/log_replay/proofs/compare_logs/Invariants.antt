@@ -9,7 +9,7 @@ use borrow.Author.Rules.{rules}
 use Rattle.log_replay.proofs.compare_logs.Given as goal
 
 abbrev pub invariant-loop-i : goal.invariant-loop-i
-invariant-loop-i l = (l.i ≤ length l.given) × (l.i_end ≡ length l.given) × (rest l.given l.left l.i ≡ compared l.given l.left 0)
+invariant-loop-i l = (l.i ≤ length l.given) × (l.i-end ≡ length l.given) × (rest l.given l.left l.i ≡ compared l.given l.left 0)
 
 abbrev pub decreases-loop-i : goal.decreases-loop-i
 decreases-loop-i l = length l.given - l.i

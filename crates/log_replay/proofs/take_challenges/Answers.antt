@@ -14,7 +14,7 @@ pub loop-i-preserved : goal.loop-i-preserved
 loop-i-preserved c = let a = c.args in
     let s = c.loop-i in
     let t = c.take_word-k in
-    (omega arith, refl, t.auto.1.0 ∙ s.invariant.2, poured_next a.log.now s.challenges s.i s.k (omega arith) t.ensures.0 t.ensures.1 ∙ s.invariant.3)
+    (omega arith, refl, t.auto.challenges ∙ s.invariant.2, poured_next a.log.now s.challenges s.i s.k (omega arith) t.ensures.0 t.ensures.1 ∙ s.invariant.3)
 
 pub shape_of-challenges : goal.shape_of-challenges
 shape_of-challenges c = c.loop-i.invariant.2

@@ -8,7 +8,7 @@ use borrow.Author.Rules.{rules}
 use Rattle.log_replay.proofs.take_challenges.Given as goal
 
 abbrev pub invariant-loop-i : goal.invariant-loop-i
-invariant-loop-i l = (l.i ≤ length l.log) × (l.i_end ≡ length l.log) × (length l.challenges ≡ length l.initial.challenges) × (poured (drop l.i l.log) l.challenges l.k ≡ challenges_of l.log)
+invariant-loop-i l = (l.i ≤ length l.log) × (l.i-end ≡ length l.log) × (length l.challenges ≡ length l.initial.challenges) × (poured (drop l.i l.log) l.challenges l.k ≡ challenges_of l.log)
 
 abbrev pub decreases-loop-i : goal.decreases-loop-i
 decreases-loop-i l = length l.log - l.i

@@ -6,7 +6,7 @@ use native.Mathlib.Omega.{arith}
 use Rattle.stored_test.proofs.text.bytes.Given as goal
 
 abbrev pub invariant-loop-i : goal.invariant-loop-i
-invariant-loop-i l = (l.i ≤ l.i_end) × (l.i_end ≡ length l.bs)
+invariant-loop-i l = (l.i ≤ l.i-end) × (l.i-end ≡ length l.bs)
 
 abbrev pub decreases-loop-i : goal.decreases-loop-i
-decreases-loop-i l = l.i_end - l.i
+decreases-loop-i l = l.i-end - l.i
