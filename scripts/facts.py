@@ -1,7 +1,7 @@
 #!/usr/bin/env python3
 """What each edit is refused for, by what `rt ci` or `rt must-fail` says: a line for each edit, also for those that an earlier run tried and that are kept.
 `scripts/facts.py [FILE]` reads that text, or standard input, and fails where an edit of crates/*/must-fail has no line, was not tried, was not refused, is bad,
-or is refused for no fact that is no longer proved: for a name that is missing, or by a limit of the prover alone."""
+or is refused for no fact, a promise or a law that is no longer proved, but for a name that is missing, or by a limit of the prover alone."""
 import glob
 import os
 import re
