@@ -1,6 +1,6 @@
 /* Accudrina: a proved prover and verifier for sums of fractions (the fractional sumcheck of LogUp-GKR).
  *
- * Build:  rt staticlib accudrina              writes target/staticlib/libaccudrina.a, for x86-64 Linux
+ * Build:  scripts/archive accudrina           writes target/staticlib/libaccudrina.a, for x86-64 Linux
  *         cc -Iinclude main.c target/staticlib/libaccudrina.a
  *
  * Words.  A word is a uint32_t below the prime 2013265921; a word that is not is refused as 6. An element is four words c0..c3,

@@ -5,6 +5,8 @@ import re
 
 ROOT = os.path.join(os.path.dirname(os.path.abspath(__file__)), "..")
 TEXTS = {}
+# The libraries of the toolchain whose words a contract has as it has symbols.
+LIBRARY = ("std", "core")
 
 
 def text_of(path):
@@ -18,14 +20,15 @@ class Function:
         self.crate, self.path, self.name, self.comment = crate, path, name, comment
         self.full = crate + "::" + name
         self.lines = lines[start : end + 1]
-        clauses = [" ".join(c.split()) for c in re.split(r"\n(?=\s*(?:requires|ensures)\b)", "\n".join(lines[start : head_end + 1]))]
+        clauses = [" ".join(c.split()) for c in re.split(r"\n(?=\s*(?:requires|ensures)\b)", "\n".join(lines[start : head_end + 1]).removesuffix("\n" + lines[head_end]))]
         self.contract = [c for c in clauses if c.startswith("ensures")]
         self.inner = any(c.startswith("requires") for c in clauses)
         head = re.split(r"\n\s*(?:requires|ensures)\b", "\n".join(lines[start : head_end + 1]))[0]
         self.given = re.findall(r"(\w+): ", head)
         self.lent = re.findall(r"(\w+): &(?:'\w+ )?mut ", head)
         self.returns = "->" in head
-        self.answers = re.findall(r"λ (\w+)\. ⌜", " ".join(self.contract))
+        # What each clause says, without its name.
+        self.said = [re.sub(r"^ensures\*?(?: \w+)? \{ (.*) \}$", r"\1", c) for c in self.contract]
 
 
 # The public functions of a file, with the comment above each.
@@ -54,23 +57,23 @@ def functions(crate, path):
 # The names that a source or a file of laws brings in from specs, with the crate and the module of each.
 def imports(path):
     out = {}
-    for m in re.finditer(r"(?m)^(?:ghost )?use Rattle·(\w+?)(?:·specs)?\.specs\.(?:specs\.)?([\w.]+?)(?:\.\{([^}]*)\}| as (\w+));?$", text_of(path)):
-        for n in [n.strip().split(" as ")[-1] for n in m.group(3).split(",")] if m.group(3) else [m.group(4)]:
+    for m in re.finditer(r"(?m)^(?:ghost )?use Rattle\.(\w+)\.specs\.([\w.]+?)(?:\.\{([^}]*)\}| as (\w+));?$", text_of(path)):
+        for n in [] if m.group(1) in LIBRARY else [n.strip().split(" as ")[-1] for n in m.group(3).split(",")] if m.group(3) else [m.group(4)]:
             out[n] = (m.group(1), m.group(2))
     return out
 
 
 def has_word(name, text):
-    return re.search(r"(?<![\w·'-])%s(?![\w'-])" % re.escape(name), text)
+    return re.search(r"(?<![\w'])%s(?![\w'])" % re.escape(name), text)
 
 
 # The definitions that a contract cites: name, crate and module.
 def cited(f):
-    said = " ".join(f.contract)
+    said = " ".join(f.said)
     return [(n, c, m) for n, (c, m) in imports(f.path).items() if n not in f.given and has_word(n, said)]
 
 
 # Of every crate, in the order of crates.txt.
 def public_functions():
-    crates = re.findall(r"(?m)^(\w+):", text_of(os.path.join(ROOT, "crates.txt")))
+    crates = re.findall(r"(?m)^(\w+)(?: staticlib)?:", text_of(os.path.join(ROOT, "crates.txt")))
     return [f for c in crates for path in sorted(glob.glob(os.path.join(ROOT, "crates", c, "src", "*.rt"))) for f in functions(c, path)]

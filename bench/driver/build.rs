@@ -1,4 +1,4 @@
-//! Links the proved archives, which `rt staticlib` writes.
+//! Links the proved archives, which `scripts/archive` puts there.
 fn main() {
     let archives = format!("{}/../../target/staticlib", std::env::var("CARGO_MANIFEST_DIR").expect("cargo sets it"));
     println!("cargo:rustc-link-search=native={archives}");

@@ -15,7 +15,7 @@ use refusal::{Proving, Verifying};
 
 mod answer; // the sixteen words
 mod modes; // the bits of a word
-mod rooms; // how much room a run asks for
+pub mod rooms; // how much room a run asks for
 
 // Stored bytes to row words: the number 0 and the row count, or the refusal; refused, the rows are as before.
 #[unsafe(no_mangle)]
