@@ -45,4 +45,3 @@ returns-in-Refused c = let a = c.args in
 pub returns-in-Good : goal.returns-in-Good
 returns-in-Good c = let a = c.args in
     way_6 (asked a.proof.now a.rounds (unrooted a.modes) a.challenges.now) a.points a.logs _ c.lacks_rounds.ensures c.if-lacks_rounds.false c.if-rounds-gt-MAX_ROUNDS.false _ c.needed_words-needs.ensures c.if-challenges-needs.false _ c.is_known.ensures (ap not c.if-not-is_known.false) c.if-points-rounds.false _ c.is_sized.ensures _ c.log_words.ensures c.if-logs-log_words.false _ (shaped_by _ _ _ c.read_shape.ensures c.in-Good.is) refl _ c.check_words.ensures
-

@@ -21,4 +21,3 @@ returns-then-is_over_zero c = root_shut c.args.modes c.args.proof.now c.args.rou
 
 pub returns : goal.returns
 returns c = root_open c.args.modes c.args.proof.now c.args.rounds c.args.outline c.requires c.if-rounds-eq0.false (not-false _ c.if-not-modes.false) c.if-outline-rounds.false _ refl c.if-outline-rounds-2.false _ c.is_over_zero.ensures c.if-is_over_zero.false
-

@@ -23,4 +23,3 @@ returns-then-not-equals c = not_one c.args.proof.now c.args.outline c.requires c
 pub returns : goal.returns
 unfolding E.one E.nil E.emb E.ext B.one B.nil B.of
 returns c = is_one c.args.proof.now c.args.outline c.requires c.if-layers-ne0.false c.if-entries-ne0.false _ c.element_at-q0.ensures _ c.equals.ensures (ap not c.if-not-equals.false)
-
