@@ -1,10 +1,7 @@
-use mathlib.Core.Path.{◌≡◌, refl}
-use Prim.Native.Nat.{◌≤◌, ◌-◌}
-use lib.ListN.{length, take, length-take}
+use mathlib.Core.Path.{refl}
+use lib.ListN.{length-take}
 use native.Mathlib.Omega.{arith}
-use Rattle.shake.specs.Drawn.{message, Holds}
 use Rattle.shake.proofs.SpongeLaws.{holds_next}
-use borrow.Author.Rules.{rules}
 use Rattle.hash_test.proofs.all_draws.Goals as goal
 
 pub loop-n-init : goal.loop-n-init

@@ -1,10 +1,7 @@
-use mathlib.Core.Path.{◌≡◌, refl}
+use mathlib.Core.Path.{◌≡◌}
 use Prim.Native.Nat.{◌≤◌, ◌-◌}
-use lib.ListN.{length, take, length-take}
-use native.Mathlib.Omega.{arith}
+use lib.ListN.{length, take}
 use Rattle.shake.specs.Drawn.{message, Holds}
-use Rattle.shake.proofs.SpongeLaws.{holds_next}
-use borrow.Author.Rules.{rules}
 use Rattle.hash_test.proofs.all_draws.Given as goal
 
 abbrev pub invariant-loop-n : goal.invariant-loop-n

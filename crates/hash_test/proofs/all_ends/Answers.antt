@@ -1,8 +1,4 @@
-use mathlib.Core.Path.{◌≡◌}
-use Prim.Native.Nat.{◌≤◌, ◌-◌}
-use lib.ListN.{length}
 use native.Mathlib.Omega.{arith}
-use borrow.Author.Rules.{rules}
 use Rattle.hash_test.proofs.all_ends.Goals as goal
 
 pub offset_bounds-ends-k : goal.offset_bounds-ends-k

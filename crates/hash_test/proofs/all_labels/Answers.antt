@@ -1,6 +1,4 @@
-use Prim.Native.Nat.{◌≤◌, ◌-◌}
 use native.Mathlib.Omega.{arith}
-use borrow.Author.Rules.{rules}
 use Rattle.hash_test.proofs.all_labels.Goals as goal
 
 pub overflow_step-n : goal.overflow_step-n

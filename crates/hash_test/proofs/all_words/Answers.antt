@@ -1,6 +1,4 @@
-use Prim.Native.Nat.{◌≤◌, ◌-◌}
 use native.Mathlib.Omega.{arith}
-use borrow.Author.Rules.{rules}
 use Rattle.hash_test.proofs.all_words.Goals as goal
 
 pub overflow_step-k : goal.overflow_step-k

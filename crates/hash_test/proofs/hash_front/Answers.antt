@@ -1,6 +1,5 @@
 use lib.ListN.{length-take}
 use native.Mathlib.Omega.{arith}
-use borrow.Author.Rules.{rules}
 use Rattle.hash_test.proofs.hash_front.Goals as goal
 
 pub slice_bounds-hash-end : goal.slice_bounds-hash-end

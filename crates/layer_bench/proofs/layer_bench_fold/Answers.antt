@@ -3,8 +3,6 @@ use mathlib.Core.List.{List}
 use Prim.Native.Nat.{ℕ}
 use Rattle.field.specs.Ext as E
 use Rattle.prover_layer.specs.Passes.{Folded}
-use native.Mathlib.Omega.{arith}
-use borrow.Author.Rules.{rules}
 use Rattle.layer_bench.proofs.layer_bench_fold.Goals as goal
 
 at_value : {ws ws' : List ℕ} {pq half : ℕ} {x y : E.Ext} → x ≡ y → Folded ws ws' pq half x → Folded ws ws' pq half y

@@ -9,7 +9,6 @@ use native.Mathlib.Omega.{arith}
 use Prim.Native.Nat.{ℕ}
 use mathlib.Core.List.{List}
 use mathlib.Core.Path.{◌≡◌, ◌∙◌}
-use borrow.Author.Rules.{rules}
 use Rattle.layer_bench.proofs.layer_bench_round_sums.Goals as goal
 
 said-as : (ws : List ℕ) (at b n : ℕ) (t : Turn) {a z c x : E.Ext} → a ≡ c → z ≡ x → IsTurn t a z (side_sum ws at b 0 n) (side_sum ws at b 1 n)

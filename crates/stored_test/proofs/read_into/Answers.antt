@@ -1,8 +1,5 @@
-use mathlib.Core.Path.{◌≡◌, refl, sym, ◌∙◌, ap}
-use Prim.Native.Nat.{ℕ, ◌+◌, ◌*◌, ◌-◌, ◌≤◌, ◌<◌}
-use lib.ListN.{length, length-take}
+use lib.ListN.{length-take}
 use native.Mathlib.Omega.{arith}
-use borrow.Author.Rules.{rules}
 use Rattle.stored_test.proofs.read_into.Goals as goal
 
 pub slice_bounds-read_sheet-end-then-room-rows : goal.slice_bounds-read_sheet-end-then-room-rows
