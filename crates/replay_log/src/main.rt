@@ -6,7 +6,7 @@ use cases::read::{fill_words, next_bytes, next_number, next_word, next_words};
 use refusal::Verifying;
 
 // The length of the point, and what it holds before the call.
-#[derive(Drop)]
+#[derive(Clone, Copy)]
 struct Room {
     point: u64,
     fill: u32,

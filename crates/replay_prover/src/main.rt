@@ -13,7 +13,7 @@ struct Modes {
 }
 
 // The lengths of the four buffers, and what they hold before the call.
-#[derive(Drop)]
+#[derive(Clone, Copy)]
 struct Rooms {
     proof: u64,
     point: u64,

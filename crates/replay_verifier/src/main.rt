@@ -6,7 +6,7 @@ use cases::read::{fill_words, next_bytes, next_number, next_word, next_words};
 use refusal::Verifying;
 
 // The lengths of the two buffers, and what they hold before the call.
-#[derive(Drop)]
+#[derive(Clone, Copy)]
 struct Rooms {
     point: u64,
     log: u64,
