@@ -1,7 +1,8 @@
 #!/usr/bin/env python3
 """What each edit is refused for, by what `rt ci` or `rt must-fail` says: a line for each edit, also for those that an earlier run tried and that are kept.
 `scripts/facts.py [FILE]` reads that text, or standard input, and fails where an edit of crates/*/must-fail has no line, was not tried, was not refused, is bad,
-or is refused for no fact, a promise or a law that is no longer proved, but for a name that is missing, or by a limit of the prover alone."""
+or is refused for no fact, a promise or a law that is no longer proved, but for a name that is missing, for a search that found nothing, or by a limit of
+the prover alone."""
 import glob
 import os
 import re
@@ -10,6 +11,8 @@ import sys
 ROOT = os.path.join(os.path.dirname(os.path.abspath(__file__)), "..")
 LINE = re.compile(r"rt: must-fail (\w+)/([\w.-]+)\.edit: (.*)")
 FACT = "refused, as it must be: "
+# What a first line says that is no fact: nothing was found, or a name is missing. (A goal that a function without answers no longer proves is told as such.)
+NONE = re.compile(r"`(?:search|cc|simp)`: |`rw`: no occurrence|list the missing equation|(?:record|module) \S+ has no |not in scope|not declared")
 # The place of what the prover says first, and what it says: an error, or a goal that is not proved.
 SAID = re.compile(r"(?:note: )?(?:\./)?(\S+?):(\d+):\d+: (?:error: )?(.*)")
 
@@ -34,7 +37,7 @@ def short(text, most=130):
 def fact(said):
     """(place, what no longer holds, True), or ("", what was said instead, False)."""
     found = SAID.match(said[len(FACT) :]) if said.startswith(FACT) else None
-    if not found:
+    if not found or NONE.search(said):
         return "", short(said), False
     return "%s:%s" % found.group(1, 2), short(found.group(3).replace("`", "")), True
 
