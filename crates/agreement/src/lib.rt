@@ -19,7 +19,7 @@ use transcript::Used;
 use verifier::Ending;
 
 // What the prover is done with and has used up, and how the verifier ends with its proof; or the prover's refusal.
-#[derive(Drop)]
+#[derive(Clone, Copy)]
 pub enum Joint {
     Proved {
         rounds: usize,
@@ -31,7 +31,7 @@ pub enum Joint {
 }
 
 // The prover's number and values, and the verifier's, all zero where the prover refuses.
-#[derive(Drop)]
+#[derive(Clone, Copy)]
 pub struct JointReport {
     pub proving: Report,
     pub verifying: Report,

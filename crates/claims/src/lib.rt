@@ -11,7 +11,7 @@ use refusal::Refusal;
 use step::Frac;
 
 // The claims are the sheet's values at the point, or they are not; or rows and point do not fit.
-#[derive(Drop)]
+#[derive(Clone, Copy)]
 pub enum Comparison {
     Same,
     Different,

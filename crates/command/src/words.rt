@@ -4,14 +4,14 @@ ghost use Rattle.command.specs.Arguments.{argument, same_text, size_word, mode_w
 
 use sheet_text::list::{beyond, find};
 
-#[derive(Drop)]
+#[derive(Clone, Copy)]
 pub struct Part {
     pub from: usize,
     pub to: usize,
 }
 
 // An option that is a mode by itself.
-#[derive(Drop)]
+#[derive(Clone, Copy)]
 pub enum Mode {
     Live,
     NoAssert,
@@ -29,7 +29,7 @@ pub enum Name {
 }
 
 // What a word is: an option, any other word, or nothing.
-#[derive(Drop)]
+#[derive(Clone, Copy)]
 pub enum Word {
     Empty,
     Mode(Mode),

@@ -15,7 +15,7 @@ use std::rt::Files;
 use stored_sheet::SheetAnswer;
 
 // How many words there are, and whether they are good.
-#[derive(Drop)]
+#[derive(Clone, Copy)]
 pub struct Given {
     pub count: usize,
     pub good: bool,

@@ -13,14 +13,14 @@ pub mod logs; // a run's log
 pub mod system; // the system's files, by their names in bytes
 
 // What comes after the bytes that were read: the end of the file, more than the buffer takes, or a failure, which is told.
-#[derive(Drop)]
+#[derive(Clone, Copy)]
 pub enum After {
     End,
     More,
     Failed,
 }
 
-#[derive(Drop)]
+#[derive(Clone, Copy)]
 pub struct Input {
     pub count: usize,
     pub after: After,

@@ -5,7 +5,7 @@ ghost use Rattle.command_text.specs.LogPlaces.{subround_word, last_word, inner_w
 use crate::places::{SubroundAt, subround_at};
 
 // A word of the size, of q0, or of a layer's claims and its round's challenges: lambda, sums and rho of each sub-round, claims, mu.
-#[derive(Drop)]
+#[derive(Clone, Copy)]
 pub enum LogWord {
     Size {
         word: usize,

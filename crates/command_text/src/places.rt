@@ -3,28 +3,28 @@ ghost use Rattle.std.specs.Prelude.{◌≡◌};
 ghost use Rattle.command_text.specs.Places.{row_word, element_word, layer_from, sum_word, proof_word};
 
 // A word of a row's p, side 0, or q, side 1.
-#[derive(Drop)]
+#[derive(Clone, Copy)]
 pub struct RowWord {
     pub row: usize,
     pub side: usize,
     pub word: usize,
 }
 
-#[derive(Drop)]
+#[derive(Clone, Copy)]
 pub struct ElementWord {
     pub element: usize,
     pub word: usize,
 }
 
 // A sub-round of a layer.
-#[derive(Drop)]
+#[derive(Clone, Copy)]
 pub struct SubroundAt {
     pub layer: usize,
     pub subround: usize,
 }
 
 // A word of q0; of a layer's p0, q0, p1 or q1; of s(1), s(2) or s(3) of a layer's sub-round.
-#[derive(Drop)]
+#[derive(Clone, Copy)]
 pub enum ProofWord {
     Root {
         word: usize,

@@ -13,7 +13,7 @@ use step::Frac;
 pub mod halves; // both values, by halves of the rows
 
 // Done tells n, and the values of the columns p and q.
-#[derive(Drop)]
+#[derive(Clone, Copy)]
 pub enum Evaluation {
     Done {
         rounds: usize,

@@ -10,7 +10,7 @@ use field::Ext;
 use refusal::{MAX_ROUNDS, MAX_ROWS, Refusal, Words};
 
 // What is asked of the sizes; a question that a helper does not ask is answered by 0 or true.
-#[derive(Drop)]
+#[derive(Clone, Copy)]
 pub struct Sizes {
     // the lists are of equal length, and no element is split
     pub lists: bool,

@@ -16,28 +16,28 @@ pub mod round; // a sub-round's polynomial
 pub mod report; // the number and the values of each answer
 
 // A call that answers no element.
-#[derive(Drop)]
+#[derive(Clone, Copy)]
 pub enum Outcome {
     Done,
     Refused(Refusal),
 }
 
 // A call that answers an element.
-#[derive(Drop)]
+#[derive(Clone, Copy)]
 pub enum Evaluated {
     Value(Ext),
     Refused(Refusal),
 }
 
 // A call that answers a sub-round's polynomial at 1, 2 and 3.
-#[derive(Drop)]
+#[derive(Clone, Copy)]
 pub enum RoundEvals {
     Values(Three),
     Refused(Refusal),
 }
 
 // The number of such an answer, and its three values, zero where it is refused.
-#[derive(Drop)]
+#[derive(Clone, Copy)]
 pub struct RoundReport {
     pub report: Report,
     pub values: Three,

@@ -27,14 +27,14 @@ use step::Frac;
 use transcript::Used;
 
 // Done tells n and the sum of all rows.
-#[derive(Drop)]
+#[derive(Clone, Copy)]
 pub enum Answer {
     Done { rounds: usize, sum: Frac },
     Refused(Refusal),
 }
 
 // How a call ends: its answer, and what it used up.
-#[derive(Drop)]
+#[derive(Clone, Copy)]
 pub struct Ending {
     pub answer: Answer,
     pub used: Used,

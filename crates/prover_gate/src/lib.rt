@@ -13,7 +13,7 @@ use sizes::Size;
 use step::Frac;
 
 // Open tells the size of the sheet.
-#[derive(Drop)]
+#[derive(Clone, Copy)]
 pub enum Gate {
     Open(Size),
     Shut(Refusal),

@@ -16,7 +16,7 @@ pub mod message; // a sub-round's polynomial from three values
 pub mod passes; // sums, differences and folds
 
 // The claims on a left and a right child.
-#[derive(Drop)]
+#[derive(Clone, Copy)]
 pub struct Pair {
     pub l: Frac,
     pub r: Frac,

@@ -6,7 +6,7 @@ use cases::read::{fill_bytes, fill_words, next_number, next_word, next_words};
 use refusal::Proving;
 
 // The modes, and the place where the rows begin.
-#[derive(Drop)]
+#[derive(Clone, Copy)]
 struct Modes {
     modes: Proving,
     at: usize,

@@ -10,7 +10,7 @@ pub mod list; // all lines of a text, into words
 use field::Ext;
 
 // A number, and the place after its digits.
-#[derive(Drop)]
+#[derive(Clone, Copy)]
 pub struct Number {
     pub value: u64,
     pub at: usize,
@@ -24,7 +24,7 @@ pub struct Word {
     pub good: bool,
 }
 
-#[derive(Drop)]
+#[derive(Clone, Copy)]
 pub struct Element {
     pub value: Ext,
     pub at: usize,
@@ -32,7 +32,7 @@ pub struct Element {
 }
 
 // What a line says.
-#[derive(Drop)]
+#[derive(Clone, Copy)]
 pub enum Line {
     Skipped,
     Single(Ext),
@@ -41,7 +41,7 @@ pub enum Line {
 }
 
 // What a line does to the words: the place where they go on, or why they do not.
-#[derive(Drop)]
+#[derive(Clone, Copy)]
 pub enum Placed {
     At(usize),
     Other,
@@ -49,7 +49,7 @@ pub enum Placed {
 }
 
 // What reading a list ends with: the words read; the number of the first line, from 1, that is none of its kind, or that finds no room.
-#[derive(Drop)]
+#[derive(Clone, Copy)]
 pub enum ListAnswer {
     Done(usize),
     Malformed(usize),

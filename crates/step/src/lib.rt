@@ -31,7 +31,7 @@ pub struct Entry {
 }
 
 // A sub-round's polynomial at 1, 2 and 3.
-#[derive(Drop)]
+#[derive(Clone, Copy)]
 pub struct Three {
     pub s1: Ext,
     pub s2: Ext,
@@ -39,7 +39,7 @@ pub struct Three {
 }
 
 // The two entries that one entry of the eq table becomes.
-#[derive(Drop)]
+#[derive(Clone, Copy)]
 pub struct Doubled {
     pub low: Ext,
     pub high: Ext,

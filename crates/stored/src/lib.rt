@@ -20,7 +20,7 @@ pub struct Outline {
     pub polys: usize,
 }
 
-#[derive(Drop)]
+#[derive(Clone, Copy)]
 pub enum Shape {
     Good(Outline),
     Refused(Refusal),

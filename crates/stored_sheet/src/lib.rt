@@ -13,7 +13,7 @@ use field::Ext;
 use refusal::{Refusal, Report, Words};
 
 // What reading or writing a sheet ends with.
-#[derive(Drop)]
+#[derive(Clone, Copy)]
 pub enum SheetAnswer {
     Done(usize),
     Refused(Refusal),

@@ -25,21 +25,21 @@ pub struct Pos {
 }
 
 // What a run used up: the challenges sampled, and the words of the log written.
-#[derive(Drop)]
+#[derive(Clone, Copy)]
 pub struct Used {
     pub challenges: usize,
     pub words: usize,
 }
 
 // A challenge, and where the run stands after it.
-#[derive(Drop)]
+#[derive(Clone, Copy)]
 pub struct Drawn {
     pub pos: Pos,
     pub x: Ext,
 }
 
 // A drawn word, and the sponge that has all whole blocks before it.
-#[derive(Drop)]
+#[derive(Clone, Copy)]
 pub struct DrawnWord {
     pub sponge: Sponge,
     pub word: u32,

@@ -16,14 +16,14 @@ mod empty; // no rounds, where that is valid
 pub mod end; // how a run ends
 
 // How a call ends: its verdict, and what it used up.
-#[derive(Drop)]
+#[derive(Clone, Copy)]
 pub struct Ending {
     pub verdict: Verdict,
     pub used: Used,
 }
 
 // What the checks before the run answer.
-#[derive(Drop)]
+#[derive(Clone, Copy)]
 pub enum Gate {
     Open(Outline),
     Shut(Refusal),

@@ -37,7 +37,7 @@ pub struct Layer {
 }
 
 // What goes from one sub-round to the next: the claim, eq so far, and the next coordinate of the old point.
-#[derive(Drop)]
+#[derive(Clone, Copy)]
 pub struct Sums {
     pub pos: Pos,
     pub claim: Ext,
@@ -46,7 +46,7 @@ pub struct Sums {
 }
 
 // The start of a layer: lambda, and what its first sub-round takes on.
-#[derive(Drop)]
+#[derive(Clone, Copy)]
 pub struct Opened {
     pub lambda: Ext,
     pub first: Sums,
