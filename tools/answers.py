@@ -15,7 +15,6 @@ import sys
 NAME = r"[^\s(){}.;,@\"«»⟪⟫\[\]\\λ|]+"
 TOKEN = re.compile(r"--[^\n]*|\"(?:[^\"\\]|\\.)*\"|" + NAME + r"|[\s\S]")
 HEAD = re.compile(r"^(?:pub )?(?:abbrev )?(?:pub )?(?:private )?(" + NAME + r")\s*:\s*([\s\S]*)")
-COMMON = set()
 
 
 # The names of the named clauses of a kind, of each function of the repository.
@@ -120,6 +119,15 @@ def part(path, names):
     return None, 0
 
 
+# The same of what is told of each parameter, where the last part is a .0 too; the whole path then.
+def by_parameter(path, params):
+    got, k = part(path, params)
+    if not got:
+        return None
+    k += got == params[-1] and path[k : k + 1] == ["0"]
+    return [got] + path[k:]
+
+
 def turn_path(f, place, path, env):
     """path: the list of names behind `c`. Answers the new path text."""
     ups = 0
@@ -161,18 +169,10 @@ def turn_path(f, place, path, env):
         return ("text", whole(".".join(out) + ".ensures", ENSURES.get(f.callee[where])))
     if rest and rest[0] == "ensures":
         return ("text", ".".join(out) + ".ensures" + names_of(rest[1:], ENSURES.get(f.callee[where])))
-    if rest and rest[0] == "auto" and len(rest) > 1 and rest[1] in ("0", "1"):
-        params = f.of["params"].get(f.callee[where] or "", [])
-        got, k = part(rest[1:], params)
-        if got:
-            k += got == params[-1] and rest[1 + k : 2 + k] == ["0"]
-            return ("text", ".".join(out + ["auto", got] + rest[1 + k :]))
-    if rest and rest[0] == "new" and len(rest) > 1 and rest[1] in ("0", "1"):
-        params = f.of["params"].get(f.callee[where] or "", [])
-        got, k = part(rest[1:], params)
-        if got:
-            k += got == params[-1] and rest[1 + k : 2 + k] == ["0"]
-            return ("text", ".".join(out + ["new", got] + rest[1 + k :]))
+    if rest and rest[0] in ("auto", "new") and rest[1:2] in (["0"], ["1"]):
+        told = by_parameter(rest[1:], f.of["params"].get(f.callee[where] or "", []))
+        if told:
+            return ("text", ".".join(out + [rest[0]] + told))
     return ("text", ".".join(out + rest))
 
 
@@ -209,7 +209,6 @@ def names_of(path, names):
     return "".join("." + it for it in path)
 
 
-LET = re.compile(r"let (" + NAME + r") = c((?:\." + NAME + r")*) in\s*")
 LETV = re.compile(r"let (" + NAME + r") = (" + NAME + r")((?:\." + NAME + r")*) in\s*")
 
 
@@ -270,10 +269,9 @@ def turn_body(f, place, body, subst=None):
                 i += 1
                 continue
             if t in autos and path[:1] in (["0"], ["1"]):
-                got, k = part(path, autos[t])
-                if got:
-                    k += got == autos[t][-1] and path[k : k + 1] == ["0"]
-                    text.append(".".join([t, got] + path[k:]))
+                told = by_parameter(path, autos[t])
+                if told:
+                    text.append(".".join([t] + told))
                     i = j
                     continue
             if t in parts and "".join(text[-2:]) != "let " and "".join(tokens[i + 1 : i + 3]) not in (" =", " :"):
@@ -310,7 +308,6 @@ def top_commas(text):
 
 # A tuple of n parts at the end of a body into a record of the names.
 def as_record(body, names):
-    m = re.match(r"^((?:[\s\S]*?\bin\s+)?)\(([\s\S]*)\)\s*$", body.strip())
     lets = ""
     text = body.strip()
     while True:
