@@ -1,5 +1,5 @@
 -- The laws of the rounds.
-pub mod Alike
+pub mod Room
 pub mod Speaking
 pub mod Sending
 pub mod Opening
