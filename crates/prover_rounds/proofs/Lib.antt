@@ -1,7 +1,7 @@
 -- The laws of the rounds.
-pub mod Room
 pub mod Speaking
 pub mod Sending
 pub mod Opening
 pub mod Weighing
 pub mod Descent
+pub mod Room

@@ -150,6 +150,7 @@ pub fn close_round(work: &[u32], pq: usize, xi: &mut [u32], transcript: &mut Tra
     requires enough { Enough (state transcript.old) 1 }
     requires clean { Clean work.now × Clean xi.old }
     ensures same { transcript.new.log.ghost_name ≡ transcript.old.log.ghost_name }
+    ensures length { length transcript.new.log.now ≡ length transcript.old.log.now }
     ensures closed { RoundClosed work.now xi.old xi.new (state transcript.old) (state transcript.new) (source_of (state transcript.old)) pq }
 {
     observe_fraction(transcript, prover_tree::load_node(work, pq));
@@ -173,6 +174,7 @@ fn gkr_round(
     requires enough { Enough (state transcript.old) (round + 2) }
     requires clean { Clean work.old × Clean xi.old }
     ensures same { transcript.new.log.ghost_name ≡ transcript.old.log.ghost_name }
+    ensures length { length transcript.new.log.now ≡ length transcript.old.log.now }
     ensures layer { OneLayer work.old work.new xi.old xi.new (state transcript.old) (state transcript.new)
         (source_of (state transcript.old)) eq round size }
 {
@@ -196,6 +198,7 @@ pub fn gkr_rounds(
     requires enough { Enough (state transcript.old) (used_up_to n - used_up_to 1) }
     requires clean { Clean work.old × Clean xi.old }
     ensures same { transcript.new.log.ghost_name ≡ transcript.old.log.ghost_name }
+    ensures length { length transcript.new.log.now ≡ length transcript.old.log.now }
     ensures run { (f : ℕ → Fraction E.Ext) (g : ℕ) → n ≡ suc g → Levels f work.old n 0 →
         AllLayers f xi.old xi.new (state transcript.old) (state transcript.new) (source_of (state transcript.old)) n g }
     ensures steps { Steps (state transcript.old) (state transcript.new) (log_up_to n - log_up_to 1) (used_up_to n - used_up_to 1)

@@ -1,7 +1,7 @@
 use native.Mathlib.Omega.{arith}
 use Rattle.transcript.specs.Log.{source_of, state}
 use Rattle.transcript.proofs.Logs.{same_source, then}
-use Rattle.prover_rounds.proofs.Room.{room_after}
+use Rattle.prover_rounds.proofs.Room.{room_after, round_closed}
 use Rattle.prover_rounds.proofs.Descent.{layer_closed}
 use Rattle.prover_rounds.proofs.close_round.Goals as goal
 
@@ -18,3 +18,6 @@ returns-clause-closed c =
     let d = c.sample_ext-mu in
     let h = same_source (then a b) in
     layer_closed _ (source_of (state c.args.transcript.now)) c.args.pq d.result _ _ c.load_node.ensures c.load_node-2.ensures a b (rw h at d.ensures.steps) (rw h at d.ensures.value) c.store.ensures
+
+pub returns-clause-length : goal.returns-clause-length
+returns-clause-length c = round_closed c.requires.room.2 (returns-clause-closed c)
