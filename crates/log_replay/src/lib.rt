@@ -6,7 +6,7 @@ ghost use Rattle.log_replay.specs.Replayed.{kept, plain_word, most_words, challe
 ghost use Rattle.log_replay.specs.Inner.{placed, next_place, as_compared, gap, fits, settled};
 
 use field::Base;
-use refusal::{MAX_ROUNDS, Refusal, Verifying};
+use refusal::{MAX_ROUNDS, Refusal, Report, Verifying};
 use verifier::Ending;
 use verifier::end::{at_once, copy_point};
 use verifier_round::Verdict;
@@ -71,8 +71,7 @@ fn compare_logs(given: &[u32], left: &[u32]) -> Result<(), Refusal>
 fn in_run(refusal: Refusal) -> bool
     ensures { result ≡ of_run (Err refusal) }
 {
-    let number = refusal::number_and_fields(refusal).number;
-    matches!(number, 16..=19)
+    matches!(Report::from(refusal).number, 16..=19)
 }
 
 // Whether a verdict comes of a run, or of no rounds that are accepted.
