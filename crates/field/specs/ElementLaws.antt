@@ -1,6 +1,6 @@
 -- Words and elements are one another's inverses on canonical words, so no second answer fits.
 -- Assumes nothing.
-use Rattle.std.specs.Prelude.{◌≡◌, refl, Bool, true, ◌&&◌, ℕ, ◌<◌, eqb, ltb}
+use Rattle.std.specs.Prelude.{◌≡◌, refl, Bool, true, not, ◌&&◌, ℕ, ◌<◌, eqb, ltb}
 use Rattle.std.proofs.Common.{sym, ◌∙◌, ap, subst, mod-eq_of_lt, arith, ltb-true, lt-ltb}
 use Rattle.field.specs.Base as B
 use Rattle.field.specs.Base.{F, P, of}
@@ -140,6 +140,11 @@ canon_of e h = rw (lt-ltb e.c0 P h.c0, lt-ltb e.c1 P h.c1, lt-ltb e.c2 P h.c2, l
 pub equal_words : (a b : Ext) {r : Bool} → r ≡ (eqb a.c0 b.c0 && (eqb a.c1 b.c1 && (eqb a.c2 b.c2 && eqb a.c3 b.c3))) → r ≡ same_words a b
 unfolding same_words
 equal_words a b e = e
+
+-- the same of `a != b`
+pub differ_words : (a b : Ext) {r : Bool} → r ≡ not (eqb a.c0 b.c0 && (eqb a.c1 b.c1 && (eqb a.c2 b.c2 && eqb a.c3 b.c3))) → not (same_words a b) ≡ r
+unfolding same_words
+differ_words a b e = sym e
 
 -- on words of elements the test on words is the test on elements
 pub same_enc : (x y : E.Ext) → same_words (enc x) (enc y) ≡ E.same x y
