@@ -13,7 +13,7 @@ ghost use Rattle.prover_layer.specs.Message.{CanonTurn, IsTurn};
 ghost use Rattle.prover_rounds.specs.SubRounds.{observed_three, SubSent, SubRounds};
 ghost use Rattle.prover_rounds.specs.Layers.{observed_frac, RoundClosed, OneLayer, Levels, log_up_to, used_up_to, AllLayers};
 
-use field::Ext;
+use field::{Ext, Field};
 use prover_layer::Turn;
 use step::{Frac, Three};
 use transcript::Transcript;
