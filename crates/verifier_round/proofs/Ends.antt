@@ -165,7 +165,7 @@ module _ (ch : Source E.Ext) (t : State) (q0 : Ext) (c : Claims E.Ext) (numer de
 both_observed : {t t₁ t₂ : State} (q : E.Ext) (c : Claims E.Ext) → Steps t t₁ 4 0 (Observing.observe q (log_of t)) → Steps t₁ t₂ 16 0 (after c (log_of t₁)) → Steps t t₂ 20 0 (after c (Observing.observe q (log_of t)))
 both_observed q c x y = then x (retold refl refl (ap (after c) x.log) y)
 
-module _ {pt : List ℕ} {t t₁ t₂ : State} (ch : Source E.Ext) (q0 : Ext) (c : Claims E.Ext) (f : FracW) (b : Bool) (x : IsFrac f (Tree.compute_recursive_relations ExtRing c)) (k : Canon q0)
+module _ (pt : List ℕ) {t t₁ t₂ : State} (ch : Source E.Ext) (q0 : Ext) (c : Claims E.Ext) (f : FracW) (b : Bool) (x : IsFrac f (Tree.compute_recursive_relations ExtRing c)) (k : Canon q0)
     (e : b ≡ same_words f.p (record { c0 = 0; c1 = 0; c2 = 0; c3 = 0 })) (s : Steps t t₁ 4 0 (Observing.observe (dec q0) (log_of t))) (s' : Steps t₁ t₂ 16 0 (after c (log_of t₁))) where
   pub root_zero : not b ≡ true → t.put + 24 ≤ length t.buffer → Rooted pt t t₂ ch (dec q0) c (Err (ZeroCheckFailed f.p))
   root_zero h room = λ mss cs.
