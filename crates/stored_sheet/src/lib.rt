@@ -50,7 +50,7 @@ fn check_sheet(bytes: &[u8], room: usize) -> Result<usize, Refusal>
     ensures { result ≡ read_answer bytes.now room }
 {
     let count = match bytes {
-        [1, high, low, ..] => usize::from(*high) * 256 + usize::from(*low),
+        [1, high, low, ..] => usize::from(u16::from_be_bytes([*high, *low])),
         [1, ..] => return Err(Refusal::BadLength),
         _ => return Err(Refusal::BadVersion),
     };
@@ -119,10 +119,10 @@ fn put_sheet(out: &mut [u8], rows: &[u32]) -> usize
     requires { (3 + 4 * length rows.now ≤ length out.old) × (length rows.now < 65536) }
     ensures { Wrote out.old out.new 0 result (sheet rows.now) }
 {
-    let count = rows.len() / 8;
+    let [high, low] = ((rows.len() / 8) as u16).to_be_bytes();
     let a = wire::put_byte(out, 0, 1);
-    let b = wire::put_byte(out, a, (count / 256) as u8);
-    let c = wire::put_byte(out, b, (count % 256) as u8);
+    let b = wire::put_byte(out, a, high);
+    let c = wire::put_byte(out, b, low);
     put_words(out, c, rows)
 }
 
