@@ -77,7 +77,7 @@ fn copy_words(bytes: &[u8], rows: &mut [u32], n: usize)
     }
 }
 
-// The row count.
+// Reads a stored sheet into the rows; Ok has the row count.
 pub fn read_sheet(bytes: &[u8], rows: &mut [u32]) -> Result<usize, Refusal>
     ensures { record { answer = result; buffer = rows.new } ≡ sheet_read bytes.now rows.old }
 {
@@ -126,7 +126,7 @@ fn put_sheet(out: &mut [u8], rows: &[u32]) -> usize
     put_words(out, c, rows)
 }
 
-// The number of bytes.
+// Writes the rows as a stored sheet; Ok has the number of bytes.
 pub fn write_sheet(rows: &[u32], out: &mut [u8]) -> Result<usize, Refusal>
     ensures { record { answer = result; buffer = out.new } ≡ sheet_written rows.now out.old }
 {
