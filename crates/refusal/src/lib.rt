@@ -6,7 +6,7 @@ ghost use Rattle.refusal.specs.Limits.{max_rounds, max_rows};
 ghost use Rattle.refusal.specs.Numbers.{plain, elements, report_of};
 ghost use Rattle.refusal.specs.Powers.{power_of_two};
 
-use field::Ext;
+use field::{Ext, Field};
 
 // The most rounds, and so the most rows, that a call takes.
 pub const MAX_ROUNDS: usize = 10;

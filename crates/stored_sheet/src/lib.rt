@@ -10,7 +10,7 @@ ghost use Rattle.stored_sheet.specs.Report.{sheet_report};
 ghost use Rattle.stored_sheet.specs.Sheet.{sheet};
 ghost use Rattle.stored_sheet.specs.SheetReads.{sized, read_answer, write_answer, sheet_read, sheet_written, sheet_end};
 
-use field::Ext;
+use field::{Ext, Field};
 use refusal::{Refusal, Report, Words};
 
 // The answer of reader or writer as document 01 has it: its number, and its values.

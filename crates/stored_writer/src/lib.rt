@@ -11,7 +11,7 @@ ghost use Rattle.stored.specs.Layout.{cubic_words, claim_words, cubics_words, cl
 ghost use Rattle.stored.specs.Lengths.{proof_size};
 ghost use Rattle.stored_writer.specs.Messages.{stored_cubic, stored_claims, stored_polys, stored_layers, stored_entries, stored_proof, no_rows, words_of_log};
 
-use field::{Base, Ext};
+use field::{Base, Ext, Field};
 
 fn put_element(out: &mut [u8], at: usize, e: Ext) -> usize
     requires { at + 16 ≤ length out.old }
