@@ -11,11 +11,9 @@ use field::Ext;
 
 // The polynomial at x of n coefficients, each read by its index.
 pub fn horner<F: Fn(usize) -> Ext>(coefficient: F, n: usize, x: Ext) -> Ext
-    ghost c: { ℕ → E.Ext }
     requires callable { (i : ℕ) → i < n → F.pre coefficient i }
-    requires reads { Reads (F.post coefficient) n c }
-    requires canon { Canon x }
-    ensures { Is result (Tables.polynomial ExtRing n c (dec x)) }
+    requires canon { Canon x × ((i : ℕ) (e : _) → i < n → F.post coefficient i e → Canon e) }
+    ensures { (c : ℕ → E.Ext) → Reads (F.post coefficient) n c → Is result (Tables.polynomial ExtRing n c (dec x)) }
 {
     let mut acc = Ext::ZERO;
     for i in (0..n).rev() {

@@ -1,12 +1,10 @@
-use mathlib.Core.Path.{refl}
+use Rattle.std.proofs.Common.{◌≡◌, ◌*◌, ◌%◌, ◌^◌, Ok, ap, arith}
 use Rattle.refusal.specs.Limits.{max_rounds}
 use Rattle.columns.specs.PowerLaws.{power_le}
-use native.Mathlib.Omega.{arith}
-use borrow.Author.Rules.{rules}
 use Rattle.poly.proofs.checks.cube.Goals as goal
 
-pub returns-then-variables-gt-MAX_ROUNDS : goal.returns-then-variables-gt-MAX_ROUNDS
-returns-then-variables-gt-MAX_ROUNDS c = (search rules, (λ h. absurd (omega (arith, h, c.if-variables-gt-MAX_ROUNDS.true))), λ _. refl)
-
 pub returns : goal.returns
-returns c = (omega (arith, c.power.ensures, power_le c.args.variables max_rounds c.if-variables-gt-MAX_ROUNDS.false), (λ _. c.power.ensures), λ h. absurd (omega (arith, h, c.if-variables-gt-MAX_ROUNDS.false)))
+returns c =
+    let v = c.args.variables in
+    let e : 1 * 2 ^ v % 18446744073709551616 ≡ 2 ^ v = omega (arith, power_le v max_rounds c.if-variables-gt-MAX_ROUNDS.false) in
+    (omega (arith, e, power_le v max_rounds c.if-variables-gt-MAX_ROUNDS.false), (λ _. ap Ok e), λ h. absurd (omega (arith, h, c.if-variables-gt-MAX_ROUNDS.false)))
