@@ -50,13 +50,12 @@ pub fn check_element(e: Ext) -> Result<(), Refusal>
 }
 
 // 2^variables, and refused where these are over the limit.
+#[tactic(auto, using(columns::specs::PowerLaws::power_le))]
 pub fn cube(variables: usize) -> Result<usize, Refusal>
     ensures { IfOk result (λ n. n ≤ max_rows) × (variables ≤ max_rounds → result ≡ Ok (2 ^ variables)) × (max_rounds < variables → result ≡ Err TooManyRounds) }
 {
-    if MAX_ROUNDS < variables {
-        return Err(Refusal::TooManyRounds);
-    }
-    Ok(1 << variables)
+    check_rounds(variables)?;
+    Ok(sizes::rows_of(variables))
 }
 
 // Both lengths are of whole elements.

@@ -13,7 +13,7 @@ pub fn outcome_number_and_values(outcome: Result<(), Refusal>) -> Report
 {
     match outcome {
         Ok(()) => refusal::done(0, Ext::ZERO, Ext::ZERO),
-        Err(refusal) => refusal::number_and_fields(refusal),
+        Err(refusal) => refusal.into(),
     }
 }
 
@@ -23,7 +23,7 @@ pub fn evaluated_number_and_values(evaluated: Result<Ext, Refusal>) -> Report
 {
     match evaluated {
         Ok(e) => refusal::done(0, e, Ext::ZERO),
-        Err(refusal) => refusal::number_and_fields(refusal),
+        Err(refusal) => refusal.into(),
     }
 }
 
@@ -37,7 +37,7 @@ pub fn round_number_and_values(evals: Result<Three, Refusal>) -> RoundReport
             values,
         },
         Err(refusal) => RoundReport {
-            report: refusal::number_and_fields(refusal),
+            report: refusal.into(),
             values: Three {
                 s1: Ext::ZERO,
                 s2: Ext::ZERO,
