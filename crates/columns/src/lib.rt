@@ -1,4 +1,5 @@
 // Loops over columns: lists of words, four to an entry. They take canonical words and rooms that were checked before.
+// Stays: canonical words are a clause and not a type, since the slices are those that calls lend, and `field::load` and `field::store` take them plain.
 #![tactic(auto)]
 
 ghost use Rattle.std.specs.Prelude.{◌≡◌, ◌+◌, ◌*◌, ◌<◌, length};

@@ -23,7 +23,7 @@ impl Columns<'_> {
     // Entry i of all five columns.
     fn entry(&self, i: usize) -> Entry
         requires room { 4 * i + 4 ≤ length self.now.eq.now }
-        ensures { let s = self.now in IsEntry result (cell s.eq.now i) (claims s.p0.now s.q0.now s.p1.now s.q1.now i) }
+        ensures { IsEntry result (cell self.now.eq.now i) (claims self.now.p0.now self.now.q0.now self.now.p1.now self.now.q1.now i) }
     {
         Entry {
             e: field::load(self.eq, i),
@@ -42,7 +42,7 @@ impl Columns<'_> {
     fn pair(&self, y: usize, lambda: Ext) -> Three
         requires room { 8 * y + 8 ≤ length self.now.eq.now }
         requires canon { Canon lambda }
-        ensures { let s = self.now in Summands result y s.eq.now (claims s.p0.now s.q0.now s.p1.now s.q1.now) (dec lambda) }
+        ensures { Summands result y self.now.eq.now (claims self.now.p0.now self.now.q0.now self.now.p1.now self.now.q1.now) (dec lambda) }
     {
         step::summands(self.entry(2 * y), self.entry(2 * y + 1), lambda)
     }
@@ -51,7 +51,7 @@ impl Columns<'_> {
     pub fn sums(&self, n: usize, lambda: Ext) -> Three
         requires room { 8 * n ≤ length self.now.eq.now }
         requires canon { Canon lambda }
-        ensures { let s = self.now in Sums result n s.eq.now (claims s.p0.now s.q0.now s.p1.now s.q1.now) (dec lambda) }
+        ensures { Sums result n self.now.eq.now (claims self.now.p0.now self.now.q0.now self.now.p1.now self.now.q1.now) (dec lambda) }
     {
         let mut acc = Three {
             s1: Ext::ZERO,
@@ -68,7 +68,7 @@ impl Columns<'_> {
     pub fn constant(&self, lambda: Ext) -> Three
         requires room { 4 ≤ length self.now.eq.now }
         requires canon { Canon lambda }
-        ensures { let s = self.now in Constant result s.eq.now (claims s.p0.now s.q0.now s.p1.now s.q1.now) (dec lambda) }
+        ensures { Constant result self.now.eq.now (claims self.now.p0.now self.now.q0.now self.now.p1.now self.now.q1.now) (dec lambda) }
     {
         let s = step::summand(self.entry(0), lambda);
         Three {

@@ -87,6 +87,7 @@ fn answer(text: &[u8], at: usize) -> usize {
 
 fn replay(text: &[u8]) {
     let mut at = 0;
+    // Stays: a `while` would have to prove that each case moves on in the text, and the readers of `cases` promise no such thing.
     for _ in 0..text.len() {
         if text.len() <= at {
             return;
