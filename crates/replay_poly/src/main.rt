@@ -18,19 +18,18 @@ mod round; // the code over five
 
 fn print_outcome(outcome: Result<(), Refusal>) {
     let r = outcome_number_and_values(outcome);
-    print::first(r.number as u64);
+    print::first(u64::from(r.number));
 }
 
 fn print_evaluated(evaluated: Result<Ext, Refusal>) {
     let r = evaluated_number_and_values(evaluated);
-    print::first(r.number as u64);
+    print::first(u64::from(r.number));
     print::ext(r.left);
 }
 
 // The next N elements of the text, and where it goes on.
-fn next_elements<const N: usize>(text: &[u8], at: usize) -> ([Ext; N], usize) {
+fn next_elements<const N: usize>(text: &[u8], mut at: usize) -> ([Ext; N], usize) {
     let mut elements = [Ext::ZERO; N];
-    let mut at = at;
     for element in elements.iter_mut() {
         let read = next_ext(text, at);
         *element = read.value;

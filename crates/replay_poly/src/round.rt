@@ -8,7 +8,7 @@ use step::Three;
 
 fn print_round(evals: Result<Three, Refusal>) {
     let r = round_number_and_values(evals);
-    print::first(r.report.number as u64);
+    print::first(u64::from(r.report.number));
     print::ext(r.values.s1);
     print::ext(r.values.s2);
     print::ext(r.values.s3);
