@@ -39,6 +39,7 @@ fn next_elements<const N: usize>(text: &[u8], mut at: usize) -> ([Ext; N], usize
 }
 
 // The interpolations. Each function from here on answers where the next case begins.
+// Stays: one function over a closure of N elements gets no proof, since its bound names a const parameter.
 fn linear(text: &[u8], at: usize) -> usize {
     let ([e0, e1, x], at) = next_elements::<3>(text, at);
     print_evaluated(Ok(interpolate_linear_at_01(e0, e1, x)));
