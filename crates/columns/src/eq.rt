@@ -7,7 +7,7 @@ ghost use Rattle.field.specs.Column.{flat};
 ghost use Rattle.multilinear.specs.Table as Table;
 ghost use Rattle.columns.specs.Passes.{GrownEntry, Grown};
 
-use field::Ext;
+use field::{Ext, Field};
 
 // The product of the agreements of the coordinates.
 #[tactic(auto, using(crate::proofs::Turns::eq_turn, step::proofs::Algebra::one_is), unfolding(multilinear::specs::Table::eq))]

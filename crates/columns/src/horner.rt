@@ -7,7 +7,7 @@ ghost use Rattle.field.specs.Cells.{Clean};
 ghost use Rattle.columns.specs.Tables as Tables;
 ghost use Rattle.columns.specs.Passes.{base_cell, Reads};
 
-use field::Ext;
+use field::{Ext, Field};
 
 // The polynomial at x of n coefficients, each read by its index.
 pub fn horner<F: Fn(usize) -> Ext>(coefficient: F, n: usize, x: Ext) -> Ext

@@ -5,7 +5,7 @@ ghost use Rattle.field.specs.Cells.{cell};
 ghost use Rattle.step.specs.Values.{IsEntry};
 ghost use Rattle.columns.specs.Passes.{claims, Room, Summands, Sums, Constant};
 
-use field::Ext;
+use field::{Ext, Field};
 use step::{Entry, Frac, Three};
 
 // What a sub-round reads: the eq column, and the claims on the left and the right children. Each column has the words of eq, or more.

@@ -6,7 +6,7 @@ ghost use Rattle.refusal.specs.declared.Refusal.TheVariants.{TooManyRounds, TooM
 ghost use Rattle.wire.specs.Words.{all_canonical};
 ghost use Rattle.poly.specs.Checks.{unless, bad_word};
 
-use field::Ext;
+use field::{Ext, Field};
 use refusal::{MAX_ROUNDS, MAX_ROWS, Refusal, Words};
 
 // Refuses where the answer is no.

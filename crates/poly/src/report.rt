@@ -3,7 +3,7 @@ ghost use Rattle.std.specs.Prelude.{◌≡◌};
 ghost use Rattle.poly.specs.Reports.{outcome_report, evaluated_report, round_report};
 
 use crate::RoundReport;
-use field::Ext;
+use field::{Ext, Field};
 use refusal::{Refusal, Report};
 use step::Three;
 
