@@ -17,6 +17,7 @@ pub fn eq_points(x: &[u32], y: &[u32], n: usize) -> Ext
     ensures { Is result (Table.eq ExtRing (cells x.now 0 n) (cells y.now 0 n)) }
 {
     let mut eq = Ext::ONE;
+    // Stays: tried as a `fold`, whose closure leaves two goals open that this loop does not have; `Columns::sums` likewise.
     for i in 0..n {
         eq = step::eq::eq_step(eq, field::load(x, i), field::load(y, i));
     }
