@@ -3,7 +3,7 @@
 
 use cases::print;
 use cases::read::{next_ext, next_word};
-use field::Ext;
+use field::{Ext, Field};
 use poly::eq::{eval_eq_mle, evals_eq_hypercube, evals_eq_hypercube_serial};
 use poly::eval::{eval_mle_evals_at_point, eval_mle_evals_by_halves};
 use poly::horner::{horner_eval, horner_eval_base};
