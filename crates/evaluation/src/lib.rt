@@ -6,7 +6,7 @@ ghost use Rattle.evaluation.specs.declared.Evaluation.TheVariants.{Done};
 ghost use Rattle.evaluation.specs.Evaluated.{evaluated};
 ghost use Rattle.evaluation.specs.Report.{evaluation_report};
 
-use field::Ext;
+use field::{Ext, Field};
 use refusal::{Refusal, Report, Words};
 use step::Frac;
 

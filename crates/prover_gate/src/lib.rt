@@ -8,6 +8,7 @@ ghost use Rattle.sizes.specs.Sizes.{row_count};
 ghost use Rattle.step.specs.Values.{dec_frac};
 ghost use Rattle.prover_gate.specs.Refusals.{short_room, degenerate, lowest, call, rooms, first_refusal, as_gate};
 
+use field::Field;
 use refusal::{Proving, Refusal, Words};
 use sizes::Size;
 use step::Frac;

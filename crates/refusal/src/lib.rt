@@ -156,7 +156,7 @@ pub fn done(first: usize, left: Ext, right: Ext) -> Report
     elements(0, first, left, right)
 }
 
-// Each refusal's number and fields.
+// A refusal's number, and its fields, zero where there are none.
 impl From<Refusal> for Report {
     ghost from_gives = { λ refusal report. report ≡ report_of refusal };
 
