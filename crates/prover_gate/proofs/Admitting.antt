@@ -1,6 +1,6 @@
 -- The search of the lowest row over zero, from one row to the next; and what canonical words are to it.
 -- Assumes nothing.
-use Rattle.std.specs.Prelude.{◌≡◌, Bool, true, false, List, ℕ, suc, ◌+◌, ◌-◌, ◌<◌, ◌≤◌, length, Some, None}
+use Rattle.std.specs.Prelude.{◌≡◌, Bool, true, false, List, ℕ, suc, ◌+◌, ◌-◌, ◌<◌, Some, None}
 use Rattle.std.proofs.Common.{sym, ◌∙◌, ap, add-one, arith, lt-ltb, le-ltb}
 use Rattle.field.specs.Ext as E
 use Rattle.field.specs.Element.{dec}
@@ -8,8 +8,9 @@ use Rattle.field.specs.Cells.{Clean}
 use Rattle.gkr.specs.Run.{Frac}
 use Rattle.step.specs.declared.Frac.{Frac as FracW}
 use Rattle.step.specs.Values.{IsFrac}
-use Rattle.wire.specs.Words.{first_bad}
-use Rattle.wire.specs.WordLaws.{none_canonical, canonical_below}
+use Rattle.wire.specs.Words.{bad_place}
+use Rattle.wire.specs.WordLaws.{canonical_below}
+use Rattle.wire.specs.PlaceLaws.{place_canonical, place_bad}
 use Rattle.prover_tree.specs.Nodes.{node}
 use Rattle.prover_gate.specs.Refusals.{degenerate, lowest, lowest_row}
 
@@ -41,5 +42,8 @@ module _ (rows : List ℕ) (count i : ℕ) (s : lowest rows count 0 ≡ lowest r
       rw (k, le-ltb i count (omega arith))
 
 -- a search of words that found none
-pub clean_words : (ws : List ℕ) → length ws ≤ first_bad ws → Clean ws
-clean_words ws h = record { below = canonical_below ws (none_canonical ws h) }
+pub clean_words : (ws : List ℕ) → None ≡ bad_place ws → Clean ws
+clean_words ws h = record { below = canonical_below ws (place_canonical ws h) }
+
+-- what the searches of words say
+pub ruleset searches = (place_canonical, place_bad, clean_words)

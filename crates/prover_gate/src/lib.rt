@@ -44,7 +44,7 @@ fn lowest_row(rows: &[u32], count: usize) -> Option<usize>
 }
 
 // The first refusal that fits, or the rounds of the sheet.
-#[tactic(auto, using(wire::specs::WordLaws::none_canonical, wire::specs::WordLaws::some_bad, crate::proofs::Admitting::clean_words), unfolding(crate::specs::Refusals::first_refusal, refusal::specs::Tests::first_of))]
+#[tactic(auto, using(crate::proofs::Admitting::searches), unfolding(crate::specs::Refusals::first_refusal, refusal::specs::Tests::first_of))]
 pub fn first_refusal(
     rows: &[u32],
     modes: Proving,
@@ -69,15 +69,13 @@ pub fn first_refusal(
     if short_room(modes, n, rooms) {
         return Err(Refusal::ShortRoom);
     }
-    let place = wire::first_bad_word(rows);
-    if place < rows.len() {
+    if let Some(place) = wire::first_bad_word(rows) {
         return Err(Refusal::BadWord {
             place,
             list: Words::Rows,
         });
     }
-    let place = wire::first_bad_word(needed);
-    if place < needed.len() {
+    if let Some(place) = wire::first_bad_word(needed) {
         return Err(Refusal::BadWord {
             place,
             list: Words::Challenges,
