@@ -35,12 +35,13 @@ use Rattle.prover_gate.specs.declared.Gate.{Gate}
 use Rattle.prover_gate.specs.declared.Gate.TheVariants.{Open, Shut}
 use Rattle.sizes.specs.declared.Size.{Size}
 use Rattle.sizes.specs.Sizes.{row_count, rounds_of, work_room}
-use Rattle.prover_gate.specs.Refusals.{Call, Rooms, first_refusal, as_gate}
+use Rattle.prover_gate.specs.declared.Rooms.{Rooms}
+use Rattle.prover_gate.specs.Refusals.{Call, first_refusal, as_gate}
 use Rattle.stored.specs.Layout.{layout}
 use Rattle.stored_writer.specs.Messages.{no_rows}
 use Rattle.prover.specs.declared.Ending.{Ending}
-use Rattle.prover.specs.declared.Answer.TheVariants.{Done, Refused}
-use Rattle.prover.specs.Proved.{Buffers, Outcome, lent, outcome, laid, enc_frac, untouched, after, one_row, modelled, ran, entered, fronts, proved, rooms_of}
+use Rattle.std.specs.Prelude.{Result, Ok, Err}
+use Rattle.prover.specs.Proved.{Buffers, Outcome, lent, outcome, laid, enc_frac, untouched, after, one_row, modelled, ran, entered, fronts, proved, rooms_of, summed}
 use Rattle.prover.specs.Inner.{ending, run_of, Written, Opens}
 use Rattle.prover.proofs.Writing.{drop_all, whole_proof}
 use Rattle.prover.proofs.Opening.{gate_opens}
@@ -98,7 +99,7 @@ module _ (rows : List ℕ) (ch : Source E.Ext) (pf pt lg ws : List ℕ) (asserte
   tested : t ≡ (asserted && not (E.same (Tree.tree ExtRing f (suc m) 0).p E.nil))
   tested = te ∙ ap (λ x. asserted && not (E.same x E.nil)) R.p.value
 
-  pub prove_refused : (ws₁ ws' : List ℕ) {r : Ending} → t ≡ true → length ws₁ ≡ length ws → ws' ≡ replicate (length ws₁) 0 → r ≡ ending (Refused NonZeroRootSum) unused
+  pub prove_refused : (ws₁ ws' : List ℕ) {r : Ending} → t ≡ true → length ws₁ ≡ length ws → ws' ≡ replicate (length ws₁) 0 → r ≡ ending (Err NonZeroRootSum) unused
       → outcome r.answer r.used pf pt lg ws' ≡ laid (modelled rows asserted sized ch m) before
   prove_refused ws₁ ws' h l w q =
       let W = whole_work ws ws' (suc m) (lw ∙ ap work_room e) (w ∙ ap (λ k. replicate k 0) l) in
@@ -106,12 +107,12 @@ module _ (rows : List ℕ) (ch : Source E.Ext) (pf pt lg ws : List ℕ) (asserte
       ∙ ap (λ a. laid (after ch sized (suc m) a) before) (sym (sumcheck_refused ch f sized m asserted (sym tested ∙ h)))
 
   pub prove_done : (b' : Buffers) (u : Used) → t ≡ false → Written f asserted sized m ch before b' u
-      → ◌≡◌ {A = Outcome} (record { answer = Done n root; used = u; buffers = b' }) (laid (modelled rows asserted sized ch m) before)
+      → ◌≡◌ {A = Outcome} (record { answer = summed n root; used = u; buffers = b' }) (laid (modelled rows asserted sized ch m) before)
   unfolding Gkr.run
   prove_done b' u h w =
       let S : root ≡ enc_frac (run_of f asserted sized m ch).sum = (λ i. record { p = enc_of_is R.p i; q = enc_of_is R.q i }) in
       let W = whole_work ws b'.work (suc m) (lw ∙ ap work_room e) w.work in
-      (λ i. outcome (Done (e i) (S i)) (w.used i) (w.proof i) (w.point i) (w.log i) (W i))
+      (λ i. outcome (summed (e i) (S i)) (w.used i) (w.proof i) (w.point i) (w.log i) (W i))
       ∙ ap (λ a. laid (after ch sized (suc m) a) before) (sym (sumcheck_done ch f sized m asserted (sym tested ∙ h)))
 
 -- NO ROUNDS
@@ -131,17 +132,17 @@ unfolding E.one E.emb B.nil B.one B.of
 one_words = refl
 
 pub none_done : (rows pf pf' : List ℕ) (modes : Proving) {u : Used} → u ≡ unused → row_count rows ≡ 0 → 23 ≤ length pf → length pf' ≡ length pf → pf' ≡ layout modes.sized no_rows ++ drop 23 pf → (pt lg ws : List ℕ)
-    → outcome (Done 0 (record { p = record { c0 = 0; c1 = 0; c2 = 0; c3 = 0 }; q = record { c0 = 1; c1 = 0; c2 = 0; c3 = 0 } })) u pf' pt lg ws ≡ laid (ran rows modes [] 0) (lent pf pt lg ws)
+    → outcome (summed 0 (record { p = record { c0 = 0; c1 = 0; c2 = 0; c3 = 0 }; q = record { c0 = 1; c1 = 0; c2 = 0; c3 = 0 } })) u pf' pt lg ws ≡ laid (ran rows modes [] 0) (lent pf pt lg ws)
 unfolding words_of_point
 none_done rows pf pf' modes q h l k e pt lg ws =
     let P = whole_proof pf pf' (layout modes.sized no_rows) 23 l k e in
-    (λ i. outcome (Done 0 (record { p = sym zero_words i; q = sym one_words i })) (q i) (P i) pt lg ws)
+    (λ i. outcome (summed 0 (record { p = sym zero_words i; q = sym one_words i })) (q i) (P i) pt lg ws)
     ∙ sym (rw (eq-eqb (row_count rows) 0 h))
 
-pub one_done : (rows pf : List ℕ) (modes : Proving) {e : Refusal} {r : Ending} → (row_count rows ≡ 0 → ⊥) → e ≡ one_row rows modes.assert_zero → r ≡ ending (Refused e) unused → (pt lg ws : List ℕ)
+pub one_done : (rows pf : List ℕ) (modes : Proving) {e : Refusal} {r : Ending} → (row_count rows ≡ 0 → ⊥) → e ≡ one_row rows modes.assert_zero → r ≡ ending (Err e) unused → (pt lg ws : List ℕ)
     → outcome r.answer r.used pf pt lg ws ≡ laid (ran rows modes [] 0) (lent pf pt lg ws)
 one_done rows pf modes h k q pt lg ws =
-    (λ i. outcome (q i).answer (q i).used pf pt lg ws) ∙ ap (λ e. outcome (Refused e) unused pf pt lg ws) k ∙ sym (rw (ne_eqb (row_count rows) 0 h))
+    (λ i. outcome (q i).answer (q i).used pf pt lg ws) ∙ ap (λ e. outcome (Err e) unused pf pt lg ws) k ∙ sym (rw (ne_eqb (row_count rows) 0 h))
 
 -- THE WHOLE CALL
 
@@ -161,7 +162,7 @@ module _ (c : Call) (r : Rooms) {g : Gate} {s : Size} (h : g ≡ as_gate (row_co
   pub gate_told : Opens c.rows c.modes c.challenges r s.n s.rows
   gate_told = subst (λ z. Opens c.rows c.modes c.challenges r z.n z.rows) (sym opened.1) (gate_opens c r opened.0)
 
-pub proved_shut : (c : Call) (b : Buffers) {g : Gate} {e : Refusal} {r : Ending} → g ≡ as_gate (row_count c.rows) (first_refusal c (rooms_of b)) → g ≡ Shut e → r ≡ ending (Refused e) unused
+pub proved_shut : (c : Call) (b : Buffers) {g : Gate} {e : Refusal} {r : Ending} → g ≡ as_gate (row_count c.rows) (first_refusal c (rooms_of b)) → g ≡ Shut e → r ≡ ending (Err e) unused
     → ◌≡◌ {A = Outcome} (record { answer = r.answer; used = r.used; buffers = b }) (proved c b)
 unfolding proved fronts
 proved_shut c b {e = e} h s q =

@@ -30,7 +30,7 @@ use Rattle.refusal.specs.declared.Refusal.{Refusal}
 use Rattle.refusal.specs.declared.Refusal.TheVariants.{NonZeroRootSum}
 use Rattle.sizes.specs.Sizes.{row_count, rounds_of, needed_words, log_room}
 use Rattle.prover_gate.specs.Refusals.{Call, first_refusal}
-use Rattle.prover.specs.declared.Answer.TheVariants.{Refused}
+use Rattle.std.specs.Prelude.{Result, Ok, Err}
 use Rattle.prover.specs.Proved.{outcome, finished, after, one_row, ran, entered, fronts}
 use Rattle.prover.specs.Companions.{UsedUp, UsingUp}
 use Rattle.prover.proofs.Theorems.{done_refused}
@@ -43,7 +43,7 @@ module _ (c : Call) where
   sized = c.modes.sized
 
   -- a refusal logs nothing, whatever it leaves of the workspace
-  refuses : (e : Refusal) (work : List ℕ) → UsedUp c (outcome (Refused e) unused [] [] [] work)
+  refuses : (e : Refusal) (work : List ℕ) → UsedUp c (outcome (Err e) unused [] [] [] work)
   unfolding sampled_words
   refuses e work = record { words = refl; sampled = refl; done = λ n s h. absurd (done_refused n s e (sym h)); none = λ x h. refl }
 
