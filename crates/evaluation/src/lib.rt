@@ -77,6 +77,6 @@ pub fn number_and_values(answer: Evaluation) -> Report
 {
     match answer {
         Ok(values) => refusal::done(values.rounds, values.numer, values.denom),
-        Err(refusal) => refusal::number_and_fields(refusal),
+        Err(refusal) => Report::from(refusal),
     }
 }

@@ -31,9 +31,6 @@ use Rattle.refusal.specs.declared.Refusal.TheVariants.{NonZeroRootSum, SingleRow
 use Rattle.refusal.specs.declared.Refusal.{Refusal}
 use Rattle.refusal.specs.Tests.{Tested, passed, refused}
 use Rattle.refusal.specs.Fronts.{over}
-use Rattle.prover_gate.specs.declared.Gate.{Gate}
-use Rattle.prover_gate.specs.declared.Gate.TheVariants.{Open, Shut}
-use Rattle.sizes.specs.declared.Size.{Size}
 use Rattle.sizes.specs.Sizes.{row_count, rounds_of, work_room}
 use Rattle.prover_gate.specs.declared.Rooms.{Rooms}
 use Rattle.prover_gate.specs.Refusals.{Call, first_refusal, as_gate}
@@ -47,12 +44,6 @@ use Rattle.prover.proofs.Writing.{drop_all, whole_proof}
 use Rattle.prover.proofs.Opening.{gate_opens}
 
 -- THE TEST OF ROOT P
-
-pub deny_asserted : (b s : Bool) {r : Bool} → b ≡ true → r ≡ s → not r ≡ (b && not s)
-deny_asserted b s h e = rw (h, e)
-
-pub deny_open : (b s : Bool) → b ≡ false → false ≡ (b && not s)
-deny_open b s h = rw h
 
 module _ (ch : Source E.Ext) (f : ℕ → Frac E.Ext) (sized : Bool) (m : ℕ) where
   abbrev root : Frac E.Ext
@@ -147,31 +138,31 @@ one_done rows pf modes h k q pt lg ws =
 -- THE WHOLE CALL
 
 -- what the gate tells of the tests
-pub told_shut : (count : ℕ) (t : Tested) (e : Refusal) → Shut e ≡ as_gate count t → t ≡ refused e
+pub told_shut : (count : ℕ) (t : Tested) (e : Refusal) → Err e ≡ as_gate count t → t ≡ refused e
 told_shut count passed e h = cc
 told_shut count (refused d) e h = cc
 
-told_open : (count : ℕ) (t : Tested) (s : Size) → Open s ≡ as_gate count t → (t ≡ passed) × (s ≡ record { n = rounds_of count; rows = 2 ^ rounds_of count })
-told_open count passed s h = (refl, cc)
-told_open count (refused d) s h = (cc, cc)
+told_open : (count n : ℕ) (t : Tested) → Ok n ≡ as_gate count t → (t ≡ passed) × (n ≡ rounds_of count)
+told_open count n passed h = (refl, cc)
+told_open count n (refused d) h = (cc, cc)
 
-module _ (c : Call) (r : Rooms) {g : Gate} {s : Size} (h : g ≡ as_gate (row_count c.rows) (first_refusal c r)) (k : g ≡ Open s) where
-  opened : (first_refusal c r ≡ passed) × (s ≡ record { n = rounds_of (row_count c.rows); rows = 2 ^ rounds_of (row_count c.rows) })
-  opened = told_open _ (first_refusal c r) s (sym k ∙ h)
+module _ (c : Call) (r : Rooms) {g : Result ℕ Refusal} {n : ℕ} (h : g ≡ as_gate (row_count c.rows) (first_refusal c r)) (k : g ≡ Ok n) where
+  opened : (first_refusal c r ≡ passed) × (n ≡ rounds_of (row_count c.rows))
+  opened = told_open _ n (first_refusal c r) (sym k ∙ h)
 
-  pub gate_told : Opens c.rows c.modes c.challenges r s.n s.rows
-  gate_told = subst (λ z. Opens c.rows c.modes c.challenges r z.n z.rows) (sym opened.1) (gate_opens c r opened.0)
+  pub gate_told : Opens c.rows c.modes c.challenges r n
+  gate_told = subst (Opens c.rows c.modes c.challenges r) (sym opened.1) (gate_opens c r opened.0)
 
-pub proved_shut : (c : Call) (b : Buffers) {g : Gate} {e : Refusal} {r : Ending} → g ≡ as_gate (row_count c.rows) (first_refusal c (rooms_of b)) → g ≡ Shut e → r ≡ ending (Err e) unused
+pub proved_shut : (c : Call) (b : Buffers) {g : Result ℕ Refusal} {e : Refusal} {r : Ending} → g ≡ as_gate (row_count c.rows) (first_refusal c (rooms_of b)) → g ≡ Err e → r ≡ ending (Err e) unused
     → ◌≡◌ {A = Outcome} (record { answer = r.answer; used = r.used; buffers = b }) (proved c b)
 unfolding proved fronts
 proved_shut c b {e = e} h s q =
     (λ i. outcome (q i).answer (q i).used b.proof b.point b.log b.work)
     ∙ ap (λ t. laid (entered c t) b) (sym (told_shut _ (first_refusal c (rooms_of b)) e (sym s ∙ h)))
 
-pub proved_open : (c : Call) (b : Buffers) {g : Gate} {s : Size} {o : Outcome} → g ≡ as_gate (row_count c.rows) (first_refusal c (rooms_of b)) → g ≡ Open s
-    → o ≡ laid (ran c.rows c.modes c.challenges s.n) b → o ≡ proved c b
+pub proved_open : (c : Call) (b : Buffers) {g : Result ℕ Refusal} {n : ℕ} {o : Outcome} → g ≡ as_gate (row_count c.rows) (first_refusal c (rooms_of b)) → g ≡ Ok n
+    → o ≡ laid (ran c.rows c.modes c.challenges n) b → o ≡ proved c b
 unfolding proved fronts
 proved_open c b h k q =
     let z = opened c (rooms_of b) h k in
-    q ∙ ap (λ s. laid (ran c.rows c.modes c.challenges s.n) b) z.1 ∙ ap (λ t. laid (entered c t) b) (sym z.0)
+    q ∙ ap (λ n. laid (ran c.rows c.modes c.challenges n) b) z.1 ∙ ap (λ t. laid (entered c t) b) (sym z.0)
