@@ -43,7 +43,7 @@ pub fn evaluate(rows: &[u32], point: &[u32]) -> Evaluation
     if !sizes::is_size(count) {
         return Err(Refusal::NotPowerOfTwo);
     }
-    let n = sizes::least_size(count).n;
+    let n = sizes::rounds_of(count);
     if point.len() != 4 * n {
         return Err(Refusal::BadLength);
     }

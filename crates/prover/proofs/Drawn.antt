@@ -20,7 +20,8 @@ use Rattle.refusal.specs.declared.Words.TheVariants.{Challenges}
 use Rattle.sizes.specs.Sizes.{row_count, rounds_of, needed_words}
 use Rattle.prover_gate.specs.declared.Rooms.{Rooms}
 use Rattle.prover_gate.specs.Refusals.{Call, call, tests, first_refusal}
-use Rattle.std.specs.Prelude.{Result, Ok, Err}
+use Rattle.std.specs.Prelude.{Result, Err}
+use Rattle.prover.specs.declared.Done.{Done}
 use Rattle.prover.specs.Proved.{modelled, ran, entered, fronts}
 use Rattle.prover.specs.Companions.{DrawnMode}
 use Rattle.prover.proofs.Theorems.{Ends, each_end, each_front, unlike, done_refused}
@@ -55,7 +56,7 @@ module _ (c : Call) (r : Rooms) where
         nine = unlike (Err SingleRow) (Err ShortChallenges) (λ z. omega arith);
       }
 
-  other : (e : Refusal) → ((report_of e).number ≡ 4 → ⊥) → Err e ≡ Err ShortChallenges → ⊥
+  other : (e : Refusal) → ((report_of e).number ≡ 4 → ⊥) → ◌≡◌ {A = Result Done Refusal} (Err e) (Err ShortChallenges) → ⊥
   other e h = unlike (Err e) (Err ShortChallenges) h
 
   module _ (h : c.modes.drawn ≡ true) where

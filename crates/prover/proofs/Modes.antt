@@ -20,7 +20,8 @@ use Rattle.refusal.specs.declared.Refusal.TheVariants.{RaggedRows, TooManyRows, 
 use Rattle.sizes.specs.Sizes.{row_count, rounds_of}
 use Rattle.prover_gate.specs.declared.Rooms.{Rooms}
 use Rattle.prover_gate.specs.Refusals.{Call, degenerate, lowest, tests, first_refusal}
-use Rattle.std.specs.Prelude.{Result, Ok, Err}
+use Rattle.std.specs.Prelude.{Result, Err}
+use Rattle.prover.specs.declared.Done.{Done}
 use Rattle.prover.specs.Proved.{ran, entered, fronts}
 use Rattle.prover.specs.Companions.{in_mode, LiveMode}
 use Rattle.prover.proofs.Theorems.{Ends, each_end, each_front, unlike, done_refused}
@@ -87,7 +88,7 @@ module _ (c : Call) (r : Rooms) where
         nine = unlike (Err SingleRow) (Err (ZeroDenominator i)) (λ z. omega arith);
       }
 
-  other : (e : Refusal) (i : ℕ) → ((report_of e).number ≡ 7 → ⊥) → Err e ≡ Err (ZeroDenominator i) → ⊥
+  other : (e : Refusal) (i : ℕ) → ((report_of e).number ≡ 7 → ⊥) → ◌≡◌ {A = Result Done Refusal} (Err e) (Err (ZeroDenominator i)) → ⊥
   other e i h = unlike (Err e) (Err (ZeroDenominator i)) h
 
   never : false ≡ true → ⊥

@@ -87,7 +87,7 @@ module _ (rows : List ℕ) (modes : Proving) (ch : List ℕ) (r : Rooms) where
   run_room zero need w O z d we ec ep ex el ew = absurd (z refl)
   run_room (suc m) need w O z d we ec ep ex el ew = record {
     some = omega arith;
-    few = omega (arith, rounds_small (suc m) O.few);
+    few = O.few;
     proof = let h = O.proof in omega arith;
     point = ex;
     log = let h = O.log in omega (arith, log_sum (suc m));

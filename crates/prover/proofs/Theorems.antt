@@ -77,6 +77,9 @@ unlike a a' h e = h (ap (λ x. (answer_report x).number) e)
 
 -- WHAT IS LEFT
 
+pub same_rounds : {n k : ℕ} {s t : Frac} → summed n s ≡ summed k t → n ≡ k
+same_rounds {n} {k} {s} {t} h = let e : ◌≡◌ {A = Done} (record { rounds = n; sum = s }) (record { rounds = k; sum = t }) = cc in ap (λ (d : Done). d.rounds) e
+
 pub done_refused : (n : ℕ) (s : Frac) (e : Refusal) → summed n s ≡ Err e → ⊥
 done_refused n s e h = let z : ◌≡◌ {A = ℕ} 0 1 = cc in omega arith
 
@@ -93,7 +96,7 @@ module _ (n : ℕ) where
   ends_left =
       record {
         finishes = λ ch b P. record {
-          done = λ k s h. let e : n ≡ k = cc in ap (λ (j : ℕ). replicate (work_room j) 0) e;
+          done = λ k s h. ap (λ (j : ℕ). replicate (work_room j) 0) (same_rounds h);
           eight = λ h. absurd (done_refused n _ NonZeroRootSum h);
           other = λ x q h. absurd (done_refused n _ x h);
         };

@@ -33,7 +33,7 @@ use Rattle.prover_gate.specs.Refusals.{Call, first_refusal}
 use Rattle.std.specs.Prelude.{Result, Ok, Err}
 use Rattle.prover.specs.Proved.{outcome, finished, after, one_row, ran, entered, fronts}
 use Rattle.prover.specs.Companions.{UsedUp, UsingUp}
-use Rattle.prover.proofs.Theorems.{done_refused}
+use Rattle.prover.proofs.Theorems.{done_refused, same_rounds}
 
 module _ (c : Call) where
   abbrev asserted : Bool
@@ -53,7 +53,7 @@ module _ (c : Call) where
       record {
         words = refl;
         sampled = refl;
-        done = λ n s h. let k : 0 ≡ n = cc in ap (λ (j : ℕ). used (challenges j) (log_room asserted sized j)) k;
+        done = λ n s h. let k = same_rounds h in ap (λ (j : ℕ). used (challenges j) (log_room asserted sized j)) k;
         none = λ x h. absurd (done_refused 0 _ x h);
       }
 
@@ -66,7 +66,7 @@ module _ (c : Call) where
       record {
         words = refl;
         sampled = TranscriptLaws.done_marked Extension words ch (λ x. refl) unmarked asserted m (node c.rows) start P e (bound_marked sized (suc m));
-        done = λ n s h. let k : suc m ≡ n = cc in (λ i. used (drew i) (wrote i)) ∙ ap (λ (j : ℕ). used (challenges j) (log_room asserted sized j)) k;
+        done = λ n s h. let k = same_rounds h in (λ i. used (drew i) (wrote i)) ∙ ap (λ (j : ℕ). used (challenges j) (log_room asserted sized j)) k;
         none = λ x h. absurd (done_refused (suc m) _ x h);
       }
   run_uses ch m non_zero_root_sum e = refuses NonZeroRootSum _

@@ -48,7 +48,7 @@ pub record Written (f : ℕ → Frac E.Ext) (asserted sized : Bool) (m : ℕ) (c
 -- the room of a run over n rounds, in the lent parts of these lengths, with so many challenge words
 pub record Room (modes : Proving) (n challenges : ℕ) (r : Rooms) : Type 0 where
   pub some : 1 ≤ n
-  pub few : n < 256
+  pub few : n ≤ max_rounds
   pub proof : proof_size n ≤ r.proof
   pub point : r.point ≡ 4 * n
   pub log : cond modes.sized 4 0 + cond modes.assert_zero 0 4 + log_up_to n ≤ r.log

@@ -74,7 +74,7 @@ fn write_run(
     let mut lanes = [0u64; 25]; // of a sponge that has taken in nothing
     let end = prover_run::run_rounds(
         n,
-        1 << n,
+        sizes::rows_of(n),
         root.q,
         work,
         xi,
@@ -112,7 +112,7 @@ fn prove(
         ≡ laid (modelled rows.now modes.assert_zero modes.sized (source modes.drawn challenges.now) m)
         (lent proof.old xi.old log.old work.old) }
 {
-    let root = prover_run::sum_rows(rows, 1 << n, work);
+    let root = prover_run::sum_rows(rows, sizes::rows_of(n), work);
     if contradicts(modes.assert_zero, root.p) {
         prover_tree::clear(work);
         return refuse(Refusal::NonZeroRootSum);
@@ -180,7 +180,7 @@ fn admitted(
         return no_rounds(rows, modes, proof);
     }
     let need = sizes::needed_words(modes.drawn, n);
-    let w = sizes::work_words(n, 1 << n);
+    let w = sizes::work_words(n);
     let k = 4 * n;
     prove(
         rows,

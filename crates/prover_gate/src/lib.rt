@@ -27,7 +27,7 @@ fn short_room(modes: Proving, n: usize, rooms: Rooms) -> bool
     rooms.proof < sizes::proof_bytes(n)
         || rooms.point < 4 * n
         || rooms.log < sizes::log_words(modes.assert_zero, modes.sized, n)
-        || rooms.work < sizes::work_words(n, 1 << n)
+        || rooms.work < sizes::work_words(n)
 }
 
 // The lowest row over zero, whatever its numerator is.
@@ -63,7 +63,7 @@ pub fn first_refusal(
     if !sizes::is_size(count) {
         return Err(Refusal::NotPowerOfTwo);
     }
-    let n = sizes::least_size(count).n;
+    let n = sizes::rounds_of(count);
     let need = sizes::needed_words(modes.drawn, n);
     let needed = challenges.get(..need).ok_or(Refusal::ShortChallenges)?;
     if short_room(modes, n, rooms) {

@@ -11,6 +11,6 @@ unfolding first_of
 returns c =
     let h : first_of (tests c.args.rows.now c.args.point.now) ≡ passed = grind (arith, common_steps, searches) in
     elim c.if-count-eq0.branch [
-      | then-count-eq0 w ↦ rw w.value-is (told_none _ _ c.least_size-n.ensures.0 h w.if-count-eq0.true)
-      | else-count-eq0 w ↦ rw w.value-is (told_some _ _ c.least_size-n.ensures.0 h w.if-count-eq0.false w.eval_rows_by_halves-value.ensures)
+      | then-count-eq0 w ↦ rw w.value-is (told_none _ _ c.rounds_of-n.ensures.least h w.if-count-eq0.true)
+      | else-count-eq0 w ↦ rw w.value-is (told_some _ _ c.rounds_of-n.ensures.least h w.if-count-eq0.false w.eval_rows_by_halves-value.ensures)
     ]
