@@ -22,7 +22,7 @@ use field::Ext;
 use prover_gate::Rooms;
 use refusal::{Proving, Refusal, Report};
 use step::Frac;
-use transcript::Used;
+use transcript::{Transcript, Used};
 
 // n, and the sum of all rows.
 #[derive(Clone, Copy)]
@@ -47,7 +47,7 @@ fn refuse(refusal: Refusal) -> Ending
 {
     Ending {
         answer: Err(refusal),
-        used: transcript::unused(),
+        used: Used::nothing(),
     }
 }
 
@@ -68,24 +68,14 @@ fn write_run(
         → Written f modes.assert_zero modes.sized m (source modes.drawn challenges.now) (lent proof.old xi.old log.old work.old)
         (lent proof.new xi.new log.new work.new) result }
 {
-    let first = transcript::start(modes.drawn);
-    let told = transcript::observe_size(log, first, modes.sized, n);
-    let pos = prover_run::begin(log, told, modes.assert_zero, root.p);
-    let mut lanes = [0u64; 25]; // of a sponge that has taken in nothing
-    let end = prover_run::run_rounds(
-        n,
-        sizes::rows_of(n),
-        root.q,
-        work,
-        xi,
-        log,
-        &mut lanes,
-        challenges,
-        pos,
-    );
-    stored_writer::put_proof(proof, log, pos.put / 4, n, modes.sized);
+    let mut transcript = Transcript::new(log, challenges, modes.drawn);
+    transcript.observe_size(modes.sized, n);
+    prover_run::begin(&mut transcript, modes.assert_zero, root.p);
+    let opening = transcript.put;
+    prover_run::run_rounds(n, sizes::rows_of(n), root.q, work, xi, &mut transcript);
+    stored_writer::put_proof(proof, transcript.log, opening / 4, n, modes.sized);
     prover_tree::clear(work); // nothing of the rows stays
-    transcript::used_up(end)
+    transcript.used_up()
 }
 
 // Whether zero is asserted of a sum whose numerator is not zero.
@@ -156,7 +146,7 @@ fn no_rounds(rows: &[u32], modes: Proving, proof: &mut [u8]) -> Ending
                 q: Ext::ONE,
             },
         }),
-        used: transcript::unused(),
+        used: Used::nothing(),
     }
 }
 
