@@ -18,10 +18,9 @@ use Rattle.gkr.specs.Transcripts.{Words, empty, Source}
 use Rattle.gkr.specs.Tree as Tree
 use Rattle.gkr.specs.Gkr as Gkr
 use Rattle.transcript.specs.Source.{source}
-use Rattle.shake.specs.Drawn.{Holds}
-use Rattle.transcript.specs.Log.{Drawing, Enough, State, Steps, log_of, source_of}
+use Rattle.transcript.specs.Log.{Drawing, State, Steps, log_of, source_of}
 use Rattle.transcript.specs.Bound.{bound}
-use Rattle.transcript.proofs.Logs.{then, retold, same_source, enough_after}
+use Rattle.transcript.proofs.Logs.{then, retold, same_source}
 use Rattle.transcript.specs.declared.Used.{Used}
 use Rattle.transcript.specs.Used.{used, used_up, used_at}
 use Rattle.step.specs.declared.Frac.{Frac as FracW}
@@ -31,7 +30,6 @@ use Rattle.stored.specs.Lengths.{proof_size}
 use Rattle.stored.specs.Elements.{encoded}
 use Rattle.stored_writer.specs.Messages.{stored_proof, read_proof}
 use Rattle.prover_run.specs.Runs.{begun, RunOf}
-use Rattle.prover_rounds.specs.Layers.{used_up_to}
 use Rattle.refusal.specs.Fronts.{over}
 use Rattle.prover.specs.Proved.{lent}
 use Rattle.prover.specs.Inner.{run_of, Written}
@@ -80,23 +78,13 @@ quarter true false put h = omega arith
 quarter false true put h = omega arith
 quarter false false put h = omega arith
 
--- a transcript that has just begun: all challenges of a run can be had from it, and the log is empty
-pub record Fresh (s : State) (lg : List ℕ) (drawn : Bool) (ch : List ℕ) : Type 0 where
+-- a transcript that has just begun over a buffer, with the challenges ch, or drawn ones where b is true
+pub record Fresh (s : State) (lg : List ℕ) (b : Bool) (ch : List ℕ) : Type 0 where
   pub buffer : s.buffer ≡ lg
   pub challenges : s.challenges ≡ ch
-  pub drawn : s.drawn ≡ drawn
+  pub drawn : s.drawn ≡ b
   pub put : s.put ≡ 0
   pub used : s.used ≡ 0
-  pub absorbed : (m : List ℕ) → Holds s.sponge m
-
--- they can still be had once the size and root p are observed
-pub enough : {s s' : State} {lg ch : List ℕ} {drawn : Bool} {k : ℕ} {t : Words} (n : ℕ) → Fresh s lg drawn ch → Steps s s' k 0 t → (drawn ≡ false → 4 * used_up_to n ≤ length ch + 4) → Clean ch → Enough s' (used_up_to n - 1)
-enough n F a h c = enough_after (used_up_to n - 1) (omega arith) (omega arith) a (record {
-  room = λ d. omega (arith, h (sym F.drawn ∙ d), F.used, ap length F.challenges);
-  clean = λ d. subst Clean (sym F.challenges) c;
-  counted = omega (arith, F.used);
-  absorbed = F.absorbed _;
-})
 
 -- the challenges are those lent, or drawn
 pub run_alike : {f : ℕ → Frac E.Ext} {pt lg ch : List ℕ} {drawn : Bool} {m k : ℕ} {t : Words} {s₀ s₁ s₂ : State} → Fresh s₀ lg drawn ch → Steps s₀ s₁ k 0 t → RunOf f pt s₁ s₂ (source_of s₁) m → RunOf f pt s₁ s₂ (source drawn ch) m
@@ -109,15 +97,15 @@ told_at s t l e q = q ∙ ap (λ (k : ℕ). used s.used k) (sym (length-take-le 
 
 -- ALL
 
-pub written : (f : ℕ → Frac E.Ext) (asserted sized : Bool) (m n : ℕ) {drawn : Bool} {ch lg : List ℕ} (pf pf' pt pt' ws ws₁ ws' : List ℕ) (s₀ s₁ s₂ : State) (root : FracW) {u : Used}
+pub written : (f : ℕ → Frac E.Ext) (asserted sized : Bool) (m n : ℕ) {drawn : Bool} {ch lg lg' : List ℕ} (pf pf' pt pt' ws ws₁ ws' : List ℕ) (s₀ s₁ s₂ : State) (root : FracW) {u : Used} → lg' ≡ s₂.buffer
     → Fresh s₀ lg drawn ch → n ≡ suc m → IsFrac root (Tree.tree ExtRing f (suc m) 0)
     → Steps s₀ s₁ (cond sized 4 0 + cond asserted 0 4) 0 (begun asserted (dec root.p) (bound sized n (log_of s₀))) → s₁.put ≤ length s₁.buffer
     → RunOf f pt' s₁ s₂ (source_of s₁) m → s₂.put ≤ length s₂.buffer
     → Clean pt' → length pt ≡ 4 * n → length pt' ≡ 4 * n
-    → proof_size n ≤ length pf → length pf' ≡ length pf → pf' ≡ layout sized (stored_proof s₂.buffer (s₁.put / 4) (n - 1)) ++ drop (proof_size n) pf
+    → proof_size n ≤ length pf → length pf' ≡ length pf → pf' ≡ layout sized (stored_proof lg' (s₁.put / 4) (n - 1)) ++ drop (proof_size n) pf
     → ws' ≡ replicate (length ws₁) 0 → length ws₁ ≡ length ws → u ≡ used_at s₂
-    → Written f asserted sized m (source drawn ch) (lent pf pt lg ws) (lent pf' pt' s₂.buffer ws') u
-written f asserted sized m n {drawn} {ch} {lg} pf pf' pt pt' ws ws₁ ws' s₀ s₁ s₂ root F e h a l₁ R l₂ c lp lp' kp kf ep ew lw eu =
+    → Written f asserted sized m (source drawn ch) (lent pf pt lg ws) (lent pf' pt' lg' ws') u
+written f asserted sized m n {drawn} {ch} {lg} {lg'} pf pf' pt pt' ws ws₁ ws' s₀ s₁ s₂ root el F e h a l₁ R l₂ c lp lp' kp kf ep ew lw eu =
     let src = source drawn ch in
     let run : Words → Gkr.Proved Extension (Drawing src) = Gkr.run Extension (Drawing src) m f in
     let Q = run_alike F a R in
@@ -130,8 +118,8 @@ written f asserted sized m n {drawn} {ch} {lg} pf pf' pt pt' ws ws₁ ws' s₀ s
     let there = proof_there src m f (log_of s₁) s₂.buffer i (length-take-le s₁.put s₁.buffer l₁ ∙ four) X in
     record {
       used = told_at s₂ _ l₂ (Q.steps.log ∙ ap (λ u. (run u).log) t) eu;
-      proof = whole_proof pf pf' (layout sized (encoded (run_of f asserted sized m src).proof)) (proof_size n) kp kf (ep ∙ ap (λ π. layout sized (encoded π) ++ drop (proof_size n) pf) (ap (λ k. read_proof s₂.buffer i k) q ∙ there ∙ ap (λ u. (run u).proof) t));
+      proof = whole_proof pf pf' (layout sized (encoded (run_of f asserted sized m src).proof)) (proof_size n) kp kf (ep ∙ ap (λ l. layout sized (stored_proof l i (n - 1)) ++ drop (proof_size n) pf) el ∙ ap (λ π. layout sized (encoded π) ++ drop (proof_size n) pf) (ap (λ k. read_proof s₂.buffer i k) q ∙ there ∙ ap (λ u. (run u).proof) t));
       point = whole_point pt pt' n _ c lp lp' (ap (cells pt' 0) e ∙ Q.point ∙ ap (λ u. (run u).point) t);
-      log = whole_log lg s₂.buffer _ s₂.put l₂ (ap (λ w. w.log) Q.steps.log ∙ ap (λ u. (run u).log.log) t) ((then a Q.steps).rest ∙ ap (drop s₂.put) F.buffer);
+      log = el ∙ whole_log lg s₂.buffer _ s₂.put l₂ (ap (λ w. w.log) Q.steps.log ∙ ap (λ u. (run u).log.log) t) ((then a Q.steps).rest ∙ ap (drop s₂.put) F.buffer);
       work = ew ∙ ap (λ k. replicate k 0) lw;
     }
