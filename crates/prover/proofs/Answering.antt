@@ -3,7 +3,7 @@
 use mathlib.Core.Path.{◌≡◌, refl, sym, ◌∙◌, ap, subst}
 use mathlib.Core.Bool.{Bool, true, false, not, ◌&&◌, cond}
 use mathlib.Core.List.{List, [], ◌++◌, append-nil}
-use Prim.Native.Nat.{ℕ, suc, ◌+◌, ◌*◌, ◌^◌, ◌≤◌}
+use Prim.Native.Nat.{ℕ, suc, ◌≤◌}
 use native.Mathlib.Omega.{arith}
 use borrow.Author.Tests.{not-true, not-false, eq-eqb, ne_eqb}
 use lib.ListN.{length, drop, replicate, length-replicate}
@@ -38,7 +38,7 @@ use Rattle.stored.specs.Layout.{layout}
 use Rattle.stored_writer.specs.Messages.{no_rows}
 use Rattle.prover.specs.declared.Ending.{Ending}
 use Rattle.std.specs.Prelude.{Result, Ok, Err}
-use Rattle.prover.specs.Proved.{Buffers, Outcome, lent, outcome, laid, enc_frac, untouched, after, one_row, modelled, ran, entered, fronts, proved, rooms_of, summed}
+use Rattle.prover.specs.Proved.{Buffers, Outcome, lent, outcome, laid, enc_frac, after, one_row, modelled, ran, entered, fronts, proved, rooms_of, summed}
 use Rattle.prover.specs.Inner.{ending, run_of, Written, Opens}
 use Rattle.prover.proofs.Writing.{drop_all, whole_proof}
 use Rattle.prover.proofs.Opening.{gate_opens}

@@ -18,7 +18,6 @@ use Rattle.wire.specs.WordLaws.{canonical_below}
 use Rattle.prover_rounds.specs.Layers.{log_up_to, used_up_to}
 use Rattle.sizes.specs.Sizes.{row_count, rounds_from, rounds_of, needed_words, log_room, work_room}
 use Rattle.sizes.specs.SizeLaws.{few_rounds, some_size}
-use Rattle.sizes.specs.LimitLaws.{rounds_small}
 use Rattle.prover_gate.specs.declared.Rooms.{Rooms}
 use Rattle.prover_gate.specs.Refusals.{Call, rooms, short_room, tests, first_refusal}
 use Rattle.prover.specs.Inner.{Room, Opens}

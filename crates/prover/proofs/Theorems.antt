@@ -27,7 +27,7 @@ use Rattle.sizes.specs.Sizes.{row_count, rounds_of, needed_words, work_room}
 use Rattle.prover_gate.specs.declared.Rooms.{Rooms}
 use Rattle.prover_gate.specs.Refusals.{Call, tests, first_refusal}
 use Rattle.prover.specs.declared.Done.{Done}
-use Rattle.std.specs.Prelude.{Result, Ok, Err}
+use Rattle.std.specs.Prelude.{Result, Err}
 use Rattle.prover.specs.Proved.{Buffers, Outcome, rooms_of, outcome, laid, untouched, finished, after, ran, entered, fronts, proved, summed}
 use Rattle.prover.specs.Report.{answer_report}
 use Rattle.prover.specs.Companions.{Isolation, Left, Wiping}

@@ -5,7 +5,6 @@ use mathlib.Core.Bool.{Bool}
 use mathlib.Core.List.{List, []}
 use Prim.Native.Nat.{ℕ, zero, suc, ◌+◌}
 use native.Mathlib.Nat.{zero-add}
-use native.Mathlib.Omega.{arith}
 use lib.Dec.{eqb}
 use lib.ListN.{length, take}
 use Rattle.field.specs.Ext as E
@@ -30,7 +29,7 @@ use Rattle.refusal.specs.declared.Refusal.{Refusal}
 use Rattle.refusal.specs.declared.Refusal.TheVariants.{NonZeroRootSum}
 use Rattle.sizes.specs.Sizes.{row_count, rounds_of, needed_words, log_room}
 use Rattle.prover_gate.specs.Refusals.{Call, first_refusal}
-use Rattle.std.specs.Prelude.{Result, Ok, Err}
+use Rattle.std.specs.Prelude.{Err}
 use Rattle.prover.specs.Proved.{outcome, finished, after, one_row, ran, entered, fronts}
 use Rattle.prover.specs.Companions.{UsedUp, UsingUp}
 use Rattle.prover.proofs.Theorems.{done_refused, same_rounds}

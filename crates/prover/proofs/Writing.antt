@@ -14,7 +14,7 @@ use Rattle.field.specs.Element.{dec, words_of_point}
 use Rattle.field.specs.Cells.{Clean, cells}
 use Rattle.field.proofs.PointLaws.{cells_length, point_length, point_is}
 use Rattle.gkr.specs.Run.{Frac}
-use Rattle.gkr.specs.Transcripts.{Words, empty, Source}
+use Rattle.gkr.specs.Transcripts.{Words, empty}
 use Rattle.gkr.specs.Tree as Tree
 use Rattle.gkr.specs.Gkr as Gkr
 use Rattle.transcript.specs.Source.{source}

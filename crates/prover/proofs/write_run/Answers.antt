@@ -1,4 +1,5 @@
-use Rattle.std.proofs.Common.{◌≡◌, arith, ◌+◌, cond, sym, ◌∙◌, ap, length}
+use Rattle.std.proofs.Common.{◌≡◌, arith, ◌+◌, cond, sym, ◌∙◌}
+use Rattle.std.proofs.lemmas.Grind.{common_steps}
 use Rattle.transcript.specs.Log.{state}
 use Rattle.prover.proofs.Opening.{log_sum}
 use Rattle.prover.proofs.Writing.{opens, quarter, written}
@@ -18,11 +19,10 @@ returns c =
     let N = c.new-transcript.ensures in
     let s = opens c.args.modes.assert_zero c.args.modes.sized c.args.n _ c.observe_size.ensures.steps c.begin.ensures.steps in
     let r = c.run_rounds.ensures in
-    let d : c.log-1.given.0 ≡ c.run_rounds.new.transcript.log.now = c.log-1.given.1.1 (sym (r.same ∙ c.begin.ensures.same ∙ c.observe_size.ensures.same ∙ N.same)) in
-    let l = ap length d in
+    let same = sym (r.same ∙ c.begin.ensures.same ∙ c.observe_size.ensures.same ∙ N.same) in
     λ f m e L R.
     written f c.args.modes.assert_zero c.args.modes.sized m c.args.n c.args.proof.now c.put_proof.new.out c.args.xi.now c.run_rounds.new.xi c.args.work.now c.run_rounds.new.work c.clear.new.words
     (state c.new-transcript.result) (state c.begin.new.transcript) (state c.run_rounds.new.transcript) c.args.root
-    d
-    (record { buffer = N.buffers.0; challenges = N.buffers.1; drawn = N.buffers.2; put = N.begun.0; used = N.begun.1 }) e R s (omega (arith, p.log, s.put, N.begun.0, r.length, l))
-    (r.run f m e L R.q.value) (omega (arith, p.log, s.put, N.begun.0, r.steps.put, l)) r.clean p.point (omega (arith, p.point)) p.proof (omega (arith, c.put_proof.auto)) c.put_proof.ensures.1 c.clear.ensures (omega arith) c.used_up-used.ensures
+    (grind (arith, common_steps, same))
+    (record { buffer = N.buffers.0; challenges = N.buffers.1; drawn = N.buffers.2; put = N.begun.0; used = N.begun.1 }) e R s (grind (arith, p.log, s.put, N.begun.0, r.length, same))
+    (r.run f m e L R.q.value) (grind (arith, p.log, s.put, N.begun.0, r.steps.put, same)) r.clean p.point (omega (arith, p.point)) p.proof (omega (arith, c.put_proof.auto)) c.put_proof.ensures.1 c.clear.ensures (omega arith) c.used_up-used.ensures
