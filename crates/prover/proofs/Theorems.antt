@@ -77,8 +77,16 @@ unlike a a' h e = h (ap (λ x. (answer_report x).number) e)
 
 -- WHAT IS LEFT
 
-pub same_rounds : {n k : ℕ} {s t : Frac} → summed n s ≡ summed k t → n ≡ k
-same_rounds {n} {k} {s} {t} h = let e : ◌≡◌ {A = Done} (record { rounds = n; sum = s }) (record { rounds = k; sum = t }) = cc in ap (λ (d : Done). d.rounds) e
+-- what is done over n rounds with a sum is so over no others, and with no other
+module _ {n k : ℕ} {s t : Frac} (h : summed n s ≡ summed k t) where
+  same_done : ◌≡◌ {A = Done} (record { rounds = n; sum = s }) (record { rounds = k; sum = t })
+  same_done = cc
+
+  pub same_rounds : n ≡ k
+  same_rounds = ap (λ (d : Done). d.rounds) same_done
+
+  pub same_sum : s ≡ t
+  same_sum = ap (λ (d : Done). d.sum) same_done
 
 pub done_refused : (n : ℕ) (s : Frac) (e : Refusal) → summed n s ≡ Err e → ⊥
 done_refused n s e h = let z : ◌≡◌ {A = ℕ} 0 1 = cc in omega arith
