@@ -5,6 +5,7 @@ ghost use Rattle.std.specs.Prelude.{◌≡◌};
 ghost use Rattle.evaluation.specs.Evaluated.{evaluated};
 ghost use Rattle.claims.specs.Compared.{compared};
 
+use field::Field;
 use refusal::Refusal;
 use step::Frac;
 

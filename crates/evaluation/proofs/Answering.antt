@@ -2,8 +2,9 @@
 -- Assumes nothing.
 use Rattle.std.specs.Prelude.{◌≡◌, true, List, ℕ, ◌*◌, ◌%◌, ◌^◌, length, None, Result, Ok}
 use Rattle.std.proofs.Common.{sym, ◌∙◌, ap, arith, eq-eqb, ne_eqb}
+use Rattle.field.specs.Ext as E
 use Rattle.field.specs.ExtRing.{ExtRing}
-use Rattle.field.specs.ElementLaws.{enc_of_is, zero_is, one_is}
+use Rattle.field.specs.ElementLaws.{enc_of_is}
 use Rattle.field.specs.Cells.{Clean, cells}
 use Rattle.gkr.specs.Tree as Tree
 use Rattle.refusal.specs.declared.Refusal.{Refusal}
@@ -35,11 +36,11 @@ module _ (rows point : List ℕ) {n : ℕ} (ne : n ≡ rounds_of (row_count rows
     abbrev Told : FracW → Type 0
     Told v = ◌≡◌ {A = Result Values Refusal} (Ok (record { rounds = n; numer = v.p; denom = v.q })) (evaluated rows point)
 
-    pub told_none : row_count rows ≡ 0 → Told (record { p = record { c0 = 0; c1 = 0; c2 = 0; c3 = 0 }; q = record { c0 = 1; c1 = 0; c2 = 0; c3 = 0 } })
+    pub told_none : row_count rows ≡ 0 → {v : FracW} → IsFrac v (record { p = E.nil; q = E.one }) → Told v
     unfolding evaluated rounds_from
-    told_none z =
+    told_none z is =
         let e : n ≡ 0 = ne ∙ ap rounds_of z in
-        rw (h, eq-eqb _ _ z, e) (λ i. Ok (record { rounds = 0; numer = enc_of_is zero_is i; denom = enc_of_is one_is i }))
+        rw (h, eq-eqb _ _ z, e) (λ i. Ok (record { rounds = 0; numer = enc_of_is is.p i; denom = enc_of_is is.q i }))
 
     pub told_some : (row_count rows ≡ 0 → ⊥) → {v : FracW} → IsFrac v (Tree.value ExtRing (node rows) (cells point 0 n)) → Told v
     unfolding evaluated

@@ -2,6 +2,8 @@
 #![tactic(auto)]
 
 ghost use Rattle.std.specs.Prelude.{◌≡◌};
+ghost use Rattle.field.specs.Ext as E;
+ghost use Rattle.step.specs.Values.{IsFrac};
 ghost use Rattle.evaluation.specs.Evaluated.{evaluated};
 ghost use Rattle.evaluation.specs.Report.{evaluation_report};
 
@@ -10,12 +12,6 @@ use refusal::{Refusal, Report, Words};
 use step::Frac;
 
 pub mod halves; // both values, by halves of the rows
-
-// The sum of no rows.
-const EMPTY_SUM: Frac = Frac {
-    p: Ext::ZERO,
-    q: Ext::ONE,
-};
 
 // n, and the values of the columns p and q.
 #[derive(Clone, Copy)]
@@ -27,6 +23,17 @@ pub struct Values {
 
 // The values, or the first refusal that fits.
 pub type Evaluation = Result<Values, Refusal>;
+
+// The sum of no rows.
+#[tactic(auto, using(field::specs::ElementLaws::zero_is, field::specs::ElementLaws::one_is))]
+fn empty_sum() -> Frac
+    ensures { IsFrac result (record { p = E.nil; q = E.one }) }
+{
+    Frac {
+        p: Ext::ZERO,
+        q: Ext::ONE,
+    }
+}
 
 // Both columns of the rows at the point: row words, eight a row, and the point's words, four a round.
 #[tactic(auto, using(crate::proofs::Answering::searches, crate::proofs::Answering::rows_length), unfolding(crate::specs::Evaluated::evaluated, refusal::specs::Tests::first_of))]
@@ -60,7 +67,7 @@ pub fn evaluate(rows: &[u32], point: &[u32]) -> Evaluation
         });
     }
     let value = if count == 0 {
-        EMPTY_SUM
+        empty_sum()
     } else {
         halves::eval_rows_by_halves(rows, point, n)
     };

@@ -18,7 +18,7 @@ ghost use Rattle.prover.specs.Proved.{lent, outcome, laid, one_row, modelled, ra
 ghost use Rattle.prover.specs.Inner.{ending, Written, Room, Opens};
 ghost use Rattle.prover.specs.Report.{answer_report};
 
-use field::Ext;
+use field::{Ext, Field};
 use prover_gate::Rooms;
 use refusal::{Proving, Refusal, Report};
 use step::Frac;

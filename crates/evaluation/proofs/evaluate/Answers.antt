@@ -11,6 +11,6 @@ unfolding first_of
 returns c =
     let h : first_of (tests c.args.rows.now c.args.point.now) ≡ passed = grind (arith, common_steps, searches) in
     elim c.if-count-eq0.branch [
-      | then-count-eq0 w ↦ rw w.value-is (told_none _ _ c.rounds_of-n.ensures.least h w.if-count-eq0.true)
+      | then-count-eq0 w ↦ rw w.value-is (told_none _ _ c.rounds_of-n.ensures.least h w.if-count-eq0.true w.empty_sum-value.ensures)
       | else-count-eq0 w ↦ rw w.value-is (told_some _ _ c.rounds_of-n.ensures.least h w.if-count-eq0.false w.eval_rows_by_halves-value.ensures)
     ]
