@@ -2,7 +2,7 @@
 ghost use Rattle.std.specs.Prelude.{◌≡◌, ◌≤◌};
 ghost use Rattle.accudrina.specs.Modes as Modes;
 
-use field::Ext;
+use field::{Ext, Field};
 use refusal::{Proving, Report, Verifying};
 
 // A row over zero is refused by the prover, a root over zero by the verifier.

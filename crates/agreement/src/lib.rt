@@ -11,7 +11,7 @@ ghost use Rattle.agreement.specs.Demand3.{Taken, root, Room};
 ghost use Rattle.agreement.specs.Report.{joint_report};
 ghost use Rattle.agreement.specs.Together.{joined, together, Agrees};
 
-use field::Ext;
+use field::{Ext, Field};
 use prover::Answer;
 use refusal::{Proving, Refusal, Report, Verifying};
 use step::Frac;
