@@ -1,6 +1,6 @@
 -- The lines of a text, and the turns of the loop over them.
 -- Assumes nothing.
-use Rattle.std.proofs.Common.{◌≡◌, ℕ, ◌+◌, ◌<◌, ◌≤◌, Bool, true, false, eqb, List, [], ◌∷◌, ◌++◌, length, get_or, drop, Option, Some, None, Bor, arith, Result, Ok, Err, MatchResult, IsErrAnd, ◌⊎◌, inl, inr, sym, refl, ap, ◌∙◌, add-one, drop_of_length-le, drop-cons}
+use Rattle.std.proofs.Common.{◌≡◌, ℕ, ◌+◌, ◌<◌, ◌≤◌, Bool, true, false, eqb, List, [], ◌∷◌, ◌++◌, length, get_or, drop, Option, Some, None, Bor, arith, Result, Ok, Err, MatchResult, ◌⊎◌, inl, inr, sym, refl, ap, ◌∙◌, add-one, drop_of_length-le, drop-cons}
 use Rattle.std.specs.List.{slice_split, onto_first, enumerate_from}
 use Rattle.std.specs.Iterator.{Yields}
 use Rattle.std.specs.Iterator.Adapters.{enumerate_source, enumerate_count, enumerate_steps}
@@ -56,16 +56,17 @@ pub parts_read : (pairs : Bool) (ws text : List ℕ) → read_lines pairs 0 0 ws
 parts_read pairs ws text = elim (parts text) [ inl e ↦ ap (read_lines pairs 0 0 ws) e | inr e ↦ ap (read_lines pairs 0 0 ws) e ∙ read_last pairs 0 0 ws (lines_of text) ]
 
 -- ---- the turns of the loop
--- What came of a line, where the list's error names it.
-pub went_on : (r : Result ℕ PlaceError) (s : Result ℕ ListError) (f : PlaceError → ListError) → MatchResult r (λ x. s ≡ Ok x) (λ e. IsErrAnd s (λ d. d ≡ f e)) → (k : ℕ) → s ≡ Ok k → r ≡ Ok k
-went_on (Ok x) s f m k h = cc
-went_on (Err e) (Ok x) f m k h = absurd m
-went_on (Err e) (Err d) f m k h = cc
+-- What came of a line, by what is told of it under its number.
+abbrev pub Numbered : ℕ → Result ℕ PlaceError → Result ℕ ListError → Type 0
+Numbered n r s = MatchResult r (λ k. s ≡ Ok k) (λ e. s ≡ Err (error_at n e))
 
-pub failed : (r : Result ℕ PlaceError) (s : Result ℕ ListError) (i n : ℕ) → i ≡ n → MatchResult r (λ x. s ≡ Ok x) (λ e. IsErrAnd s (λ d. d ≡ error_at (i + 1) e)) → (d : ListError) → s ≡ Err d → (e : PlaceError) × (r ≡ Err e) × (d ≡ error_at (n + 1) e)
+pub went_on : (r : Result ℕ PlaceError) (s : Result ℕ ListError) (n : ℕ) → Numbered n r s → (k : ℕ) → s ≡ Ok k → r ≡ Ok k
+went_on (Ok x) s n m k h = cc
+went_on (Err e) s n m k h = cc
+
+pub failed : (r : Result ℕ PlaceError) (s : Result ℕ ListError) (i n : ℕ) → i ≡ n → Numbered (i + 1) r s → (d : ListError) → s ≡ Err d → (e : PlaceError) × (r ≡ Err e) × (d ≡ error_at (n + 1) e)
 failed (Ok x) s i n q m d h = cc
-failed (Err e) (Ok x) i n q m d h = absurd m
-failed (Err e) (Err y) i n q m d h = let u : d ≡ y = cc in (e, refl, u ∙ m ∙ ap (λ k. error_at (k + 1) e) q)
+failed (Err e) s i n q m d h = let u : d ≡ error_at (i + 1) e = cc in (e, refl, u ∙ ap (λ k. error_at (k + 1) e) q)
 
 -- an item of the numbered parts is the next of them, under its number
 module _ {S : Type 0} {steps : S → Option (Bor (List ℕ)) → S → Type 0} {s₀ : S} {all : List (List ℕ)} (s : Enumerate S) (items : List (ℕ × Bor (List ℕ))) (t : Enumerate S) (ran : Yields (enumerate_steps steps) s items t)

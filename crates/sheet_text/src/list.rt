@@ -1,5 +1,5 @@
 // All lines of a text, into words.
-ghost use Rattle.std.specs.Prelude.{◌≡◌, ◌+◌, ◌<◌, ◌≤◌, ◌==◌, min, length, drop, position, IfSome, IfOk};
+ghost use Rattle.std.specs.Prelude.{◌≡◌, ◌+◌, ◌<◌, ◌≤◌, ◌==◌, min, length, drop, position, IfSome, IfOk, MatchResult};
 ghost use Rattle.std.proofs.lemmas.List.Edits.{sets};
 ghost use Rattle.wire.specs.Words.{ext_words};
 ghost use Rattle.sheet_text.specs.Lines.{line_of};
@@ -81,16 +81,14 @@ pub fn beyond(at: usize, length: usize) -> usize
     at.saturating_add(1).min(length)
 }
 
-impl PlaceError {
-    // What is wrong with a list whose line of this number is not put.
-    fn at_line(self, line: usize) -> ListError
-        ensures { result ≡ error_at line self }
-    {
-        match self {
-            PlaceError::Other => ListError::Malformed(line),
-            PlaceError::Full => ListError::Full(line),
-        }
-    }
+// The same of a list: why a line is not put, with its number.
+fn numbered(placed: Result<usize, PlaceError>, line: usize) -> Result<usize, ListError>
+    ensures { MatchResult placed (λ put. result ≡ Ok put) (λ e. result ≡ Err (error_at line e)) }
+{
+    placed.map_err(|e| match e {
+        PlaceError::Other => ListError::Malformed(line),
+        PlaceError::Full => ListError::Full(line),
+    })
 }
 
 // Every line of a text, fractions or single elements, into the words from the front on: how many words they are.
@@ -100,7 +98,7 @@ pub fn read_list(text: &[u8], words: &mut [u32], pairs: bool) -> Result<usize, L
 {
     let mut put = 0;
     for (i, line) in text.split(|b| *b == b'\n').enumerate() {
-        put = put_line(words, put, line, pairs).map_err(|e| e.at_line(i + 1))?;
+        put = numbered(put_line(words, put, line, pairs), i + 1)?;
     }
     Ok(put)
 }

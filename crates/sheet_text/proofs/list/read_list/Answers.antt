@@ -5,7 +5,6 @@ use Rattle.std.specs.Iterator.Adapters.{enumerate_source}
 use Rattle.std.proofs.lemmas.List.{length_push}
 use Rattle.std.proofs.lemmas.Result.{err_from_is_err_and}
 use Rattle.std.proofs.Common.{◌≡◌, ◌+◌, ◌<◌, length, get_or, rules, tests, arith}
-use Rattle.sheet_text.specs.Reading.{error_at}
 use Rattle.sheet_text.proofs.list.read_list.Goals as goal
 use Rattle.sheet_text.proofs.list.read_list.Goals.{In-Some}
 
@@ -22,13 +21,13 @@ pub returns-in_err-put-clause-words_after : goal.returns-in_err-put-clause-words
 returns-in_err-put-clause-words_after c =
     let t = this_line (goal.at-returns-in_err-put-clause-words_after c).In-Some in
     let p = err_from_is_err_and c.from_residual.result c.from_residual.ensures.1 in
-    let e = failed c.put_line.result c.map_err.result c.in-Some.i (length c.loop-i.yielded) t.0 (search rules) _ c.in_err-put.was in
+    let e = failed c.put_line.result c.numbered.result c.in-Some.i (length c.loop-i.yielded) t.0 c.numbered.ensures _ c.in_err-put.was in
     rw (p.1, p.2, e.2) (line_ends _ _ _ c.loop-i.words _ _ c.loop-i.invariant.1 _ t.1 t.2 _ _ c.put_line.ensures e.0 e.1)
 
 pub loop-i-preserved : goal.loop-i-preserved
 loop-i-preserved c =
     let t = this_line (goal.at-loop-i-preserved c).In-Some in
-    let k = went_on c.put_line.result c.map_err.result (error_at (c.in-Some.i + 1)) (search rules) _ c.in_ok-put.was in
+    let k = went_on c.put_line.result c.numbered.result (c.in-Some.i + 1) c.numbered.ensures _ c.in_ok-put.was in
     (put_fits _ _ _ c.loop-i.words _ _ _ c.put_line.ensures k (omega arith), rw length_push (line_on _ _ _ c.loop-i.words _ _ c.loop-i.invariant.1 _ t.1 t.2 _ _ c.put_line.ensures _ k))
 
 pub returns-clause-words_after : goal.returns-clause-words_after
