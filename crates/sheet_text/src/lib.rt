@@ -10,6 +10,7 @@ pub mod list; // all lines of a text, into words
 use field::Ext;
 
 // A number, and the place after its digits.
+// Stays: three structs and not one with a type parameter, since clauses name a word and an element, and an alias is no name there.
 #[derive(Clone, Copy)]
 pub struct Number {
     pub value: u64,

@@ -18,6 +18,7 @@ fn first(text: &[u8], b: u8) -> Option<usize>
 }
 
 // The place of the next byte b from `at` on, or the length.
+// Stays: the length where none follows, as its contract and the definition `length_to` have it; `first` answers whether there is one.
 pub fn find(text: &[u8], at: usize, b: u8) -> usize
     requires { at ≤ length text.now }
     ensures { (result ≡ at + length_to b (drop at text.now)) × (result ≤ length text.now) }
@@ -47,6 +48,7 @@ fn put_single(words: &mut [u32], at: usize, e: Ext) -> Result<usize, PlaceError>
     Ok(at + 4)
 }
 
+// Stays: not two calls of `put_single`, since a fraction that does not fit leaves the words as they are (`Reading.put_fraction`).
 #[tactic(auto, unfolding(crate::specs::Reading::put_fraction))]
 fn put_fraction(words: &mut [u32], at: usize, p: Ext, q: Ext) -> Result<usize, PlaceError>
     requires { at ≤ length words.old }
