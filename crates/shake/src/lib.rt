@@ -84,10 +84,7 @@ pub fn absorb(s: Sponge, label: &[u8], words: &[u32]) -> Sponge
     for k in s.blocks..end {
         lanes = absorb_block(lanes, m, k);
     }
-    Sponge {
-        lanes,
-        blocks: end,
-    }
+    Sponge { lanes, blocks: end }
 }
 
 // The state after the whole padded message, of which s has absorbed some blocks.

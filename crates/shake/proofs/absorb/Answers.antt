@@ -1,6 +1,5 @@
 use mathlib.Core.Path.{◌≡◌}
-use Prim.Native.Nat.{◌+◌, ◌*◌, ◌/◌}
-use lib.ListN.{length}
+use Prim.Native.Nat.{◌/◌}
 use Rattle.shake.proofs.SpongeLaws.{absorb_more, holds_end, holds_all}
 use native.Mathlib.Omega.{arith}
 use Rattle.shake.proofs.absorb.Goals as goal

@@ -17,10 +17,10 @@ loop-i-preserved c =
     let e = ap (λ (l : List ℕ). get_or l j 0) c.to_le_bytes.ensures ∙ lane_bytes _ j (omega arith) in (
       refl,
       elim c.if-at-eq167.branch [
-        then-at-eq167 u ↦
-          rw (u.s-is, u.b-is)
-          (squeezing_next w (omega (arith, w.len)) e (omega arith) u.permute-s.ensures u.squeezed_lanes-b-then-at-eq167.ensures)
-      | else-at-eq167 u ↦ rw (u.s-is, u.b-is) (squeezing_same w (omega (arith, w.len)) e (λ z. omega arith))
+        | then-at-eq167 u ↦
+            rw (u.s-is, u.b-is)
+            (squeezing_next w (omega (arith, w.len)) e (omega arith) u.permute-s.ensures u.squeezed_lanes-b-then-at-eq167.ensures)
+        | else-at-eq167 u ↦ rw (u.s-is, u.b-is) (squeezing_same w (omega (arith, w.len)) e (λ z. omega arith))
       ],
     )
 

@@ -9,6 +9,6 @@ pub returns : goal.returns
 returns c = let j = c.args.j in
     let y = across c.from.result c.from-2.result (j % 4) in (
       c.from-3.ensures ∙ c.swap_bytes.ensures ∙ swapped_quad y (omega arith)
-      ∙ window_at c.args.words.now j (j / 4) (j % 4) _ _ (omega arith) (omega arith) (omega arith) c.from.ensures c.from-2.ensures (omega arith) (omega arith),
+          ∙ window_at c.args.words.now j (j / 4) (j % 4) _ _ (omega arith) (omega arith) (omega arith) c.from.ensures c.from-2.ensures (omega arith) (omega arith),
       omega arith,
     )
