@@ -7,7 +7,7 @@ ghost use Rattle.answers.specs.Counting.{counted_up};
 pub fn count_up(challenges: &mut [u32])
     ensures { challenges.new ≡ counted_up (length challenges.old / 4) challenges.old }
 {
-    // Stays: of what is written through `chunks_exact_mut` a contract of the whole buffer does not prove.
+    // Stays: of the whole buffer the check knows nothing after `chunks_exact_mut` (tried).
     for k in 0..challenges.len() / 4 {
         challenges[4 * k] = (k % 2013265920) as u32 + 1;
     }

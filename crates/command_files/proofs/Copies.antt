@@ -1,16 +1,13 @@
--- The turns of the copy of a log's words, and the ends of its reading.
+-- The turns of the copy of a log's words.
 -- Assumes nothing.
 use mathlib.Core.Path.{◌≡◌, refl, sym, ◌∙◌, ap}
 use mathlib.Core.List.{List, [], ◌∷◌, ◌++◌, append_assoc}
-use Prim.Native.Nat.{ℕ, ◌+◌, ◌*◌, ◌/◌, ◌%◌, ◌<◌, ◌≤◌}
+use Prim.Native.Nat.{ℕ, ◌+◌, ◌*◌, ◌<◌}
 use native.Mathlib.Numerals.{add-one}
-use borrow.Author.Tests.{eq-eqb, ne_eqb, lt-ltb, le-ltb}
 use lib.ListN.{length, get_or, drop, set}
 use lib.Seq.{drop-cons, set_at}
 use Rattle.wire.specs.Bytes.{word, words_from}
 use Rattle.wire.proofs.ByteLaws.{words_length, words_add}
-use Rattle.command_files.specs.Given.{some, nothing}
-use Rattle.command_files.specs.Logs.{log_of}
 
 module _ (bs old : List ℕ) where
   pub copy_none : old ≡ words_from 0 bs ++ drop 0 old
@@ -28,17 +25,3 @@ module _ (bs old : List ℕ) where
       ∙ set_at ws (get_or old i 0) (drop (i + 1) old) w i (words_length i bs)
       ∙ sym (append_assoc ws (w ∷ []) (drop (i + 1) old))
       ∙ ap (λ l. l ++ drop (i + 1) old) (sym s)
-
-  -- bytes that are no whole words, more words than there is room for, and words that were copied
-  pub log_split : (length bs % 4 ≡ 0 → ⊥) → nothing old ≡ log_of bs old
-  unfolding log_of
-  log_split h = rw (ne_eqb (length bs % 4) 0 h)
-
-  module _ (h : length bs % 4 ≡ 0) where
-    pub log_over : length old < length bs / 4 → nothing old ≡ log_of bs old
-    unfolding log_of
-    log_over l = rw (eq-eqb (length bs % 4) 0 h, lt-ltb (length old) (length bs / 4) l)
-
-    pub log_whole : (new : List ℕ) → length bs / 4 ≤ length old → new ≡ words_from (length bs / 4) bs ++ drop (length bs / 4) old → some (length bs / 4) new ≡ log_of bs old
-    unfolding log_of
-    log_whole new l e = ap (some (length bs / 4)) e ∙ rw (eq-eqb (length bs % 4) 0 h, le-ltb (length old) (length bs / 4) l)
