@@ -43,10 +43,7 @@ pub fn read<'a, 'b>(
 ) -> Result<Input<'b>, Fault<'a>>
     ensures { IfOk result (λ input. length (bytes_read input) ≤ length buffer.old) }
 {
-    match read_from(rt, path, buffer) {
-        Ok(input) => Ok(input),
-        Err(error) => Err(Fault::Failed { path, error }),
-    }
+    read_from(rt, path, buffer).map_err(|error| Fault::Failed { path, error })
 }
 
 // The path with .XXXXXX after it, in the same folder, in the front of the name; none where that does not fit.
@@ -91,8 +88,5 @@ fn replace_file(rt: &impl Files, path: &[u8], bytes: &[u8]) -> Result<(), Error>
 
 // The bytes go to a new file of the same folder, which then takes the name: a file that had it is as it was until then.
 pub fn replace<'a>(rt: &impl Files, path: &'a [u8], bytes: &[u8]) -> Result<(), Fault<'a>> {
-    match replace_file(rt, path, bytes) {
-        Ok(()) => Ok(()),
-        Err(error) => Err(Fault::Failed { path, error }),
-    }
+    replace_file(rt, path, bytes).map_err(|error| Fault::Failed { path, error })
 }
