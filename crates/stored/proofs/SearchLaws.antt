@@ -1,21 +1,20 @@
 -- The search for a bad word through the polynomial entries, and through the whole proof.
 -- Assumes nothing.
-use mathlib.Core.Path.{◌≡◌, refl, sym, ◌∙◌, ap, ap₂, subst}
+use mathlib.Core.Path.{◌≡◌, sym, ◌∙◌, ap, ap₂, subst}
 use mathlib.Core.Bool.{true}
-use mathlib.Core.List.{List, [], ◌∷◌, ◌++◌, append_assoc}
-use Prim.Native.Nat.{ℕ, zero, suc, ◌+◌, ◌*◌, ◌-◌, ◌/◌, ◌<◌, ◌≤◌}
+use mathlib.Core.List.{List, ◌++◌, append_assoc}
+use Prim.Native.Nat.{ℕ, suc, ◌+◌, ◌*◌, ◌-◌, ◌/◌, ◌<◌, ◌≤◌}
 use native.Mathlib.Omega.{arith}
 use lib.ListN.{length, get_or, drop}
 use lib.Seq.{drop-drop}
-use Rattle.field.specs.declared.Ext.{Ext}
-use Rattle.wire.specs.Bytes.{words_from, elem}
-use Rattle.wire.specs.Words.{first_bad, ext_words}
+use Rattle.wire.specs.Bytes.{words_from}
+use Rattle.wire.specs.Words.{first_bad}
 use Rattle.wire.proofs.ByteLaws.{elem_words, words_add, words_length}
 use Rattle.wire.specs.WordLaws.{bad_le, bad_here, bad_past}
 use Rattle.stored.specs.declared.Outline.{Outline}
-use Rattle.stored.specs.Layout.{claims_words, polys_words, proof_words}
-use Rattle.stored.specs.Parse.{claims_from, entries_from, entries_fit, count_of_layers, count_of_entries, polys_at, proof_of}
-use Rattle.stored.specs.ParseLaws.{entry_fits, Reads, Shaped}
+use Rattle.stored.specs.Layout.{polys_words, proof_words}
+use Rattle.stored.specs.Parse.{entries_from, entries_fit, count_of_layers, proof_of}
+use Rattle.stored.specs.ParseLaws.{entry_fits, Shaped}
 use Rattle.stored.proofs.ReadWords.{claims_words_is, entries_words, proof_size}
 
 -- THE ENTRIES: `place` words are passed, and what is left of the search is at `at`

@@ -20,12 +20,6 @@ pub struct Outline {
     pub polys: usize,
 }
 
-#[derive(Clone, Copy)]
-pub enum Shape {
-    Good(Outline),
-    Refused(Refusal),
-}
-
 // The claims of a layer, and the polynomial of a sub-round, their words not yet checked.
 #[derive(Clone, Copy)]
 pub struct LayerClaims {
@@ -47,67 +41,54 @@ fn entries_fit(proof: &[u8], from: usize, count: usize) -> bool
     requires { from ≤ length proof.now }
     ensures { result ≡ entries_fit count (drop from proof.now) }
 {
-    let mut at = from;
+    let mut rest = &proof[from..];
     for k in 0..count {
-        if proof.len() <= at {
+        let Some((subrounds, after)) = rest.split_first() else {
+            return false;
+        };
+        let size = 48 * usize::from(*subrounds);
+        if after.len() < size {
             return false;
         }
-        let size = 1 + 48 * (wire::wide(proof[at]) as usize);
-        if proof.len() - at < size {
-            return false;
-        }
-        at += size;
+        rest = &after[size..];
     }
-    at == proof.len()
+    rest.is_empty()
 }
 
 // Whether the first byte is a version that is read: 1 or 2.
 pub fn is_known(proof: &[u8]) -> bool
     ensures { result ≡ known proof.now }
 {
-    if proof.len() == 0 {
-        return false;
-    }
-    let version = proof[0];
-    if version == 1 {
-        return true;
-    }
-    version == 2
+    matches!(proof, [1 | 2, ..])
 }
 
 // Whether a proof binds its size: its version is 2.
 pub fn is_sized(proof: &[u8]) -> bool
     ensures { result ≡ sized proof.now }
 {
-    if proof.len() == 0 {
-        return false;
-    }
-    proof[0] == 2
+    matches!(proof, [2, ..])
 }
 
 // The counts of a stored proof and where its polynomials start, if the bytes are some proof's; otherwise 12 or 13.
-pub fn read_shape(proof: &[u8]) -> Shape
+pub fn read_shape(proof: &[u8]) -> Result<Outline, Refusal>
     ensures { result ≡ shape_of (parse proof.now) }
 {
     if !is_known(proof) {
-        return Shape::Refused(Refusal::BadVersion);
+        return Err(Refusal::BadVersion);
     }
-    if proof.len() < 23 {
-        return Shape::Refused(Refusal::BadLength);
+    if proof.len() < 23 || wire::word_at(proof, 1) as usize != proof.len() - 5 {
+        return Err(Refusal::BadLength);
     }
-    if wire::word_at(proof, 1) as usize != proof.len() - 5 {
-        return Shape::Refused(Refusal::BadLength);
-    }
-    let layers = wire::wide(proof[21]) as usize;
+    let layers = usize::from(proof[21]);
     let polys = 23 + 64 * layers;
     if proof.len() < polys {
-        return Shape::Refused(Refusal::BadLength);
+        return Err(Refusal::BadLength);
     }
-    let entries = wire::wide(proof[polys - 1]) as usize;
+    let entries = usize::from(proof[polys - 1]);
     if !entries_fit(proof, polys, entries) {
-        return Shape::Refused(Refusal::BadLength);
+        return Err(Refusal::BadLength);
     }
-    Shape::Good(Outline {
+    Ok(Outline {
         layers,
         entries,
         polys,
@@ -147,7 +128,7 @@ fn first_bad_in_entries(proof: &[u8], from: usize, count: usize) -> usize
     let mut place = 0;
     let mut at = from;
     'entries: for k in 0..count {
-        let subrounds = wire::wide(proof[at]) as usize;
+        let subrounds = usize::from(proof[at]);
         at += 1;
         for j in 0..subrounds {
             let bad = wire::first_bad_stored(proof, at, 12);

@@ -1,5 +1,6 @@
 -- The two counts, and what the run asks once they are right.
 -- Assumes nothing.
+use Rattle.std.specs.Prelude.{Result, Err}
 use mathlib.Core.Path.{◌≡◌, refl, sym, ◌∙◌, ap, ap₂, subst}
 use mathlib.Core.Bool.{Bool, true, false, cond}
 use mathlib.Core.List.{List, [], ◌∷◌, ◌++◌, map}
@@ -35,14 +36,13 @@ use Rattle.stored.specs.Layout.{claims_words, polys_words}
 use Rattle.stored.specs.Parse.{claims_of, claims_from, entries_from, entries_fit, sized, count_of_layers, count_of_entries, polys_at, proof_of}
 use Rattle.stored.specs.Elements.{decoded}
 use Rattle.stored.specs.ParseLaws.{Shaped, claims_count, entries_count, claims_step}
-use Rattle.verifier_round.specs.declared.Advance.{Advance}
-use Rattle.verifier_round.specs.declared.Advance.TheVariants.{Stopped}
-use Rattle.verifier_round.specs.declared.Verdict.TheVariants.{Refused}
+use Rattle.verifier_round.specs.declared.Layer.{Layer}
+use Rattle.verifier_round.specs.declared.Stopped.{Stopped}
 use Rattle.stored.specs.ReadWords.{CanonClaims}
 use Rattle.verifier_round.specs.Values.{dec_claims, dec_cubic}
 use Rattle.verifier_round.specs.Verdicts.{Model, answer_of, point_of, left_by}
 use Rattle.verifier_round.specs.Rounds.{Stops}
-use Rattle.verifier_rounds.specs.Runs.{Readable, RootSpace, Ends, RootEnd}
+use Rattle.verifier_rounds.specs.Runs.{Readable, RootSpace, RootEnd}
 use Rattle.verifier_rounds.proofs.Messages.{claim_first, claims_rest}
 use Rattle.verifier_rounds.proofs.RoundLaws.{map_length}
 use Rattle.verifier_rounds.proofs.StopLaws.{ended_before}
@@ -79,7 +79,7 @@ log_empty : (lg : List ℕ) (pos : Pos) → Starts pos → log_of lg pos ≡ emp
 log_empty lg pos st = λ i. record { log = take (st.put i) lg; used = st.used i }
 
 -- a refusal that leaves all as it was
-stops_first : (lg : List ℕ) (ch : Source E.Ext) (pos : Pos) (v w : Model ch) (e : Refusal) → Starts pos → v ≡ w → answer_of ch w ≡ Refused e → point_of ch w ≡ [] → left_by ch w ≡ empty → Stops lg lg ch pos v e pos
+stops_first : (lg : List ℕ) (ch : Source E.Ext) (pos : Pos) (v w : Model ch) (e : Refusal) → Starts pos → v ≡ w → answer_of ch w ≡ Err e → point_of ch w ≡ [] → left_by ch w ≡ empty → Stops lg lg ch pos v e pos
 stops_first lg ch pos v w e st q a b c =
     record {
       answer = ap (answer_of ch) q ∙ a;
@@ -112,7 +112,7 @@ module _ (bs lg : List ℕ) (ch : Source E.Ext) (n : ℕ) (o : Outline) (some : 
   polys_long : length (map (map dec_cubic) (entries_from (count_of_entries bs) (drop (polys_at bs) bs))) ≡ o.entries
   polys_long = map_length (map dec_cubic) (entries_from (count_of_entries bs) (drop (polys_at bs) bs)) ∙ entries_count (count_of_entries bs) (drop (polys_at bs) bs) ∙ sym s.entries
 
-  pub layers_stop : (pt' : List ℕ) → (o.layers ≡ n → ⊥) → Counted bs pt' lg lg ch n pos (Stopped (IncorrectLayerCount n o.layers) pos)
+  pub layers_stop : (pt' : List ℕ) → (o.layers ≡ n → ⊥) → Counted bs pt' lg lg ch n pos (Err (record { refusal = IncorrectLayerCount n o.layers; pos = pos }))
   layers_stop pt' h =
       stops_first lg ch pos _ (layer_count n o.layers) _ st
       (verify_counted ch n m (decoded (proof_of bs)) begun n_is ∙ layers_differ ch m o.layers _ _ _ begun claims_long (λ q. h (q ∙ sym n_is)) ∙ ap (λ k. layer_count k o.layers) (sym n_is)) refl refl refl
@@ -128,7 +128,7 @@ module _ (bs lg : List ℕ) (ch : Source E.Ext) (n : ℕ) (o : Outline) (some : 
         (map (map dec_cubic) (entries_from (count_of_entries bs) (drop (polys_at bs) bs))) begun
     counted_is = verify_counted ch n m (decoded (proof_of bs)) begun n_is ∙ ap (λ cs. Gkr.counted Extension (Drawing ch) m (dec (elem (drop 5 bs))) cs (map (map dec_cubic) (entries_from (count_of_entries bs) (drop (polys_at bs) bs))) begun) first_claims
 
-    pub polys_stop : (pt' : List ℕ) (x : ℕ) → x ≡ m → (o.entries ≡ x → ⊥) → Counted bs pt' lg lg ch n pos (Stopped (IncorrectSumcheckPolyCount x o.entries) pos)
+    pub polys_stop : (pt' : List ℕ) (x : ℕ) → x ≡ m → (o.entries ≡ x → ⊥) → Counted bs pt' lg lg ch n pos (Err (record { refusal = IncorrectSumcheckPolyCount x o.entries; pos = pos }))
     polys_stop pt' x e h =
         stops_first lg ch pos _ (poly_count x o.entries) _ st
         (counted_is ∙ polys_differ ch m o.entries _ _ _ _ begun others_long polys_long (λ q. h (q ∙ sym e)) ∙ ap (λ k. poly_count k o.entries) (sym e)) refl refl refl
@@ -144,7 +144,7 @@ module _ (bs lg : List ℕ) (ch : Source E.Ext) (n : ℕ) (o : Outline) (some : 
           (sym s.entries ∙ b) (sym s.polys)
 
       -- from where the size is observed, told from the start
-      pub root_counted : (pt' lg₁ lg' ls : List ℕ) (size : Bool) (start : Pos) (c : Source E.Ext) (r : Advance) → size ≡ sized bs → Begins lg lg₁ ls pos start size n → length lg₁ ≡ length lg → c ≡ ch
+      pub root_counted : (pt' lg₁ lg' ls : List ℕ) (size : Bool) (start : Pos) (c : Source E.Ext) (r : Result Layer Stopped) → size ≡ sized bs → Begins lg lg₁ ls pos start size n → length lg₁ ≡ length lg → c ≡ ch
           → RootEnd bs pt' lg₁ lg' c o.polys n start r → Counted bs pt' lg lg' ch n pos r
       root_counted pt' lg₁ lg' ls size start c r z g l e h =
           let t : begun ≡ log_of lg₁ start = ap₂ (λ z t. bound z n t) (sym z) (sym (log_empty lg pos st)) ∙ sym g.log in

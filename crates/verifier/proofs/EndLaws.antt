@@ -1,5 +1,6 @@
 -- The end: what the run left is the definition's outcome, and no second one fits.
 -- Assumes nothing.
+use Rattle.std.specs.Prelude.{Result, Ok, Err}
 use mathlib.Core.Path.{◌≡◌, refl, sym, ◌∙◌, ap, ap₂, subst}
 use mathlib.Core.Bool.{Bool, true, false, not, ◌&&◌}
 use mathlib.Core.List.{List, ◌++◌}
@@ -29,16 +30,13 @@ use Rattle.sizes.specs.Sizes.{needed_words}
 use Rattle.wire.specs.Words.{all_canonical}
 use Rattle.wire.specs.WordLaws.{canonical_below}
 use Rattle.stored.specs.declared.Outline.{Outline}
-use Rattle.verifier_round.specs.declared.Advance.{Advance}
-use Rattle.verifier_round.specs.declared.Advance.TheVariants.{Next, Stopped}
-use Rattle.verifier_round.specs.declared.Verdict.TheVariants.{Accepted, Refused}
+use Rattle.verifier_round.specs.declared.Layer.{Layer}
+use Rattle.verifier_round.specs.declared.Stopped.{Stopped}
 use Rattle.verifier_round.specs.Values.{columns}
 use Rattle.verifier_round.specs.Verdicts.{Model, answer_of, point_of, left_by, logged_by}
 use Rattle.verifier_rounds.specs.Runs.{Ends}
 use Rattle.verifier.specs.Verified.{Asked, Lent, Outcome, outcome, lent, tests, ended, fronts, laid, verified}
 use Rattle.verifier.specs.declared.Ending.{Ending}
-use Rattle.verifier.specs.declared.Gate.{Gate}
-use Rattle.verifier.specs.declared.Gate.TheVariants.{Open, Shut}
 use Rattle.verifier.specs.Gates.{Opened, Gated, Ready, verdict, point_left, ending, answered}
 use Rattle.verifier.proofs.GateLaws.{passes}
 
@@ -54,21 +52,21 @@ used_there l p h = λ i. used p.used (sym (length-take-le p.put l h) i)
 
 module _ (p lg lg' : List ℕ) (ch : Source E.Ext) (pos : Pos) (v : Model ch) (l : length lg' ≡ length lg) where
   -- what a run's end leaves and answers is the definition's
-  pub ended_is : (n : ℕ) (pt' p' : List ℕ) (r : Advance) (x : Ending) → Ends lg lg' pt' ch pos n v r → 4 * n ≤ length pt' → p' ≡ point_left r (4 * n) pt' p → x ≡ answered r
+  pub ended_is : (n : ℕ) (pt' p' : List ℕ) (r : Result Layer Stopped) (x : Ending) → Ends lg lg' pt' ch pos n v r → 4 * n ≤ length pt' → p' ≡ point_left r (4 * n) pt' p → x ≡ answered r
       → outcome x.verdict x.used p' lg' ≡ laid (ended ch v) (lent p lg)
-  ended_is n pt' p' (Stopped e end) x s h q y =
+  ended_is n pt' p' (Err e) x s h q y =
       let a : x.verdict ≡ answer_of ch v = ap (λ (z : Ending). z.verdict) y ∙ sym s.answer in
-      let u : x.used ≡ used_up (left_by ch v) = ap (λ (z : Ending). z.used) y ∙ used_there lg' end (omega (arith, s.room, l)) ∙ ap used_up s.log in
+      let u : x.used ≡ used_up (left_by ch v) = ap (λ (z : Ending). z.used) y ∙ used_there lg' e.pos (omega (arith, s.room, l)) ∙ ap used_up s.log in
       let b : p' ≡ over (point_of ch v) p = q ∙ ap (λ w. over w p) (sym s.point) in
-      let c : lg' ≡ over (logged_by ch v) lg = front lg lg' end.put (logged_by ch v) (omega (arith, s.room, l)) (ap (λ (t : Words). t.log) s.log) s.rest in
+      let c : lg' ≡ over (logged_by ch v) lg = front lg lg' e.pos.put (logged_by ch v) (omega (arith, s.room, l)) (ap (λ (t : Words). t.log) s.log) s.rest in
       λ i. outcome (a i) (u i) (b i) (c i)
-  ended_is n pt' p' (Next s) x a h q y =
+  ended_is n pt' p' (Ok s) x a h q y =
       let w : take (4 * n) pt' ≡ words_of_point (cells pt' 0 n) = sym (point_is pt' 0 n a.clean (omega arith)) in
       let len : 4 * n ≡ length (words_of_point (cells pt' 0 n)) = sym (length-take-le (4 * n) pt' h) ∙ ap length w in
       let e : p' ≡ over (words_of_point (cells pt' 0 n)) p = q ∙ ap₂ ◌++◌ w (ap (λ k. drop k p) len) in
       let f : lg' ≡ over (take s.pos.put lg') lg = front lg lg' s.pos.put _ (omega (arith, a.room, l)) refl a.rest in
-      let g : x.verdict ≡ Accepted (enc (dec s.numer)) (enc (dec s.denom)) =
-      ap (λ (z : Ending). z.verdict) y ∙ (λ i. Accepted (sym (enc_dec a.numer) i) (sym (enc_dec a.denom) i)) in
+      let g : x.verdict ≡ Ok (record { numer = enc (dec s.numer); denom = enc (dec s.denom) }) =
+      ap (λ (z : Ending). z.verdict) y ∙ (λ i. Ok (record { numer = sym (enc_dec a.numer) i; denom = sym (enc_dec a.denom) i })) in
       let u : x.used ≡ used_up (log_of lg' s.pos) = ap (λ (z : Ending). z.used) y ∙ used_there lg' s.pos (omega (arith, a.room, l)) in
       let z : outcome x.verdict x.used p' lg' ≡ laid (ended ch (accepted (columns s) (cells pt' 0 n) (log_of lg' s.pos))) (lent p lg) = (λ i. outcome (g i) (u i) (e i) (f i)) in
       z ∙ ap (λ m. laid (ended ch m) (lent p lg)) (sym a.verdict)
@@ -81,7 +79,7 @@ some_rounds n empty e h = omega (arith, eqb-false n 0 (go (eqb n 0) (sym (ap (λ
     go true q = q
     go false q = refl
 
-pub opened_of : (a : Asked) (points logs : ℕ) (g : Gate) (o : Outline) → g ≡ Open o → Gated a points logs g → Opened a points logs o
+pub opened_of : (a : Asked) (points logs : ℕ) (g : Result Outline Refusal) (o : Outline) → g ≡ Ok o → Gated a points logs g → Opened a points logs o
 opened_of a points logs g o q h = subst (Gated a points logs) q h
 
 pub ready_of : (a : Asked) (pt lg : List ℕ) (k points : ℕ) (o : Outline) (drawn : Bool) → drawn ≡ a.modes.drawn → Opened a points (length lg) o → a.modes.empty ≡ false → k ≡ needed_words a.modes.drawn a.rounds
@@ -107,7 +105,7 @@ point_fits n k h e = omega arith
 
 -- ---- the whole
 module _ (a : Asked) (b : Lent) where
-  pub shut_is : (g : Gate) (e : Refusal) (x : Ending) → g ≡ Shut e → Gated a (length b.point) (length b.log) g → x ≡ ending (Refused e) unused → outcome x.verdict x.used b.point b.log ≡ verified a b
+  pub shut_is : (g : Result Outline Refusal) (e : Refusal) (x : Ending) → g ≡ Err e → Gated a (length b.point) (length b.log) g → x ≡ ending (Err e) unused → outcome x.verdict x.used b.point b.log ≡ verified a b
   unfolding verified
   shut_is g e x q h y =
       let w : first_of (tests a (length b.point) (length b.log)) ≡ refused e = subst (Gated a (length b.point) (length b.log)) q h in

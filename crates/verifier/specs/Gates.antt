@@ -1,6 +1,6 @@
 -- What the checks before the run tell the run, and what the run leaves.
 -- Assumes nothing.
-use Rattle.std.specs.Prelude.{◌≡◌, Bool, true, false, cond, ◌&&◌, List, ◌++◌, ℕ, ◌*◌, ◌≤◌, length, take, drop}
+use Rattle.std.specs.Prelude.{◌≡◌, Result, Ok, Err, Bool, true, false, cond, ◌&&◌, List, ◌++◌, ℕ, ◌*◌, ◌≤◌, length, take, drop}
 use Rattle.field.specs.Ext as E
 use Rattle.field.specs.Extension.{Extension}
 use Rattle.field.specs.Cells.{Clean}
@@ -13,6 +13,7 @@ use Rattle.transcript.specs.Bound.{bound}
 use Rattle.transcript.specs.Used.{used_at}
 use Rattle.refusal.specs.Limits.{max_rounds}
 use Rattle.refusal.specs.declared.Verifying.{Verifying}
+use Rattle.refusal.specs.declared.Refusal.{Refusal}
 use Rattle.refusal.specs.declared.Refusal.TheVariants.{BadWord, ZeroRoot}
 use Rattle.refusal.specs.declared.Words.TheVariants.{Proof, Challenges}
 use Rattle.refusal.specs.Tests.{passed, refused, first_of}
@@ -23,25 +24,22 @@ use Rattle.stored.specs.Layout.{proof_words}
 use Rattle.stored.specs.Parse.{sized, proof_of}
 use Rattle.stored.specs.ParseLaws.{Shaped}
 use Rattle.stored.specs.Elements.{decoded}
-use Rattle.verifier_round.specs.declared.Advance.{Advance}
-use Rattle.verifier_round.specs.declared.Advance.TheVariants.{Next, Stopped}
-use Rattle.verifier_round.specs.declared.Verdict.{Verdict}
-use Rattle.verifier_round.specs.declared.Verdict.TheVariants.{Accepted, Refused}
+use Rattle.verifier_round.specs.declared.Layer.{Layer}
+use Rattle.verifier_round.specs.declared.Stopped.{Stopped}
+use Rattle.verifier_round.specs.declared.Claims.{Claims}
 use Rattle.verifier_round.specs.Verdicts.{Model}
 use Rattle.verifier_rounds.specs.Runs.{Ends}
 use Rattle.verifier.specs.declared.Ending.{Ending}
-use Rattle.verifier.specs.declared.Gate.{Gate}
-use Rattle.verifier.specs.declared.Gate.TheVariants.{Open, Shut}
 use Rattle.verifier.specs.Verified.{Asked, rootless, tests}
 
-abbrev pub words_gate : (bs : List ℕ) (o : Outline) (needs : List ℕ) → Gate
+abbrev pub words_gate : (bs : List ℕ) (o : Outline) (needs : List ℕ) → Result Outline Refusal
 words_gate bs o needs =
     let ws = proof_words (proof_of bs) in
-    cond (all_canonical ws) (cond (all_canonical needs) (Open o) (Shut (BadWord (first_bad needs) Challenges))) (Shut (BadWord (first_bad ws) Proof))
+    cond (all_canonical ws) (cond (all_canonical needs) (Ok o) (Err (BadWord (first_bad needs) Challenges))) (Err (BadWord (first_bad ws) Proof))
 
 -- live, a root over zero, of one round or more, where both counts are right
-abbrev pub root_gate : (modes : Verifying) (bs : List ℕ) (n : ℕ) (o : Outline) → Gate
-root_gate modes bs n o = cond (modes.live && rootless bs n) (Shut ZeroRoot) (Open o)
+abbrev pub root_gate : (modes : Verifying) (bs : List ℕ) (n : ℕ) (o : Outline) → Result Outline Refusal
+root_gate modes bs n o = cond (modes.live && rootless bs n) (Err ZeroRoot) (Ok o)
 
 -- without live mode, which is about the root alone
 abbrev pub unrooted : Verifying → Verifying
@@ -56,9 +54,9 @@ pub record Opened (a : Asked) (points logs : ℕ) (o : Outline) : Type 0 where
   pub passes : first_of (tests a points logs) ≡ passed
   pub shaped : Shaped a.proof o
 
-abbrev pub Gated : (a : Asked) (points logs : ℕ) → Gate → Type 0
-Gated a points logs (Open o) = Opened a points logs o
-Gated a points logs (Shut e) = first_of (tests a points logs) ≡ refused e
+abbrev pub Gated : (a : Asked) (points logs : ℕ) → Result Outline Refusal → Type 0
+Gated a points logs (Ok o) = Opened a points logs o
+Gated a points logs (Err e) = first_of (tests a points logs) ≡ refused e
 
 -- what the run asks
 pub record Ready (bs pt lg ch : List ℕ) (drawn : Bool) (n : ℕ) (o : Outline) : Type 0 where
@@ -88,18 +86,18 @@ abbrev pub verdict : (bs : List ℕ) (n : ℕ) (ch : Source E.Ext) → Model ch
 verdict bs n ch = Gkr.verify_gkr Extension (Drawing ch) n (decoded (proof_of bs)) (bound (sized bs) n empty)
 
 -- the run from a position ends as the model's does
-abbrev pub Counted : (bs pt' lg lg' : List ℕ) (ch : Source E.Ext) (n : ℕ) (pos : Pos) → Advance → Type 0
+abbrev pub Counted : (bs pt' lg lg' : List ℕ) (ch : Source E.Ext) (n : ℕ) (pos : Pos) → Result Layer Stopped → Type 0
 Counted bs pt' lg lg' ch n pos r = Ends lg lg' pt' ch pos n (verdict bs n ch) r
 
 -- what a run's end leaves of the point found, n words of it or none
-abbrev pub point_left : Advance → (n : ℕ) (found point : List ℕ) → List ℕ
-point_left (Next s) n found point = take n found ++ drop n point
-point_left (Stopped e end) n found point = point
+abbrev pub point_left : Result Layer Stopped → (n : ℕ) (found point : List ℕ) → List ℕ
+point_left (Ok s) n found point = take n found ++ drop n point
+point_left (Err e) n found point = point
 
 -- and how it ends
-abbrev pub ending : Verdict → Used → Ending
+abbrev pub ending : Result Claims Refusal → Used → Ending
 ending verdict used = record { verdict = verdict; used = used }
 
-abbrev pub answered : Advance → Ending
-answered (Next s) = ending (Accepted s.numer s.denom) (used_at s.pos)
-answered (Stopped e end) = ending (Refused e) (used_at end)
+abbrev pub answered : Result Layer Stopped → Ending
+answered (Ok s) = ending (Ok (record { numer = s.numer; denom = s.denom })) (used_at s.pos)
+answered (Err e) = ending (Err e.refusal) (used_at e.pos)

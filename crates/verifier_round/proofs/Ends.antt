@@ -8,13 +8,14 @@ use native.Mathlib.Omega.{arith}
 use borrow.Author.Tests.{eq-eqb, not-true, not-false}
 use lib.Dec.{eqb}
 use lib.ListN.{length}
+use Rattle.std.specs.Prelude.{Ok, Err}
 use Rattle.field.specs.Ext as E
 use Rattle.field.specs.ExtRing.{ExtRing}
 use Rattle.field.specs.Extension.{Extension}
 use Rattle.field.specs.declared.Ext.{Ext}
 use Rattle.field.specs.Element.{dec, enc, Canon, Is, same_words}
 use Rattle.field.specs.ElementLaws.{same_is, enc_of_is, zero_is}
-use Rattle.field.specs.Cells.{cell, cells}
+use Rattle.field.specs.Cells.{cells}
 use Rattle.multilinear.specs.RoundSum as RoundSum
 use Rattle.multilinear.specs.RoundSum.{Claims}
 use Rattle.gkr.specs.Run.{Frac, Cubic}
@@ -32,8 +33,6 @@ use Rattle.step.specs.declared.Frac.{Frac as FracW}
 use Rattle.step.specs.Values.{IsFrac}
 use Rattle.verifier_round.specs.declared.Layer.{Layer}
 use Rattle.verifier_round.specs.declared.Sums.{Sums}
-use Rattle.verifier_round.specs.declared.Advance.TheVariants.{Next, Stopped}
-use Rattle.verifier_round.specs.declared.Verdict.TheVariants.{Refused}
 use Rattle.verifier_round.specs.Values.{columns}
 use Rattle.verifier_round.specs.Verdicts.{Model, answer_of, point_of, left_by}
 use Rattle.verifier_round.specs.Rounds.{Descended, Goes, Stops, Came, LayerChecked, Rooted}
@@ -67,7 +66,7 @@ goes_on lg lg₁ lg₂ pt pt' ch k n m c pos₀ p r t v e a d =
     }
 
 -- a check that fails, with the log so far
-pub stops_there : (lg lg' : List ℕ) {ls ls' : List ℕ} (ch : Source E.Ext) (pos p : Pos) (n m : ℕ) (t : Words) (v w : Model ch) (e : Refusal) → Steps lg lg' ls ls' pos p n m t → p.put ≤ length lg → v ≡ w → answer_of ch w ≡ Refused e
+pub stops_there : (lg lg' : List ℕ) {ls ls' : List ℕ} (ch : Source E.Ext) (pos p : Pos) (n m : ℕ) (t : Words) (v w : Model ch) (e : Refusal) → Steps lg lg' ls ls' pos p n m t → p.put ≤ length lg → v ≡ w → answer_of ch w ≡ Err e
     → point_of ch w ≡ [] → left_by ch w ≡ t → Stops lg lg' ch pos v e p
 stops_there lg lg' ch pos p n m t v w e a h q x y z =
     record {
@@ -114,16 +113,16 @@ module _ (pt lg : List ℕ) (ch : Source E.Ext) (c : Claims E.Ext) (round : ℕ)
 
 pub closed_go : (pt pt' lg lg₁ lg₂ : List ℕ) {ls ls₁ ls₂ : List ℕ} (ch : Source E.Ext) (c : Claims E.Ext) (round : ℕ) (lambda : Ext) (s : Sums) (expected : Ext) (p : Pos) (r : Layer) (b : Bool)
     → Is expected (E.mul (RoundSum.cross ExtRing (dec lambda) c) (dec s.eq)) → Canon s.claim → b ≡ same_words expected s.claim → not b ≡ false
-    → Steps lg lg₁ ls ls₁ s.pos p 16 0 (after c (log_of lg s.pos)) → Descended pt pt' lg₁ lg₂ ls₁ ls₂ ch c p r → LayerChecked pt pt' lg lg₂ ls ls₂ ch c round lambda s (Next r)
+    → Steps lg lg₁ ls ls₁ s.pos p 16 0 (after c (log_of lg s.pos)) → Descended pt pt' lg₁ lg₂ ls₁ ls₂ ch c p r → LayerChecked pt pt' lg lg₂ ls ls₂ ch c round lambda s (Ok r)
 closed_go pt pt' lg lg₁ lg₂ ch c round lambda s expected p r b x k e h a d = λ ms v z t came.
     goes_on lg lg₁ lg₂ pt pt' ch round 16 0 c s.pos p r (log_of lg s.pos) _ (λ mss cs. layer_holds pt lg ch c round lambda s expected x k ms v z t came mss cs e (not-false b h)) a d
 
 pub closed_stop : (pt lg lg₁ : List ℕ) {ls ls₁ : List ℕ} (ch : Source E.Ext) (c : Claims E.Ext) (round : ℕ) (lambda : Ext) (s : Sums) (expected : Ext) (p : Pos) (b : Bool)
     → Is expected (E.mul (RoundSum.cross ExtRing (dec lambda) c) (dec s.eq)) → Canon s.claim → b ≡ same_words expected s.claim → not b ≡ true
-    → Steps lg lg₁ ls ls₁ s.pos p 16 0 (after c (log_of lg s.pos)) → s.pos.put + 20 ≤ length lg → LayerChecked pt pt lg lg₁ ls ls₁ ch c round lambda s (Stopped (LayerConsistencyCheckFailed round expected s.claim) p)
+    → Steps lg lg₁ ls ls₁ s.pos p 16 0 (after c (log_of lg s.pos)) → s.pos.put + 20 ≤ length lg → LayerChecked pt pt lg lg₁ ls ls₁ ch c round lambda s (Err (record { refusal = LayerConsistencyCheckFailed round expected s.claim; pos = p }))
 closed_stop pt lg lg₁ ch c round lambda s expected p b x k e h a room = λ ms v z t came mss cs.
     stops_there lg lg₁ ch s.pos p 16 0 _ _ _ _ a (omega (arith, a.put)) (layer_fails pt lg ch c round lambda s expected x k ms v z t came mss cs e (not-true b h))
-    (ap Refused (layer_answer pt lg ch c round lambda s expected x k ms v z t came mss cs)) refl refl
+    (λ i. Err (layer_answer pt lg ch c round lambda s expected x k ms v z t came mss cs i)) refl refl
 
 -- ---- layer 0
 module _ (ch : Source E.Ext) (lg : List ℕ) (q0 : Ext) (c : Claims E.Ext) (pos : Pos) (numer denom : Ext) (x : Is numer (Tree.compute_recursive_relations ExtRing c).p) (y : Is denom (Tree.compute_recursive_relations ExtRing c).q)
@@ -169,20 +168,20 @@ both_observed lg lg₁ lg₂ q c pos a p x y = then lg lg₁ lg₂ pos a p 4 0 1
 
 module _ (pt lg lg₁ lg₂ : List ℕ) {ls ls₁ ls₂ : List ℕ} (ch : Source E.Ext) (q0 : Ext) (c : Claims E.Ext) (pos a p : Pos) (f : FracW) (b : Bool) (x : IsFrac f (Tree.compute_recursive_relations ExtRing c)) (k : Canon q0)
     (e : b ≡ same_words f.p (record { c0 = 0; c1 = 0; c2 = 0; c3 = 0 })) (s : Steps lg lg₁ ls ls₁ pos a 4 0 (Observing.observe (dec q0) (log_of lg pos))) (s' : Steps lg₁ lg₂ ls₁ ls₂ a p 16 0 (after c (log_of lg₁ a))) where
-  pub root_zero : not b ≡ true → pos.put + 24 ≤ length lg → Rooted pt lg lg₂ ls ls₂ ch (dec q0) c pos (Stopped (ZeroCheckFailed f.p) p)
+  pub root_zero : not b ≡ true → pos.put + 24 ≤ length lg → Rooted pt lg lg₂ ls ls₂ ch (dec q0) c pos (Err (record { refusal = ZeroCheckFailed f.p; pos = p }))
   root_zero h room = λ mss cs.
       let o = both_observed lg lg₁ lg₂ (dec q0) c pos a p s s' in
       stops_there lg lg₂ ch pos p 20 0 _ _ _ _ o (omega (arith, o.put)) (zero_fails ch lg q0 c pos f.p f.q x.p x.q k mss cs e (not-true b h))
-      (λ i. Refused (ZeroCheckFailed (sym (enc_of_is x.p) i))) refl refl
+      (λ i. Err (ZeroCheckFailed (sym (enc_of_is x.p) i))) refl refl
 
   module _ (b' : Bool) (h : not b ≡ false) (e' : b' ≡ same_words f.q q0) where
-    pub root_differs : not b' ≡ true → pos.put + 24 ≤ length lg → Rooted pt lg lg₂ ls ls₂ ch (dec q0) c pos (Stopped (RootConsistencyCheckFailed q0 f.q) p)
+    pub root_differs : not b' ≡ true → pos.put + 24 ≤ length lg → Rooted pt lg lg₂ ls ls₂ ch (dec q0) c pos (Err (record { refusal = RootConsistencyCheckFailed q0 f.q; pos = p }))
     root_differs h' room = λ mss cs.
         let o = both_observed lg lg₁ lg₂ (dec q0) c pos a p s s' in
         stops_there lg lg₂ ch pos p 20 0 _ _ _ _ o (omega (arith, o.put)) (root_fails ch lg q0 c pos f.p f.q x.p x.q k mss cs e (not-false b h) e' (not-true b' h'))
-        (λ i. Refused (RootConsistencyCheckFailed (sym (enc_of_is (record { canon = k; value = refl })) i) (sym (enc_of_is x.q) i))) refl refl
+        (λ i. Err (RootConsistencyCheckFailed (sym (enc_of_is (record { canon = k; value = refl })) i) (sym (enc_of_is x.q) i))) refl refl
 
-    pub root_go : (pt' lg₃ : List ℕ) {ls₃ : List ℕ} (r : Layer) → not b' ≡ false → Descended pt pt' lg₂ lg₃ ls₂ ls₃ ch c p r → Rooted pt' lg lg₃ ls ls₃ ch (dec q0) c pos (Next r)
+    pub root_go : (pt' lg₃ : List ℕ) {ls₃ : List ℕ} (r : Layer) → not b' ≡ false → Descended pt pt' lg₂ lg₃ ls₂ ls₃ ch c p r → Rooted pt' lg lg₃ ls ls₃ ch (dec q0) c pos (Ok r)
     root_go pt' lg₃ r h' d =
         goes_on lg lg₂ lg₃ pt pt' ch 0 20 0 c pos p r ((Drawing ch).observe (dec q0) (log_of lg pos)) _ (λ mss cs. root_holds ch lg q0 c pos f.p f.q x.p x.q k mss cs e (not-false b h) e' (not-false b' h'))
         (both_observed lg lg₁ lg₂ (dec q0) c pos a p s s') d

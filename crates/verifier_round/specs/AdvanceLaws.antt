@@ -1,6 +1,6 @@
 -- No second answer and no second log fit the end of a layer, but for the sponge. Of the point only the coordinates so far are said: it is an array of the caller's own. A lent slice keeps its length.
 -- Assumes nothing.
-use Rattle.std.specs.Prelude.{◌≡◌, refl, ℕ, length, drop}
+use Rattle.std.specs.Prelude.{◌≡◌, Result, Ok, Err, refl, ℕ, length, drop}
 use Rattle.std.proofs.Common.{sym, ◌∙◌, ap, ap₂, arith, take-append-drop, length-take-le}
 use mathlib.Core.List.{List, [], ◌++◌}
 use Rattle.field.specs.Ext as E
@@ -18,20 +18,19 @@ use Rattle.transcript.specs.declared.Pos.{Pos}
 use Rattle.transcript.specs.Log.{log_of}
 use Rattle.transcript.specs.LogLaws.{SamePos, log_unique}
 use Rattle.verifier_round.specs.declared.Layer.{Layer}
-use Rattle.verifier_round.specs.declared.Advance.{Advance}
-use Rattle.verifier_round.specs.declared.Advance.TheVariants.{Next, Stopped}
-use Rattle.verifier_round.specs.declared.Verdict.TheVariants.{Accepted, Refused}
+use Rattle.verifier_round.specs.declared.Stopped.{Stopped}
+use Rattle.verifier_round.specs.declared.Claims.{Claims as Claimed}
 use Rattle.verifier_round.specs.Values.{columns}
 use Rattle.verifier_round.specs.Verdicts.{Model, answer_of, logged_by}
 use Rattle.verifier_round.specs.Rounds.{Goes, Stops, Advances}
 use Rattle.verifier_round.specs.RoundLaws.{SameLayer}
 
 -- the same, but for the sponge
-abbrev pub SameAdvance : Advance → Advance → Type 0
-SameAdvance (Next a) (Next b) = SameLayer a b
-SameAdvance (Next a) (Stopped y q) = ⊥
-SameAdvance (Stopped x p) (Next b) = ⊥
-SameAdvance (Stopped x p) (Stopped y q) = (x ≡ y) × SamePos p q
+abbrev pub SameAdvance : Result Layer Stopped → Result Layer Stopped → Type 0
+SameAdvance (Ok a) (Ok b) = SameLayer a b
+SameAdvance (Ok a) (Err q) = ⊥
+SameAdvance (Err p) (Ok b) = ⊥
+SameAdvance (Err p) (Err q) = (p.refusal ≡ q.refusal) × SamePos p.pos q.pos
 
 -- canonical words that stand for one element
 pub canon_unique : {r s : Ext} → Canon r → Canon s → dec r ≡ dec s → r ≡ s
@@ -41,7 +40,7 @@ canon_unique h k e = is_unique (record { canon = h; value = e }) (record { canon
 pub accepted_parts : (ch : Source E.Ext) {f g : Frac E.Ext} {y z : List E.Ext} {t u : Words} → ◌≡◌ {A = Model ch} (accepted f y t) (accepted g z u) → (f ≡ g) × (y ≡ z) × (t ≡ u)
 accepted_parts ch e = (cc, cc, cc)
 
-pub accepted_or_refused : {a b : Ext} {e : Refusal} → Accepted a b ≡ Refused e → ⊥
+pub accepted_or_refused : {a : Claimed} {e : Refusal} → ◌≡◌ {A = Result Claimed Refusal} (Ok a) (Err e) → ⊥
 accepted_or_refused h = let z : ◌≡◌ {A = ℕ} 0 1 = cc in omega arith
 
 pub stops_put : {lg lg' : List ℕ} {ch : Source E.Ext} {pos : Pos} {w : Model ch} {e : Refusal} {end : Pos} → length lg' ≡ length lg → Stops lg lg' ch pos w e end → end.put ≡ length (logged_by ch w)
@@ -54,7 +53,7 @@ stops_buffer {lg} {lg'} {end = end} q h =
 pub stops_unique : {lg lg' lg'' : List ℕ} {ch : Source E.Ext} {pos : Pos} {w : Model ch} {e e' : Refusal} {end end' : Pos} → length lg' ≡ length lg → length lg'' ≡ length lg → Stops lg lg' ch pos w e end → Stops lg lg'' ch pos w e' end'
     → ((e ≡ e') × SamePos end end') × (lg' ≡ lg'')
 stops_unique {lg} {e = e} {e' = e'} q q' h k =
-    let r : Refused e ≡ Refused e' = sym h.answer ∙ k.answer in
+    let r : ◌≡◌ {A = Result Claimed Refusal} (Err e) (Err e') = sym h.answer ∙ k.answer in
     let a : e ≡ e' = cc in
     let l = log_unique lg (stops_put q h ∙ sym (stops_put q' k)) (h.drawn ∙ sym k.drawn) (h.log ∙ sym k.log) h.rest k.rest in
     ((a, l.0), l.1)
@@ -80,8 +79,8 @@ module _ (lg : List ℕ) (ch : Source E.Ext) (pos : Pos) (k n m : ℕ) (v : List
   one_way : {p l l' ls ls' : List ℕ} {a : Layer} {e : Refusal} {end : Pos} → Goes lg l ls ls' p ch pos k n m v a → Stops lg l' ch pos (v [] []) e end → ⊥
   one_way h s = accepted_or_refused (ap (answer_of ch) (sym (ends_in h)) ∙ s.answer)
 
-  pub advances_unique : (lg' lg'' ls ls' ls'' pt' pt'' : List ℕ) (r s : Advance) → length lg' ≡ length lg → length lg'' ≡ length lg → Advances lg lg' ls ls' pt' ch pos k n m v r → Advances lg lg'' ls ls'' pt'' ch pos k n m v s → SameAdvance r s × (lg' ≡ lg'')
-  advances_unique lg' lg'' ls ls' ls'' pt' pt'' (Next a) (Next b) q q' h h' = let e = goes_unique h h' in (e.0, e.2)
-  advances_unique lg' lg'' ls ls' ls'' pt' pt'' (Next a) (Stopped x e) q q' h h' = absurd (one_way h (h' [] []))
-  advances_unique lg' lg'' ls ls' ls'' pt' pt'' (Stopped x e) (Next b) q q' h h' = absurd (one_way h' (h [] []))
-  advances_unique lg' lg'' ls ls' ls'' pt' pt'' (Stopped x e) (Stopped y f) q q' h h' = stops_unique q q' (h [] []) (h' [] [])
+  pub advances_unique : (lg' lg'' ls ls' ls'' pt' pt'' : List ℕ) (r s : Result Layer Stopped) → length lg' ≡ length lg → length lg'' ≡ length lg → Advances lg lg' ls ls' pt' ch pos k n m v r → Advances lg lg'' ls ls'' pt'' ch pos k n m v s → SameAdvance r s × (lg' ≡ lg'')
+  advances_unique lg' lg'' ls ls' ls'' pt' pt'' (Ok a) (Ok b) q q' h h' = let e = goes_unique h h' in (e.0, e.2)
+  advances_unique lg' lg'' ls ls' ls'' pt' pt'' (Ok a) (Err e) q q' h h' = absurd (one_way h (h' [] []))
+  advances_unique lg' lg'' ls ls' ls'' pt' pt'' (Err e) (Ok b) q q' h h' = absurd (one_way h' (h [] []))
+  advances_unique lg' lg'' ls ls' ls'' pt' pt'' (Err e) (Err f) q q' h h' = stops_unique q q' (h [] []) (h' [] [])

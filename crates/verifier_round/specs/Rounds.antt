@@ -1,6 +1,6 @@
 -- What each step of a round does to the point, the log, the sponge's lanes and the claims, by the model's functions.
 -- Assumes nothing.
-use Rattle.std.specs.Prelude.{◌≡◌, List, [], ◌∷◌, ℕ, ◌+◌, ◌≤◌, length, drop}
+use Rattle.std.specs.Prelude.{◌≡◌, Result, Ok, Err, List, [], ◌∷◌, ℕ, ◌+◌, ◌≤◌, length, drop}
 use Rattle.field.specs.Ext as E
 use Rattle.field.specs.ExtRing.{ExtRing}
 use Rattle.field.specs.Extension.{Extension}
@@ -22,9 +22,7 @@ use Rattle.step.specs.Values.{minus}
 use Rattle.verifier_round.specs.declared.Layer.{Layer}
 use Rattle.verifier_round.specs.declared.Sums.{Sums}
 use Rattle.verifier_round.specs.declared.Opened.{Opened}
-use Rattle.verifier_round.specs.declared.Advance.{Advance}
-use Rattle.verifier_round.specs.declared.Advance.TheVariants.{Next, Stopped}
-use Rattle.verifier_round.specs.declared.Verdict.TheVariants.{Refused}
+use Rattle.verifier_round.specs.declared.Stopped.{Stopped}
 use Rattle.verifier_round.specs.Values.{columns}
 use Rattle.verifier_round.specs.Verdicts.{Model, answer_of, point_of, left_by}
 
@@ -65,7 +63,7 @@ pub record Goes (lg lg' ls ls' pt' : List ℕ) (ch : Source E.Ext) (pos : Pos) (
 
 -- A run that stops: the verdict v refuses by e, and the log holds what v says up to the position `end`, past which all is as before.
 pub record Stops (lg lg' : List ℕ) (ch : Source E.Ext) (pos : Pos) (v : Model ch) (e : Refusal) (end : Pos) : Type 0 where
-  pub answer : answer_of ch v ≡ Refused e
+  pub answer : answer_of ch v ≡ Err e
   pub point : point_of ch v ≡ []
   pub more : pos.put ≤ end.put
   pub room : end.put ≤ length lg
@@ -74,9 +72,9 @@ pub record Stops (lg lg' : List ℕ) (ch : Source E.Ext) (pos : Pos) (v : Model 
   pub rest : drop end.put lg' ≡ drop end.put lg
 
 -- one or the other
-abbrev pub Advances : (lg lg' ls ls' pt' : List ℕ) (ch : Source E.Ext) (pos : Pos) (k n m : ℕ) → (List (List (Cubic E.Ext)) → List (Claims E.Ext) → Model ch) → Advance → Type 0
-Advances lg lg' ls ls' pt' ch pos k n m v (Next s) = Goes lg lg' ls ls' pt' ch pos k n m v s
-Advances lg lg' ls ls' pt' ch pos k n m v (Stopped e end) = (mss : List (List (Cubic E.Ext))) (cs : List (Claims E.Ext)) → Stops lg lg' ch pos (v mss cs) e end
+abbrev pub Advances : (lg lg' ls ls' pt' : List ℕ) (ch : Source E.Ext) (pos : Pos) (k n m : ℕ) → (List (List (Cubic E.Ext)) → List (Claims E.Ext) → Model ch) → Result Layer Stopped → Type 0
+Advances lg lg' ls ls' pt' ch pos k n m v (Ok s) = Goes lg lg' ls ls' pt' ch pos k n m v s
+Advances lg lg' ls ls' pt' ch pos k n m v (Err e) = (mss : List (List (Cubic E.Ext))) (cs : List (Claims E.Ext)) → Stops lg lg' ch pos (v mss cs) e.refusal e.pos
 
 -- The model's sub-rounds over ms, from the claims v at the point z and the log t, end where s stands.
 pub record Came (pt lg : List ℕ) (ch : Source E.Ext) (round : ℕ) (lambda : Ext) (s : Sums) (ms : List (Cubic E.Ext)) (v : Frac E.Ext) (z : List E.Ext) (t : Words) : Type 0 where
@@ -86,11 +84,11 @@ pub record Came (pt lg : List ℕ) (ch : Source E.Ext) (round : ℕ) (lambda : E
   pub sums : Sumcheck.verify_gkr_sumcheck Extension (Drawing ch) ms z (E.add v.p (E.mul (ch t) v.q)) E.one ((Drawing ch).drawn t) ≡ record { claim = dec s.claim; point = cells pt 1 round; eq = dec s.eq; log = log_of lg s.pos }
 
 -- the end of a layer, whatever its sub-rounds were
-abbrev pub LayerChecked : (pt pt' lg lg' ls ls' : List ℕ) (ch : Source E.Ext) (c : Claims E.Ext) (round : ℕ) (lambda : Ext) (s : Sums) (r : Advance) → Type 0
+abbrev pub LayerChecked : (pt pt' lg lg' ls ls' : List ℕ) (ch : Source E.Ext) (c : Claims E.Ext) (round : ℕ) (lambda : Ext) (s : Sums) (r : Result Layer Stopped) → Type 0
 LayerChecked pt pt' lg lg' ls ls' ch c round lambda s r =
     (ms : List (Cubic E.Ext)) (v : Frac E.Ext) (z : List E.Ext) (t : Words) → Came pt lg ch round lambda s ms v z t
     → Advances lg lg' ls ls' pt' ch s.pos (round + 1) 20 1 (λ mss cs. Gkr.rounds Extension (Drawing ch) (ms ∷ mss) (c ∷ cs) v z t) r
 
 -- layer 0
-abbrev pub Rooted : (pt' lg lg' ls ls' : List ℕ) (ch : Source E.Ext) (q0 : E.Ext) (c : Claims E.Ext) (pos : Pos) (r : Advance) → Type 0
+abbrev pub Rooted : (pt' lg lg' ls ls' : List ℕ) (ch : Source E.Ext) (q0 : E.Ext) (c : Claims E.Ext) (pos : Pos) (r : Result Layer Stopped) → Type 0
 Rooted pt' lg lg' ls ls' ch q0 c pos r = Advances lg lg' ls ls' pt' ch pos 1 24 1 (λ mss cs. Gkr.root Extension (Drawing ch) q0 c cs mss (log_of lg pos)) r

@@ -26,7 +26,7 @@ use field::Ext;
 use refusal::{Refusal, Report};
 use step::Frac;
 use stored::{LayerClaims, SubroundEvals};
-use transcript::Pos;
+use transcript::{Drawn, Pos};
 
 // The claims on the two columns after a layer, and where the run stands.
 #[derive(Clone, Copy)]
@@ -52,27 +52,33 @@ pub struct Opened {
     pub first: Sums,
 }
 
-// What a layer ends in: the claims after it, or the check that failed and where the run stood.
+// The check that failed, and where the run stood.
 #[derive(Clone, Copy)]
-pub enum Advance {
-    Next(Layer),
-    Stopped { refusal: Refusal, pos: Pos },
+pub struct Stopped {
+    pub refusal: Refusal,
+    pub pos: Pos,
+}
+
+// What a layer ends in: the claims after it, or that the run stopped.
+pub type Advance = Result<Layer, Stopped>;
+
+// The claims on the two columns that an accepting run comes to.
+#[derive(Clone, Copy)]
+pub struct Claims {
+    pub numer: Ext,
+    pub denom: Ext,
 }
 
 // What the verifier answers.
-#[derive(Clone, Copy)]
-pub enum Verdict {
-    Accepted { numer: Ext, denom: Ext },
-    Refused(Refusal),
-}
+pub type Verdict = Result<Claims, Refusal>;
 
 // The verdict as document 01 has it: its number, and its values.
 pub fn number_and_values(verdict: Verdict) -> Report
     ensures { result ≡ verdict_report verdict }
 {
     match verdict {
-        Verdict::Accepted { numer, denom } => refusal::done(0, numer, denom),
-        Verdict::Refused(refusal) => refusal::number_and_fields(refusal),
+        Ok(Claims { numer, denom }) => refusal::done(0, numer, denom),
+        Err(refusal) => refusal::number_and_fields(refusal),
     }
 }
 
@@ -106,11 +112,15 @@ pub fn compute_recursive_relations(c: LayerClaims) -> Frac
     requires { CanonClaims (claims_in c) }
     ensures { IsFrac result (Tree.compute_recursive_relations ExtRing (dec_claims (claims_in c))) }
 {
-    let p0 = c.p_xi_0;
-    let q0 = c.q_xi_0;
-    let p1 = c.p_xi_1;
-    let q1 = c.q_xi_1;
-    step::add_fractions(Frac { p: p0, q: q0 }, Frac { p: p1, q: q1 })
+    let left = Frac {
+        p: c.p_xi_0,
+        q: c.q_xi_0,
+    };
+    let right = Frac {
+        p: c.p_xi_1,
+        q: c.q_xi_1,
+    };
+    step::add_fractions(left, right)
 }
 
 // The claims on the left and the right, brought together at mu.
@@ -147,10 +157,8 @@ pub fn open_layer(
         (source s.pos.drawn challenges.now) s result }
 {
     let xi = field::load(point, 0);
-    let d = transcript::sample_ext(log, lanes, challenges, s.pos);
-    let lambda = d.x;
+    let Drawn { x: lambda, pos } = transcript::sample_ext(log, lanes, challenges, s.pos);
     let claim = s.numer.plus(lambda.times(s.denom));
-    let pos = d.pos;
     let eq = Ext::ONE;
     let first = Sums { pos, claim, eq, xi };
     Opened { lambda, first }
@@ -174,10 +182,8 @@ pub fn sub_round(
     let i = j + 1;
     let xi = field::load(point, i);
     let p = observe_cubic(log, s.pos, m);
-    let d = transcript::sample_ext(log, lanes, challenges, p);
-    let rho = d.x;
+    let Drawn { x: rho, pos } = transcript::sample_ext(log, lanes, challenges, p);
     field::store(point, i, rho);
-    let pos = d.pos;
     let claim = next_claim(s.claim, m, rho);
     let eq = step::eq::eq_step(s.eq, s.xi, rho);
     Sums { pos, claim, eq, xi }
@@ -197,18 +203,10 @@ pub fn descend(
     ensures { Descended point.old point.new log.old log.new lanes.old lanes.new
         (source pos.drawn challenges.now) (dec_claims (claims_in c)) pos result }
 {
-    let d = transcript::sample_ext(log, lanes, challenges, pos);
-    let mu = d.x;
+    let Drawn { x: mu, pos } = transcript::sample_ext(log, lanes, challenges, pos);
     field::store(point, 0, mu);
-    let f = reduce_to_single_evaluation(c, mu);
-    let after = d.pos;
-    let numer = f.p;
-    let denom = f.q;
-    Layer {
-        pos: after,
-        numer,
-        denom,
-    }
+    let Frac { p: numer, q: denom } = reduce_to_single_evaluation(c, mu);
+    Layer { pos, numer, denom }
 }
 
 // What the claims on a layer say the last claim of its sub-rounds is.
@@ -240,16 +238,16 @@ pub fn close_layer(
     let expected = expected_claim(c, lambda, s.eq);
     let actual = s.claim;
     if !expected.same_words(actual) {
-        return Advance::Stopped {
+        return Err(Stopped {
             refusal: Refusal::LayerConsistencyCheckFailed {
                 round,
                 expected,
                 actual,
             },
             pos: end,
-        };
+        });
     }
-    Advance::Next(descend(c, point, log, lanes, challenges, end))
+    Ok(descend(c, point, log, lanes, challenges, end))
 }
 
 // Layer 0: the root's numerator must be zero, and its denominator the one told.
@@ -267,25 +265,23 @@ pub fn verify_root(
     ensures { Rooted point.new log.old log.new lanes.old lanes.new
         (source pos.drawn challenges.now) (dec q0) (dec_claims (claims_in c)) pos result }
 {
-    let f = compute_recursive_relations(c);
-    let numer = f.p;
-    let denom = f.q;
+    let Frac { p: numer, q: denom } = compute_recursive_relations(c);
     let a = transcript::observe_ext(log, pos, q0);
     let p = observe_layer_claims(log, a, c);
     if !numer.same_words(Ext::ZERO) {
-        return Advance::Stopped {
+        return Err(Stopped {
             refusal: Refusal::ZeroCheckFailed { actual: numer },
             pos: p,
-        };
+        });
     }
     if !denom.same_words(q0) {
-        return Advance::Stopped {
+        return Err(Stopped {
             refusal: Refusal::RootConsistencyCheckFailed {
                 expected: q0,
                 actual: denom,
             },
             pos: p,
-        };
+        });
     }
-    Advance::Next(descend(c, point, log, lanes, challenges, p))
+    Ok(descend(c, point, log, lanes, challenges, p))
 }

@@ -1,5 +1,6 @@
 -- The loop over the rounds, and round 0 before it.
 -- Assumes nothing.
+use Rattle.std.specs.Prelude.{Result, Ok, Err}
 use mathlib.Core.Path.{◌≡◌, refl, ◌∙◌, ap, ap₂, subst}
 use mathlib.Core.Bool.{true}
 use mathlib.Core.List.{List, ◌∷◌, map}
@@ -25,10 +26,8 @@ use Rattle.gkr.specs.Gkr.{accepted}
 use Rattle.transcript.specs.declared.Pos.{Pos}
 use Rattle.transcript.specs.Log.{Drawing, Enough, log_of, Steps}
 use Rattle.transcript.proofs.Logs.{enough_fewer, enough_after}
-use Rattle.refusal.specs.declared.Refusal.{Refusal}
 use Rattle.verifier_round.specs.declared.Layer.{Layer}
-use Rattle.verifier_round.specs.declared.Advance.{Advance}
-use Rattle.verifier_round.specs.declared.Advance.TheVariants.{Next, Stopped}
+use Rattle.verifier_round.specs.declared.Stopped.{Stopped}
 use Rattle.stored.specs.ReadWords.{CanonClaims}
 use Rattle.verifier_round.specs.Values.{dec_cubic, dec_claims, columns}
 use Rattle.verifier_round.specs.Rounds.{Goes, Advances, Rooted}
@@ -125,13 +124,13 @@ module _ (bs pt₀ pt lg₀ lg : List ℕ) (ch : Source E.Ext) (claims₀ claims
       (dec_claims (claims_of (drop claims bs)) ∷ map dec_claims (claims_from h (drop (claims + 64) bs))) (columns s) (cells pt 0 r) (log_of lg s.pos)
   unfolded b = i.verdict ∙ ap (λ k. going bs pt lg ch claims polys k r s) (left b) ∙ next_round bs pt lg ch claims polys h r s
 
-  module _ (pt' lg' : List ℕ) {ls ls' : List ℕ} (a : Advance) (b : r < n) (d : RoundDone bs pt pt' lg lg' ls ls' ch claims polys r s a) where
-    pub going_stop : (e : Refusal) (end : Pos) → a ≡ Stopped e end → LayersEnd bs pt₀ pt' lg₀ lg' ch claims₀ polys₀ n s₀ (Stopped e end)
-    going_stop e end q =
+  module _ (pt' lg' : List ℕ) {ls ls' : List ℕ} (a : Result Layer Stopped) (b : r < n) (d : RoundDone bs pt pt' lg lg' ls ls' ch claims polys r s a) where
+    pub going_stop : (e : Stopped) → a ≡ Err e → LayersEnd bs pt₀ pt' lg₀ lg' ch claims₀ polys₀ n s₀ (Err e)
+    going_stop e q =
         let st = subst (Advances lg lg' ls ls' pt' ch s.pos (r + 1) (16 * r + 24) (r + 2) _) q d.run in
-        stopped_before lg₀ lg lg' ch s₀.pos s.pos i.more i.rest i.logs _ _ e end i.drawn (unfolded b) (st _ _)
+        stopped_before lg₀ lg lg' ch s₀.pos s.pos i.more i.rest i.logs _ _ e.refusal e.pos i.drawn (unfolded b) (st _ _)
 
-    pub going_next : (t : Layer) → a ≡ Next t → length pt' ≡ length pt → length lg' ≡ length lg → Going bs pt₀ pt' lg₀ lg' ch claims₀ (claims + 64) polys₀ (polys + (1 + 48 * r)) n (r + 1) s₀ t
+    pub going_next : (t : Layer) → a ≡ Ok t → length pt' ≡ length pt → length lg' ≡ length lg → Going bs pt₀ pt' lg₀ lg' ch claims₀ (claims + 64) polys₀ (polys + (1 + 48 * r)) n (r + 1) s₀ t
     going_next t q x y =
         let g = subst (Advances lg lg' ls ls' pt' ch s.pos (r + 1) (16 * r + 24) (r + 2) _) q d.run in
         let p : polys + 1 + 48 * get_or bs polys 0 ≡ polys + (1 + 48 * r) = omega (arith, d.counted t q) in
@@ -151,12 +150,12 @@ module _ (bs pt₀ pt lg₀ lg : List ℕ) (ch : Source E.Ext) (claims₀ claims
           logs = y ∙ i.logs;
         }
 
-    pub space_next : {challenges : List ℕ} (t : Layer) → a ≡ Next t → length lg' ≡ length lg → Space lg ls challenges s.pos (n - r) r → Space lg' ls' challenges t.pos h (r + 1)
+    pub space_next : {challenges : List ℕ} (t : Layer) → a ≡ Ok t → length lg' ≡ length lg → Space lg ls challenges s.pos (n - r) r → Space lg' ls' challenges t.pos h (r + 1)
     space_next t q y p =
         let g = subst (Advances lg lg' ls ls' pt' ch s.pos (r + 1) (16 * r + 24) (r + 2) _) q d.run in
         (next_room p b).rest lg' t.pos _ y g.steps
 
-  pub going_end : {ls challenges : List ℕ} → Space lg ls challenges s.pos (n - r) r → n ≤ r → LayersEnd bs pt₀ pt lg₀ lg ch claims₀ polys₀ n s₀ (Next s)
+  pub going_end : {ls challenges : List ℕ} → Space lg ls challenges s.pos (n - r) r → n ≤ r → LayersEnd bs pt₀ pt lg₀ lg ch claims₀ polys₀ n s₀ (Ok s)
   unfolding Gkr.rounds entries_from claims_from
   going_end q b =
       let z : n - r ≡ 0 = omega (arith, i.upto) in
@@ -174,24 +173,24 @@ module _ (bs pt₀ pt lg₀ lg : List ℕ) (ch : Source E.Ext) (claims₀ claims
       }
 
 -- ---- round 0
-module _ (bs lg lg₁ ls ls₁ : List ℕ) (ch : Source E.Ext) (polys n : ℕ) (pos : Pos) (q0 : Ext) (c : LayerClaims) (pt₁ : List ℕ) (a : Advance) (x : q0 ≡ elem (drop 5 bs)) (y : claims_in c ≡ claims_of (drop 22 bs))
+module _ (bs lg lg₁ ls ls₁ : List ℕ) (ch : Source E.Ext) (polys n : ℕ) (pos : Pos) (q0 : Ext) (c : LayerClaims) (pt₁ : List ℕ) (a : Result Layer Stopped) (x : q0 ≡ elem (drop 5 bs)) (y : claims_in c ≡ claims_of (drop 22 bs))
     (d : Rooted pt₁ lg lg₁ ls ls₁ ch (dec q0) (dec_claims (claims_in c)) pos a) where
   there : Rooted pt₁ lg lg₁ ls ls₁ ch (dec (elem (drop 5 bs))) (dec_claims (claims_of (drop 22 bs))) pos a
   there = subst (λ e. Rooted pt₁ lg lg₁ ls ls₁ ch (dec e) (dec_claims (claims_of (drop 22 bs))) pos a) x (subst (λ e. Rooted pt₁ lg lg₁ ls ls₁ ch (dec q0) (dec_claims e) pos a) y d)
 
-  pub root_stop : (pt' : List ℕ) (e : Refusal) (end : Pos) → a ≡ Stopped e end → RootEnd bs pt' lg lg₁ ch polys n pos (Stopped e end)
-  root_stop pt' e end q = subst (Advances lg lg₁ ls ls₁ pt₁ ch pos 1 24 1 _) q there _ _
+  pub root_stop : (pt' : List ℕ) (e : Stopped) → a ≡ Err e → RootEnd bs pt' lg lg₁ ch polys n pos (Err e)
+  root_stop pt' e q = subst (Advances lg lg₁ ls ls₁ pt₁ ch pos 1 24 1 _) q there _ _
 
-  pub root_goes : (s : Layer) → a ≡ Next s → Goes lg lg₁ ls ls₁ pt₁ ch pos 1 24 1 (λ mss cs. Gkr.root Extension (Drawing ch) (dec (elem (drop 5 bs))) (dec_claims (claims_of (drop 22 bs))) cs mss (log_of lg pos)) s
+  pub root_goes : (s : Layer) → a ≡ Ok s → Goes lg lg₁ ls ls₁ pt₁ ch pos 1 24 1 (λ mss cs. Gkr.root Extension (Drawing ch) (dec (elem (drop 5 bs))) (dec_claims (claims_of (drop 22 bs))) cs mss (log_of lg pos)) s
   root_goes s q = subst (Advances lg lg₁ ls ls₁ pt₁ ch pos 1 24 1 _) q there
 
-  pub root_end : (pt' lg' : List ℕ) (s : Layer) (r : Advance) → a ≡ Next s → length lg₁ ≡ length lg → (ch₁ : Source E.Ext) → ch₁ ≡ ch
+  pub root_end : (pt' lg' : List ℕ) (s : Layer) (r : Result Layer Stopped) → a ≡ Ok s → length lg₁ ≡ length lg → (ch₁ : Source E.Ext) → ch₁ ≡ ch
       → LayersEnd bs pt₁ pt' lg₁ lg' ch₁ 86 polys n s r → RootEnd bs pt' lg lg' ch polys n pos r
   root_end pt' lg' s r q l ch₁ w e =
       let g = root_goes s q in
       ended_before lg lg₁ lg' ch pos s.pos (omega (arith, g.steps.put)) g.steps.rest l pt' n _ _ r g.steps.drawn (g.verdict _ _) (subst (λ d. LayersEnd bs pt₁ pt' lg₁ lg' d 86 polys n s r) w e)
 
-  pub root_space : {challenges : List ℕ} (s : Layer) → a ≡ Next s → length lg₁ ≡ length lg → (m : ℕ) → RootSpace lg ls challenges pos m → Space lg₁ ls₁ challenges s.pos m 1
+  pub root_space : {challenges : List ℕ} (s : Layer) → a ≡ Ok s → length lg₁ ≡ length lg → (m : ℕ) → RootSpace lg ls challenges pos m → Space lg₁ ls₁ challenges s.pos m 1
   root_space s q l m p =
       let g = root_goes s q in
       record { put = omega (arith, g.steps.put, p.put, l); enough = enough_after (1 + layers_cost 0 1 m 1) (omega arith) (omega arith) g.steps p.enough }

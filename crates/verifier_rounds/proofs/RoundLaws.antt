@@ -1,9 +1,10 @@
 -- One round: its sub-rounds are the model's, and a wrong count of them stops it after lambda.
 -- Assumes nothing.
+use Rattle.std.specs.Prelude.{Result, Ok, Err}
 use mathlib.Core.Path.{◌≡◌, refl, sym, ◌∙◌, ap, subst}
 use mathlib.Core.Bool.{true, false}
 use mathlib.Core.List.{List, [], ◌∷◌, map}
-use Prim.Native.Nat.{ℕ, suc, ◌+◌, ◌*◌, ◌-◌, ◌≤◌}
+use Prim.Native.Nat.{ℕ, suc, ◌+◌, ◌*◌, ◌≤◌}
 use native.Mathlib.Omega.{arith}
 use borrow.Author.Tests.{ne_eqb}
 use lib.Dec.{eqb}
@@ -12,7 +13,7 @@ use Rattle.field.specs.Ext as E
 use Rattle.field.specs.Extension.{Extension}
 use Rattle.field.specs.declared.Ext.{Ext}
 use Rattle.field.specs.Element.{dec, Canon}
-use Rattle.field.specs.Cells.{cell, cells}
+use Rattle.field.specs.Cells.{cells}
 use Rattle.field.proofs.PointLaws.{cells_length}
 use Rattle.stored.specs.declared.LayerClaims.{LayerClaims}
 use Rattle.stored.specs.Shapes.{claims_in}
@@ -26,15 +27,13 @@ use Rattle.gkr.specs.Transcripts.{Words, Source}
 use Rattle.gkr.specs.Sumcheck as Sumcheck
 use Rattle.gkr.specs.Gkr as Gkr
 use Rattle.gkr.specs.Gkr.{subround_count}
-use Rattle.transcript.specs.declared.Pos.{Pos}
 use Rattle.transcript.specs.Log.{Drawing, log_of}
 use Rattle.transcript.proofs.Logs.{then}
 use Rattle.refusal.specs.declared.Refusal.TheVariants.{IncorrectSubroundCount}
 use Rattle.verifier_round.specs.declared.Layer.{Layer}
 use Rattle.verifier_round.specs.declared.Sums.{Sums}
 use Rattle.verifier_round.specs.declared.Opened.{Opened}
-use Rattle.verifier_round.specs.declared.Advance.{Advance}
-use Rattle.verifier_round.specs.declared.Advance.TheVariants.{Next, Stopped}
+use Rattle.verifier_round.specs.declared.Stopped.{Stopped}
 use Rattle.stored.specs.ReadWords.{CanonClaims}
 use Rattle.verifier_round.specs.Values.{dec_cubic, dec_claims, columns}
 use Rattle.verifier_round.specs.Points.{ahead}
@@ -75,7 +74,7 @@ came bs pt pt' lg lg₁ lg₂ ch polys round s o last e a b =
     }
 
 -- ---- the count is right
-pub round_closed : (bs pt pt₁ pt₂ lg lg₁ lg₂ lg₃ : List ℕ) {ls ls₁ ls₂ ls₃ : List ℕ} (ch : Source E.Ext) (claims polys round : ℕ) (s : Layer) (o : Opened) (last : Sums) (c : LayerClaims) (r : Advance)
+pub round_closed : (bs pt pt₁ pt₂ lg lg₁ lg₂ lg₃ : List ℕ) {ls ls₁ ls₂ ls₃ : List ℕ} (ch : Source E.Ext) (claims polys round : ℕ) (s : Layer) (o : Opened) (last : Sums) (c : LayerClaims) (r : Result Layer Stopped)
     → get_or bs polys 0 ≡ round → length lg₂ ≡ length lg → LayerOpened pt lg lg₁ ls ls₁ ch s o → Summed bs pt pt₁ lg₁ lg₂ ls₁ ls₂ ch (polys + 1) round o.first last → claims_in c ≡ claims_of (drop claims bs)
     → (ch₁ : Source E.Ext) → ch₁ ≡ ch → LayerChecked pt₁ pt₂ lg₂ lg₃ ls₂ ls₃ ch₁ (dec_claims (claims_in c)) round o.lambda last r → RoundDone bs pt pt₂ lg lg₃ ls ls₃ ch claims polys round s r
 round_closed bs pt pt₁ pt₂ lg lg₁ lg₂ lg₃ {ls} {ls₁} {ls₂} {ls₃} ch claims polys round s o last c r e l a b q ch₁ w h =
@@ -96,15 +95,15 @@ count_fails ch ms c v z t mss cs k r a b h =
     let f : eqb (length ms) (length z) ≡ false = ne_eqb (length ms) (length z) (λ q. h (sym a ∙ q ∙ b)) in
     rw f (λ i. subround_count (b i) (b i) (a i) ((Drawing ch).drawn t))
 
-never : (e : _) (end : Pos) (t : Layer) → Stopped e end ≡ Next t → ⊥
-never e end t q = let z : ◌≡◌ {A = ℕ} 0 1 = cc in omega arith
+never : (e : Stopped) (t : Layer) → ◌≡◌ {A = Result Layer Stopped} (Err e) (Ok t) → ⊥
+never e t q = let z : ◌≡◌ {A = ℕ} 0 1 = cc in omega arith
 
 pub round_stopped : (bs pt lg lg₁ : List ℕ) {ls ls₁ : List ℕ} (ch : Source E.Ext) (claims polys round count : ℕ) (s : Layer) (o : Opened) → count ≡ get_or bs polys 0 → (count ≡ round → ⊥)
-    → s.pos.put + (16 * round + 24) ≤ length lg → LayerOpened pt lg lg₁ ls ls₁ ch s o → RoundDone bs pt pt lg lg₁ ls ls₁ ch claims polys round s (Stopped (IncorrectSubroundCount round round count) o.first.pos)
+    → s.pos.put + (16 * round + 24) ≤ length lg → LayerOpened pt lg lg₁ ls ls₁ ch s o → RoundDone bs pt pt lg lg₁ ls ls₁ ch claims polys round s (Err (record { refusal = IncorrectSubroundCount round round count; pos = o.first.pos }))
 round_stopped bs pt lg lg₁ ch claims polys round count s o e h room a =
     record {
       run = λ mss cs.
           stops_there lg lg₁ ch s.pos o.first.pos 4 1 _ _ _ _ a.steps (omega (arith, a.steps.put))
           (count_fails ch (entry_at bs polys) (dec_claims (claims_of (drop claims bs))) (columns s) (cells pt 0 round) (log_of lg s.pos) mss cs count round (entry_count_is bs polys ∙ sym e) (cells_length pt 0 round) h) refl refl refl;
-      counted = λ t q. absurd (never (IncorrectSubroundCount round round count) o.first.pos t q);
+      counted = λ t q. absurd (never _ t q);
     }

@@ -9,8 +9,8 @@ use lib.ListN.{length, drop}
 use Rattle.field.specs.Ext as E
 use Rattle.field.specs.Extension.{Extension}
 use Rattle.field.specs.declared.Ext.{Ext}
-use Rattle.field.specs.Element.{dec, Canon}
-use Rattle.field.specs.Cells.{cell, Clean, cells}
+use Rattle.field.specs.Element.{dec}
+use Rattle.field.specs.Cells.{Clean, cells}
 use Rattle.wire.specs.Words.{all_canonical}
 use Rattle.gkr.specs.Transcripts.{Source}
 use Rattle.stored.specs.declared.SubroundEvals.{SubroundEvals}
@@ -39,7 +39,7 @@ pub told_again : (pt pt' lg lg' : List ℕ) {ls ls' : List ℕ} (ch : Source E.E
     → SubChecked pt pt' lg lg' ls ls' ch j (dec_cubic n) s r
 told_again pt pt' lg lg' {ls} {ls'} ch j m n s r e h = subst (λ k. SubChecked pt pt' lg lg' ls ls' ch j (dec_cubic k) s r) e h
 
-pub sub_start : (bs pt lg : List ℕ) {ls : List ℕ} (ch : Source E.Ext) (from k : ℕ) (s : Sums) → Clean pt → CanonSums s → all_canonical (cubics_words (cubics_from k (drop from bs))) ≡ true
+sub_start : (bs pt lg : List ℕ) {ls : List ℕ} (ch : Source E.Ext) (from k : ℕ) (s : Sums) → Clean pt → CanonSums s → all_canonical (cubics_words (cubics_from k (drop from bs))) ≡ true
     → Summing bs pt pt lg lg ls ls ch from from k 0 s s
 sub_start bs pt lg ch from k s c d w =
     let z : k - 0 ≡ k = omega arith in
@@ -57,6 +57,11 @@ sub_start bs pt lg ch from k s c d w =
       points = refl;
       logs = refl;
     }
+
+-- at the place that the first sub-round is read from
+pub sub_first : (bs pt lg : List ℕ) {ls : List ℕ} (ch : Source E.Ext) (from at k : ℕ) (s : Sums) → from ≡ at → Clean pt → CanonSums s → all_canonical (cubics_words (cubics_from k (drop from bs))) ≡ true
+    → Summing bs pt pt lg lg ls ls ch from at k 0 s s
+sub_first bs pt lg {ls} ch from at k s e c d w = subst (λ a. Summing bs pt pt lg lg ls ls ch from a k 0 s s) e (sub_start bs pt lg ch from k s c d w)
 
 -- the model's next sub-round is the one that the code made
 one_sub : (bs pt pt' lg lg' : List ℕ) {ls ls' : List ℕ} (ch : Source E.Ext) (at j n : ℕ) (s r : Sums) → SubChecked pt pt' lg lg' ls ls' ch j (dec_cubic (cubic_of (drop at bs))) s r
@@ -82,7 +87,7 @@ module _ (bs pt₀ pt lg₀ lg : List ℕ) {ls₀ ls : List ℕ} (ch : Source E.
       let e : k - j ≡ suc (k - (j + 1)) = omega arith in
       cubic_first (k - (j + 1)) at bs (ap (λ n. all_canonical (cubics_words (cubics_from n (drop at bs)))) (sym e) ∙ i.words)
 
-  pub sub_turn : (pt' lg' : List ℕ) {ls' : List ℕ} (r : Sums) → j < k → length pt' ≡ length pt → length lg' ≡ length lg → SubChecked pt pt' lg lg' ls ls' ch j (dec_cubic (cubic_of (drop at bs))) s r
+  sub_turn : (pt' lg' : List ℕ) {ls' : List ℕ} (r : Sums) → j < k → length pt' ≡ length pt → length lg' ≡ length lg → SubChecked pt pt' lg lg' ls ls' ch j (dec_cubic (cubic_of (drop at bs))) s r
       → Summing bs pt₀ pt' lg₀ lg' ls₀ ls' ch from (at + 48) k (j + 1) s₀ r
   sub_turn pt' lg' r h p l d =
       let e : k - j ≡ suc (k - (j + 1)) = omega arith in
@@ -107,6 +112,11 @@ module _ (bs pt₀ pt lg₀ lg : List ℕ) {ls₀ ls : List ℕ} (ch : Source E.
         points = p ∙ i.points;
         logs = l ∙ i.logs;
       }
+
+  -- at the place that the next sub-round is read from
+  pub sub_next : (at' : ℕ) (pt' lg' : List ℕ) {ls' : List ℕ} (r : Sums) → at + 48 ≡ at' → j < k → length pt' ≡ length pt → length lg' ≡ length lg → SubChecked pt pt' lg lg' ls ls' ch j (dec_cubic (cubic_of (drop at bs))) s r
+      → Summing bs pt₀ pt' lg₀ lg' ls₀ ls' ch from at' k (j + 1) s₀ r
+  sub_next at' pt' lg' {ls'} r e h p l d = subst (λ a. Summing bs pt₀ pt' lg₀ lg' ls₀ ls' ch from a k (j + 1) s₀ r) e (sub_turn pt' lg' r h p l d)
 
   pub sub_end : k ≤ j → Summed bs pt₀ pt lg₀ lg ls₀ ls ch from k s₀ s
   unfolding Sumcheck.verify_gkr_sumcheck cubics_from

@@ -1,6 +1,6 @@
 -- No second answer and no second log fit the loops over a proof, but for the sponge. Of the point only the coordinates are said: it is an array of the caller's own. A lent slice keeps its length.
 -- Assumes nothing.
-use Rattle.std.specs.Prelude.{◌≡◌, List, ℕ, length, take}
+use Rattle.std.specs.Prelude.{◌≡◌, Result, Ok, Err, List, ℕ, length, take}
 use Rattle.std.proofs.Common.{sym, ◌∙◌, ap, arith, length-take-le}
 use Rattle.field.specs.Ext as E
 use Rattle.field.specs.ElementLaws.{is_unique}
@@ -11,8 +11,7 @@ use Rattle.transcript.specs.declared.Pos.{Pos}
 use Rattle.transcript.specs.LogLaws.{SamePos, log_unique, steps_unique}
 use Rattle.verifier_round.specs.declared.Layer.{Layer}
 use Rattle.verifier_round.specs.declared.Sums.{Sums}
-use Rattle.verifier_round.specs.declared.Advance.{Advance}
-use Rattle.verifier_round.specs.declared.Advance.TheVariants.{Next, Stopped}
+use Rattle.verifier_round.specs.declared.Stopped.{Stopped}
 use Rattle.verifier_round.specs.Verdicts.{Model, answer_of}
 use Rattle.verifier_round.specs.Rounds.{Stops}
 use Rattle.verifier_round.specs.RoundLaws.{SameLayer}
@@ -46,8 +45,8 @@ module _ (lg : List ℕ) (ch : Source E.Ext) (pos : Pos) (n : ℕ) (v : Model ch
   one_way : {l l' p : List ℕ} {a : Layer} {e : Refusal} {end : Pos} → Accepts lg l p ch pos n v a → Stops lg l' ch pos v e end → ⊥
   one_way h s = accepted_or_refused (ap (answer_of ch) (sym h.verdict) ∙ s.answer)
 
-  pub ends_unique : (lg' lg'' pt' pt'' : List ℕ) (r s : Advance) → length lg' ≡ length lg → length lg'' ≡ length lg → Ends lg lg' pt' ch pos n v r → Ends lg lg'' pt'' ch pos n v s → SameAdvance r s × (lg' ≡ lg'')
-  ends_unique lg' lg'' pt' pt'' (Next a) (Next b) q q' h h' = accepts_unique q q' h h'
-  ends_unique lg' lg'' pt' pt'' (Next a) (Stopped x e) q q' h h' = absurd (one_way h h')
-  ends_unique lg' lg'' pt' pt'' (Stopped x e) (Next b) q q' h h' = absurd (one_way h' h)
-  ends_unique lg' lg'' pt' pt'' (Stopped x e) (Stopped y f) q q' h h' = stops_unique q q' h h'
+  pub ends_unique : (lg' lg'' pt' pt'' : List ℕ) (r s : Result Layer Stopped) → length lg' ≡ length lg → length lg'' ≡ length lg → Ends lg lg' pt' ch pos n v r → Ends lg lg'' pt'' ch pos n v s → SameAdvance r s × (lg' ≡ lg'')
+  ends_unique lg' lg'' pt' pt'' (Ok a) (Ok b) q q' h h' = accepts_unique q q' h h'
+  ends_unique lg' lg'' pt' pt'' (Ok a) (Err e) q q' h h' = absurd (one_way h h')
+  ends_unique lg' lg'' pt' pt'' (Err e) (Ok b) q q' h h' = absurd (one_way h' h)
+  ends_unique lg' lg'' pt' pt'' (Err e) (Err f) q q' h h' = stops_unique q q' h h'

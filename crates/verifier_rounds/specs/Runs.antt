@@ -1,16 +1,15 @@
 -- What the loops over a proof's bytes do, by the model's functions on what is left of the lists read.
 -- Assumes nothing.
-use Rattle.std.specs.Prelude.{◌≡◌, true, List, ◌∷◌, ◌++◌, map, ℕ, ◌+◌, ◌*◌, ◌-◌, ◌≤◌, length, get_or, drop}
+use Rattle.std.specs.Prelude.{◌≡◌, Result, Ok, Err, true, List, ◌∷◌, ◌++◌, map, ℕ, ◌+◌, ◌*◌, ◌-◌, ◌≤◌, length, get_or, drop}
 use Rattle.field.specs.Ext as E
 use Rattle.field.specs.Extension.{Extension}
 use Rattle.field.specs.Element.{dec, Canon, Is}
-use Rattle.field.specs.Cells.{cell, Clean, cells}
+use Rattle.field.specs.Cells.{Clean, cells}
 use Rattle.wire.specs.Words.{all_canonical}
 use Rattle.wire.specs.Bytes.{elem}
 use Rattle.gkr.specs.Transcripts.{Source}
 use Rattle.stored.specs.Layout.{claims_words, cubics_words, polys_words}
 use Rattle.stored.specs.Parse.{claims_of, claims_from, cubics_from, entries_from, entries_fit}
-use Rattle.multilinear.specs.RoundSum.{Claims}
 use Rattle.gkr.specs.Run.{Cubic}
 use Rattle.gkr.specs.Count.{layers_cost}
 use Rattle.gkr.specs.Sumcheck as Sumcheck
@@ -20,8 +19,7 @@ use Rattle.transcript.specs.declared.Pos.{Pos}
 use Rattle.transcript.specs.Log.{Drawing, Enough, log_of, Steps}
 use Rattle.verifier_round.specs.declared.Layer.{Layer}
 use Rattle.verifier_round.specs.declared.Sums.{Sums}
-use Rattle.verifier_round.specs.declared.Advance.{Advance}
-use Rattle.verifier_round.specs.declared.Advance.TheVariants.{Next, Stopped}
+use Rattle.verifier_round.specs.declared.Stopped.{Stopped}
 use Rattle.verifier_round.specs.Values.{dec_cubic, dec_claims, columns, CanonSums}
 use Rattle.verifier_round.specs.Points.{ahead}
 use Rattle.verifier_round.specs.Verdicts.{Model}
@@ -67,10 +65,10 @@ abbrev pub entry_at : List ℕ → ℕ → List (Cubic E.Ext)
 entry_at bs polys = cubics_at bs (polys + 1) (get_or bs polys 0)
 
 -- a round takes the model on or stops it, whatever comes after; one that holds has as many sub-rounds as its number
-pub record RoundDone (bs pt pt' lg lg' ls ls' : List ℕ) (ch : Source E.Ext) (claims polys round : ℕ) (s : Layer) (r : Advance) : Type 0 where
+pub record RoundDone (bs pt pt' lg lg' ls ls' : List ℕ) (ch : Source E.Ext) (claims polys round : ℕ) (s : Layer) (r : Result Layer Stopped) : Type 0 where
   pub run : Advances lg lg' ls ls' pt' ch s.pos (round + 1) (16 * round + 24) (round + 2)
       (λ mss cs. Gkr.rounds Extension (Drawing ch) (entry_at bs polys ∷ mss) (dec_claims (claims_of (drop claims bs)) ∷ cs) (columns s) (cells pt 0 round) (log_of lg s.pos)) r
-  pub counted : (t : Layer) → r ≡ Next t → get_or bs polys 0 ≡ round
+  pub counted : (t : Layer) → r ≡ Ok t → get_or bs polys 0 ≡ round
 
 -- ALL ROUNDS
 
@@ -109,11 +107,11 @@ pub record Accepts (lg lg' pt' : List ℕ) (ch : Source E.Ext) (pos : Pos) (n : 
   pub clean : Clean pt'
 
 -- one or the other
-abbrev pub Ends : (lg lg' pt' : List ℕ) (ch : Source E.Ext) (pos : Pos) (n : ℕ) → Model ch → Advance → Type 0
-Ends lg lg' pt' ch pos n v (Next s) = Accepts lg lg' pt' ch pos n v s
-Ends lg lg' pt' ch pos n v (Stopped e end) = Stops lg lg' ch pos v e end
+abbrev pub Ends : (lg lg' pt' : List ℕ) (ch : Source E.Ext) (pos : Pos) (n : ℕ) → Model ch → Result Layer Stopped → Type 0
+Ends lg lg' pt' ch pos n v (Ok s) = Accepts lg lg' pt' ch pos n v s
+Ends lg lg' pt' ch pos n v (Err e) = Stops lg lg' ch pos v e.refusal e.pos
 
-abbrev pub LayersEnd : (bs pt pt' lg lg' : List ℕ) (ch : Source E.Ext) (claims polys n : ℕ) (s : Layer) (r : Advance) → Type 0
+abbrev pub LayersEnd : (bs pt pt' lg lg' : List ℕ) (ch : Source E.Ext) (claims polys n : ℕ) (s : Layer) (r : Result Layer Stopped) → Type 0
 LayersEnd bs pt pt' lg lg' ch claims polys n s r = Ends lg lg' pt' ch s.pos n (going bs pt lg ch claims polys (n - 1) 1 s) r
 
 -- before round r of n: from here the model comes to what it comes to from the start
@@ -132,7 +130,7 @@ pub record Going (bs pt₀ pt lg₀ lg : List ℕ) (ch : Source E.Ext) (claims�
   pub logs : length lg ≡ length lg₀
 
 -- from round 0 on
-abbrev pub RootEnd : (bs pt' lg lg' : List ℕ) (ch : Source E.Ext) (polys n : ℕ) (pos : Pos) (r : Advance) → Type 0
+abbrev pub RootEnd : (bs pt' lg lg' : List ℕ) (ch : Source E.Ext) (polys n : ℕ) (pos : Pos) (r : Result Layer Stopped) → Type 0
 RootEnd bs pt' lg lg' ch polys n pos r =
     Ends lg lg' pt' ch pos n
     (Gkr.root Extension (Drawing ch) (dec (elem (drop 5 bs))) (dec_claims (claims_of (drop 22 bs))) (map dec_claims (claims_from (n - 1) (drop 86 bs))) (map (map dec_cubic) (entries_from (n - 1) (drop polys bs))) (log_of lg pos))

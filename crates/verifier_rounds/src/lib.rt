@@ -17,7 +17,7 @@ ghost use Rattle.verifier_rounds.specs.Runs.{Summed, RoundDone, Readable, Space,
 
 use refusal::Refusal;
 use transcript::Pos;
-use verifier_round::{Advance, Layer, Sums};
+use verifier_round::{Advance, Layer, Opened, Stopped, Sums};
 
 // One sub-round, whose message stands at a place of the proof.
 fn sub_round_at(
@@ -57,10 +57,8 @@ pub fn verify_gkr_sumcheck(
         (source first.pos.drawn challenges.now) from round first result }
 {
     let mut s = first;
-    let mut at = from;
     for j in 0..round {
-        s = sub_round_at(proof, at, point, j, log, lanes, challenges, s);
-        at += 48;
+        s = sub_round_at(proof, from + 48 * j, point, j, log, lanes, challenges, s);
     }
     s
 }
@@ -84,20 +82,17 @@ pub fn verify_round(
     ensures { RoundDone proof.now point.old point.new log.old log.new lanes.old lanes.new
         (source s.pos.drawn challenges.now) claims polys round s result }
 {
-    let subrounds = wire::wide(proof[polys]) as usize;
-    let o = verifier_round::open_layer(point, log, lanes, challenges, s);
-    let lambda = o.lambda;
-    let first = o.first;
+    let subrounds = usize::from(proof[polys]);
+    let Opened { lambda, first } = verifier_round::open_layer(point, log, lanes, challenges, s);
     if subrounds != round {
-        let pos = first.pos;
-        return Advance::Stopped {
+        return Err(Stopped {
             refusal: Refusal::IncorrectSubroundCount {
                 round,
                 expected: round,
                 actual: subrounds,
             },
-            pos,
-        };
+            pos: first.pos,
+        });
     }
     let last = verify_gkr_sumcheck(
         proof,
@@ -135,18 +130,11 @@ pub fn verify_rounds(
     let mut c = claims;
     let mut p = polys;
     for round in 1..rounds {
-        match verify_round(proof, c, p, round, point, log, lanes, challenges, s) {
-            Advance::Next(t) => {
-                s = t;
-            }
-            Advance::Stopped { refusal, pos } => {
-                return Advance::Stopped { refusal, pos };
-            }
-        }
+        s = verify_round(proof, c, p, round, point, log, lanes, challenges, s)?;
         c += 64;
         p += 1 + 48 * round;
     }
-    Advance::Next(s)
+    Ok(s)
 }
 
 // Round 0 and all after it, from where the log stands.
@@ -168,10 +156,6 @@ pub fn verify_all(
 {
     let q0 = wire::element_at(proof, 5);
     let c = stored::read_claims(proof, 22);
-    match verifier_round::verify_root(q0, c, point, log, lanes, challenges, pos) {
-        Advance::Next(s) => verify_rounds(
-            proof, 86, polys, rounds, point, log, lanes, challenges, s,
-        ),
-        Advance::Stopped { refusal, pos } => Advance::Stopped { refusal, pos },
-    }
+    let s = verifier_round::verify_root(q0, c, point, log, lanes, challenges, pos)?;
+    verify_rounds(proof, 86, polys, rounds, point, log, lanes, challenges, s)
 }

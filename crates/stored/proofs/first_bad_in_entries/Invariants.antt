@@ -1,11 +1,8 @@
-use mathlib.Core.Path.{◌≡◌, refl, sym, ◌∙◌, ap}
-use Prim.Native.Nat.{ℕ, ◌+◌, ◌*◌, ◌-◌, ◌≤◌, ◌<◌}
-use lib.ListN.{length, get_or, drop}
+use Prim.Native.Nat.{◌-◌, ◌≤◌}
+use lib.ListN.{drop}
 use Rattle.stored.specs.Layout.{polys_words}
 use Rattle.stored.specs.Parse.{entries_from}
-use Rattle.stored.proofs.SearchLaws.{Outer, Inner, outer_start, enter, here, turn, hit, at_most, leave, finish}
-use borrow.Author.Rules.{rules}
-use native.Mathlib.Omega.{arith}
+use Rattle.stored.proofs.SearchLaws.{Outer, Inner}
 use Rattle.stored.proofs.first_bad_in_entries.Given as goal
 
 abbrev pub invariant-loop-j : goal.invariant-loop-j

@@ -1,11 +1,4 @@
-use mathlib.Core.Path.{◌≡◌, refl, sym, ◌∙◌, ap}
-use Prim.Native.Nat.{ℕ, ◌+◌, ◌*◌, ◌-◌, ◌≤◌, ◌<◌}
-use lib.ListN.{length, get_or, drop}
-use Rattle.stored.specs.Layout.{polys_words}
-use Rattle.stored.specs.Parse.{entries_from}
 use Rattle.stored.proofs.SearchLaws.{bad_root, bad_claim, bad_entry, entries_room}
-use native.Mathlib.Omega.{arith}
-use borrow.Author.Rules.{rules}
 use Rattle.stored.proofs.first_bad_in_proof.Goals as goal
 
 pub returns-then-root-lt4 : goal.returns-then-root-lt4

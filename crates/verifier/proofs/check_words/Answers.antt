@@ -1,5 +1,4 @@
 use Rattle.verifier.proofs.GateLaws.{words_shut, needs_shut, words_open}
-use borrow.Author.Rules.{rules}
 use Rattle.verifier.proofs.check_words.Goals as goal
 
 pub returns-then-place-word_count : goal.returns-then-place-word_count

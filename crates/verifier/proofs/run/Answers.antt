@@ -8,7 +8,6 @@ use Rattle.verifier.specs.Verified.{asked, lent}
 use Rattle.verifier.proofs.GateLaws.{passes}
 use Rattle.verifier.proofs.EndLaws.{ready_of, point_fits, ended_is, run_is}
 use native.Mathlib.Omega.{arith}
-use borrow.Author.Rules.{rules}
 use Rattle.verifier.proofs.run.Goals as goal
 
 pub needed_words-needs-requires : goal.needed_words-needs-requires

@@ -2,7 +2,6 @@ use mathlib.Core.Path.{refl, ap}
 use mathlib.Core.List.{[]}
 use Rattle.transcript.specs.Source.{source}
 use Rattle.verifier.proofs.CountLaws.{layers_stop, polys_stop, root_counted, ready_there, ready_read, ready_size, ready_space, ready_q0, ready_claims}
-use borrow.Author.Rules.{rules}
 use Rattle.verifier.proofs.verify_counted.Goals as goal
 
 pub returns-then-layers-rounds : goal.returns-then-layers-rounds

@@ -2,18 +2,9 @@ use mathlib.Core.Bool.{not}
 use mathlib.Core.Path.{ap}
 use Rattle.stored.specs.Shapes.{claims_in}
 use Rattle.verifier_round.specs.Values.{dec_claims}
-use Rattle.transcript.proofs.Logs.{enough_after}
 use Rattle.verifier_round.proofs.Alike.{descended_alike}
 use Rattle.verifier_round.proofs.Ends.{closed_go, closed_stop}
-use native.Mathlib.Omega.{arith}
-use borrow.Author.Rules.{rules}
 use Rattle.verifier_round.proofs.close_layer.Goals as goal
-
-pub descend-requires : goal.descend-requires
-descend-requires c = let p = c.requires in
-    let o = c.observe_layer_claims-end in
-    let s = o.ensures c.args.lanes.now in
-    record { room = (p.room.0, omega (arith, p.room.1, o.auto, s.put), enough_after 1 (omega arith) (omega arith) s p.room.2); clean = (p.clean.0, p.clean.1) }
 
 pub returns-then-not-same_words : goal.returns-then-not-same_words
 returns-then-not-same_words c = closed_stop _ _ _ _ (dec_claims (claims_in c.args.c)) c.args.round c.args.lambda c.args.s c.expected_claim-expected.result _ c.same_words.result c.expected_claim-expected.ensures c.requires.clean.2.claim c.same_words.ensures (ap not c.if-not-same_words.true) (c.observe_layer_claims-end.ensures c.args.lanes.now) c.requires.room.1

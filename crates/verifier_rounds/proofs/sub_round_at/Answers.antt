@@ -1,5 +1,4 @@
 use Rattle.verifier_rounds.proofs.SubLaws.{cubic_told, told_again}
-use borrow.Author.Rules.{rules}
 use Rattle.verifier_rounds.proofs.sub_round_at.Goals as goal
 
 pub sub_round-requires : goal.sub_round-requires

@@ -1,9 +1,6 @@
-use Rattle.transcript.specs.Source.{source}
 use Rattle.verifier_rounds.proofs.Alike.{round_done_alike}
 use Rattle.verifier_rounds.proofs.GoingLaws.{going_start, next_read, next_room, going_stop, going_next, space_next, going_end}
-use Rattle.verifier_rounds.specs.Runs.{Going, Space}
-use Prim.Native.Nat.{◌-◌}
-use borrow.Author.Rules.{rules}
+use Rattle.std.proofs.lemmas.Result.{err_from_is_err_and}
 use native.Mathlib.Omega.{arith}
 use Rattle.verifier_rounds.proofs.verify_rounds.Goals as goal
 
@@ -18,14 +15,9 @@ verify_round-requires c = let p = c.requires in
     let q = next_room _ _ _ _ _ _ _ _ _ _ _ _ _ _ i c.loop-round.invariant.1 t in
     record { read = (r.claims_there, r.entry_there); room = (omega (arith, p.room, i.points, t), q.put, q.enough); clean = (i.clean, i.numer, i.denom); words = (r.claims_canon, r.entry_canon) }
 
-pub shape_of-point-in-Stopped : goal.shape_of-point-in-Stopped
-shape_of-point-in-Stopped c = omega (arith, c.verify_round.auto, c.loop-round.invariant.0.points)
-
-pub shape_of-log-in-Stopped : goal.shape_of-log-in-Stopped
-shape_of-log-in-Stopped c = omega (arith, c.verify_round.auto, c.loop-round.invariant.0.logs)
-
-pub returns-in-Stopped : goal.returns-in-Stopped
-returns-in-Stopped c = going_stop _ _ _ _ _ _ _ _ _ _ _ _ _ _ c.loop-round.invariant.0 _ _ _ c.loop-round-test.true (round_done_alike c.args.challenges.now c.loop-round.invariant.0.drawn c.verify_round.ensures) _ _ c.in-Stopped.is
+pub returns-in_err-s : goal.returns-in_err-s
+returns-in_err-s c = let p = err_from_is_err_and c.from_residual.result c.from_residual.ensures.1 in
+    rw (p.1, p.2) (going_stop _ _ _ _ _ _ _ _ _ _ _ _ _ _ c.loop-round.invariant.0 _ _ _ c.loop-round-test.true (round_done_alike c.args.challenges.now c.loop-round.invariant.0.drawn c.verify_round.ensures) _ c.in_err-s.was)
 
 pub overflow_add-c : goal.overflow_add-c
 overflow_add-c c = let r = next_read _ _ _ _ _ _ _ _ _ _ _ _ _ _ c.loop-round.invariant.0 c.loop-round-test.true in
@@ -33,33 +25,21 @@ overflow_add-c c = let r = next_read _ _ _ _ _ _ _ _ _ _ _ _ _ _ c.loop-round.in
 
 pub overflow_mul-p : goal.overflow_mul-p
 overflow_mul-p c = let r = next_read _ _ _ _ _ _ _ _ _ _ _ _ _ _ c.loop-round.invariant.0 c.loop-round-test.true in
-    omega (arith, r.entry_there, c.verify_round.ensures.counted _ c.in-Next.is, c.well_formed)
+    omega (arith, r.entry_there, c.verify_round.ensures.counted _ c.in_ok-s.was, c.well_formed)
 
 pub overflow_add-p : goal.overflow_add-p
 overflow_add-p c = let r = next_read _ _ _ _ _ _ _ _ _ _ _ _ _ _ c.loop-round.invariant.0 c.loop-round-test.true in
-    omega (arith, r.entry_there, c.verify_round.ensures.counted _ c.in-Next.is, c.well_formed)
+    omega (arith, r.entry_there, c.verify_round.ensures.counted _ c.in_ok-s.was, c.well_formed)
 
 pub overflow_add-p-in-loop-round : goal.overflow_add-p-in-loop-round
 overflow_add-p-in-loop-round c = let r = next_read _ _ _ _ _ _ _ _ _ _ _ _ _ _ c.loop-round.invariant.0 c.loop-round-test.true in
-    omega (arith, r.entry_there, c.verify_round.ensures.counted _ c.in-Next.is, c.well_formed)
-
-pub overflow_step-round : goal.overflow_step-round
-overflow_step-round c = omega (arith, c.loop-round-test.true, c.requires.room, c.well_formed)
-
-pub loop-round-smaller : goal.loop-round-smaller
-loop-round-smaller c = omega (arith, c.loop-round-test.true)
+    omega (arith, r.entry_there, c.verify_round.ensures.counted _ c.in_ok-s.was, c.well_formed)
 
 pub loop-round-preserved : goal.loop-round-preserved
 loop-round-preserved c = (
-  going_next _ _ _ _ _ _ _ _ _ _ _ _ _ _ c.loop-round.invariant.0 _ _ _ c.loop-round-test.true (round_done_alike c.args.challenges.now c.loop-round.invariant.0.drawn c.verify_round.ensures) _ c.in-Next.is c.verify_round.auto.point c.verify_round.auto.log,
-  space_next _ _ _ _ _ _ _ _ _ _ _ _ _ _ c.loop-round.invariant.0 _ _ _ c.loop-round-test.true (round_done_alike c.args.challenges.now c.loop-round.invariant.0.drawn c.verify_round.ensures) _ c.in-Next.is c.verify_round.auto.log c.loop-round.invariant.1,
+  going_next _ _ _ _ _ _ _ _ _ _ _ _ _ _ c.loop-round.invariant.0 _ _ _ c.loop-round-test.true (round_done_alike c.args.challenges.now c.loop-round.invariant.0.drawn c.verify_round.ensures) _ c.in_ok-s.was c.verify_round.auto.point c.verify_round.auto.log,
+  space_next _ _ _ _ _ _ _ _ _ _ _ _ _ _ c.loop-round.invariant.0 _ _ _ c.loop-round-test.true (round_done_alike c.args.challenges.now c.loop-round.invariant.0.drawn c.verify_round.ensures) _ c.in_ok-s.was c.verify_round.auto.log c.loop-round.invariant.1,
 )
-
-pub shape_of-point : goal.shape_of-point
-shape_of-point c = c.loop-round.invariant.0.points
-
-pub shape_of-log : goal.shape_of-log
-shape_of-log c = c.loop-round.invariant.0.logs
 
 pub returns : goal.returns
 returns c = going_end _ _ _ _ _ _ _ _ _ _ _ _ _ _ c.loop-round.invariant.0 c.loop-round.invariant.1 c.loop-round-test.false

@@ -1,10 +1,6 @@
 use Rattle.transcript.specs.Source.{source}
-use Rattle.verifier_rounds.proofs.Alike.{round_done_alike}
-use Rattle.verifier_rounds.proofs.GoingLaws.{going_start, next_read, next_room, going_stop, going_next, space_next, going_end}
 use Rattle.verifier_rounds.specs.Runs.{Going, Space}
 use Prim.Native.Nat.{◌-◌}
-use borrow.Author.Rules.{rules}
-use native.Mathlib.Omega.{arith}
 use Rattle.verifier_rounds.proofs.verify_rounds.Given as goal
 
 abbrev pub invariant-loop-round : goal.invariant-loop-round
