@@ -1,4 +1,3 @@
 -- The laws of the text.
 pub mod Scanning
-pub mod Composing
 pub mod Listing
