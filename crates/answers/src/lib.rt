@@ -3,6 +3,7 @@
 
 use field::Ext;
 use std::fmt;
+use std::fmt::Display;
 use step::Frac;
 
 pub mod counting; // the challenges of a run to which none are given
@@ -11,7 +12,7 @@ pub mod counting; // the challenges of a run to which none are given
 #[derive(Clone, Copy)]
 struct Whole(Ext);
 
-impl fmt::Display for Whole {
+impl Display for Whole {
     fn fmt<W: fmt::Write>(&self, f: &mut fmt::Formatter<W>) -> fmt::Result {
         let Ext { c0, c1, c2, c3 } = self.0;
         write!(f, "{c0},{c1},{c2},{c3}")
@@ -26,7 +27,7 @@ pub struct Proved {
     pub sum: Frac,
 }
 
-impl fmt::Display for Proved {
+impl Display for Proved {
     fn fmt<W: fmt::Write>(&self, f: &mut fmt::Formatter<W>) -> fmt::Result {
         writeln!(f, "rows {}", self.rows)?;
         writeln!(f, "rounds {}", self.rounds)?;
@@ -42,7 +43,7 @@ pub struct Accepted<'a> {
     pub rounds: usize,
 }
 
-impl fmt::Display for Accepted<'_> {
+impl Display for Accepted<'_> {
     fn fmt<W: fmt::Write>(&self, f: &mut fmt::Formatter<W>) -> fmt::Result {
         writeln!(f, "verdict 0")?;
         writeln!(f, "numer {}", Whole(self.stated.p))?;
@@ -54,4 +55,9 @@ impl fmt::Display for Accepted<'_> {
         }
         Ok(())
     }
+}
+
+// A line, to standard output. Where that fails nothing is told, and the work goes on.
+pub fn say(rt: &impl Print, line: impl Display + Drop) {
+    let _ = rt.println(line);
 }

@@ -9,23 +9,17 @@ use lib.Seq.{length-take-le, take_at}
 use Rattle.field.specs.Cells.{Clean}
 use Rattle.io.specs.Counts.{IsPrefixLen}
 use Rattle.wire.specs.WordLaws.{canonical_below}
-use Rattle.stored_sheet.specs.declared.SheetAnswer.{SheetAnswer}
-use Rattle.stored_sheet.specs.declared.SheetAnswer.TheVariants.{Done}
+use Rattle.std.specs.Prelude.{Result, Ok}
+use Rattle.refusal.specs.declared.Refusal.{Refusal}
 use Rattle.stored_sheet.specs.Sheet.{row_words}
 use Rattle.stored_sheet.specs.SheetReads.{SheetEnd, sheet_read}
 use Rattle.stored_sheet.proofs.SheetLaws.{is_read, read_front, read_long, read_most, read_fits}
-use Rattle.sheet_text.specs.declared.ListAnswer.{ListAnswer}
-use Rattle.sheet_text.specs.declared.ListAnswer.TheVariants as Ends
-use Rattle.sheet_text.specs.Reading.{Within}
 use Rattle.command_files.specs.Rows.{Rows}
 
 pub counts : (r : ℕ) (ws : List ℕ) → r ≤ length ws → IsPrefixLen r ws
 counts r ws h = (h, sym (length-take-le r ws h))
 
-pub list_counts : (r : ListAnswer) (k : ℕ) (ws : List ℕ) → Within r ws → r ≡ Ends.Done k → IsPrefixLen k ws
-list_counts r k ws h e = counts k ws (subst (λ (x : ListAnswer). Within x ws) e h)
-
-pub read_rows : (bs old new : List ℕ) (n : ℕ) {r : SheetAnswer} → ◌≡◌ {A = SheetEnd} (record { answer = r; buffer = new }) (sheet_read bs old) → r ≡ Done n → Rows (8 * n) new
+pub read_rows : (bs old new : List ℕ) (n : ℕ) {r : Result ℕ Refusal} → ◌≡◌ {A = SheetEnd} (record { answer = r; buffer = new }) (sheet_read bs old) → r ≡ Ok n → Rows (8 * n) new
 read_rows bs old new n e d =
     let front : take (8 * n) new ≡ row_words bs =
     ap (take (8 * n)) (read_front bs old new n e d) ∙ take_at (row_words bs) (drop (length (row_words bs)) old) (8 * n) (read_long bs old new n e d) in

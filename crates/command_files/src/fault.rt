@@ -1,8 +1,9 @@
 // Why a command stops, and how that is told.
 use crate::system::tell;
+use answers::say;
 use command_text::refusals::Refused;
-use command_text::{say, say_of_file};
 use refusal::Refusal;
+use std::fmt::Display;
 use std::io::Error;
 
 // What the system did not do at a name, a refusal, a line of a text that is none of its kind, a file with more than is read of it, and a log of so many bytes that are no words.
@@ -32,6 +33,18 @@ impl From<Refusal> for Fault<'_> {
     fn from(refusal: Refusal) -> Self {
         Fault::Refused(refusal)
     }
+}
+
+// The line of a refusal that names a file, by the bytes of its name, which need be no text: what stands before the name, and after it.
+fn say_of_file(
+    rt: &impl Print,
+    before: impl Display + Drop,
+    path: &[u8],
+    after: impl Display + Drop,
+) {
+    let _ = print!(rt; "refused: {before}");
+    let _ = rt.write_all(path);
+    say(rt, after);
 }
 
 impl Fault<'_> {

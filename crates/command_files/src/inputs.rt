@@ -10,19 +10,16 @@ ghost use Rattle.command_files.specs.Given.{rows_of, elements_of, sheet_given, e
 use crate::fault::Fault;
 use crate::{Input, read};
 use refusal::Refusal;
-use sheet_text::ListAnswer;
+use sheet_text::ListError;
 use sheet_text::list::read_list;
 use std::rt::Files;
-use stored_sheet::SheetAnswer;
 
 fn rows_of<'a>(sheet: &[u8], rows: &mut [u32]) -> Result<usize, Fault<'a>>
     ensures rows { IfOk result (λ n. Rows n rows.new) }
     ensures given { record { given = result_ok result; words = rows.new } ≡ rows_of (sheet_read sheet.now rows.old) }
 {
-    match stored_sheet::read_sheet(sheet, rows) {
-        SheetAnswer::Done(count) => Ok(8 * count),
-        SheetAnswer::Refused(refusal) => Err(Fault::Refused(refusal)),
-    }
+    let count = stored_sheet::read_sheet(sheet, rows)?;
+    Ok(8 * count)
 }
 
 // The rows of the sheet in a file. More bytes than those of 1,024 rows are refused as too many rows.
@@ -42,9 +39,9 @@ fn elements_of<'a>(path: &'a [u8], text: &[u8], words: &mut [u32]) -> Result<usi
     ensures given { record { given = result_ok result; words = words.new } ≡ elements_of (list_read false text.now words.old) }
 {
     match read_list(text, words, false) {
-        ListAnswer::Done(count) => Ok(count),
-        ListAnswer::Full(_) => Ok(words.len()),
-        ListAnswer::Malformed(line) => Err(Fault::BadLine {
+        Ok(count) => Ok(count),
+        Err(ListError::Full(_)) => Ok(words.len()),
+        Err(ListError::Malformed(line)) => Err(Fault::BadLine {
             path,
             line,
             kind: "an element",

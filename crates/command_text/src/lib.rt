@@ -55,20 +55,3 @@ impl Display for Fraction {
         write!(f, "{}/{}", Short(self.0.p), Short(self.0.q))
     }
 }
-
-// A line, to standard output. Where that fails nothing is told, and the work goes on.
-pub fn say(rt: &impl Print, line: impl Display + Drop) {
-    let _ = rt.println(line);
-}
-
-// The line of a refusal that names a file, by the bytes of its name, which need be no text: what stands before the name, and after it.
-pub fn say_of_file(
-    rt: &impl Print,
-    before: impl Display + Drop,
-    name: &[u8],
-    after: impl Display + Drop,
-) {
-    let _ = print!(rt; "refused: {before}");
-    let _ = rt.write_all(name);
-    let _ = rt.println(after);
-}

@@ -1,8 +1,8 @@
 // The words of each refusal: `refused`, its number, its name, and what it means.
 use crate::bad_words::BadWord;
-use crate::{Short, log_places, places, say_of_file};
+use crate::{Short, log_places, places};
 use field::Ext;
-use refusal::Refusal;
+use refusal::{Refusal, Report};
 use std::fmt;
 
 // What was expected and what is there.
@@ -157,7 +157,7 @@ pub struct Refused(pub Refusal);
 
 impl fmt::Display for Refused {
     fn fmt<W: fmt::Write>(&self, f: &mut fmt::Formatter<W>) -> fmt::Result {
-        let number = refusal::number_and_fields(self.0).number;
+        let number = Report::from(self.0).number;
         write!(f, "refused {number} {}", Meaning(self.0))
     }
 }
@@ -197,14 +197,4 @@ impl fmt::Display for Named<'_> {
             "refused 6 BadWord: {word}, counted from 0, is not below 2013265921"
         )
     }
-}
-
-// A text that is no list of the kind that was asked for: its name, and the number of the line.
-pub fn say_bad_line(rt: &impl Print, text: &[u8], line: usize, kind: &str) {
-    say_of_file(
-        rt,
-        format_args!("line {line} of "),
-        text,
-        format_args!(" is not {kind}"),
-    );
 }
