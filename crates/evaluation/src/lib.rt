@@ -2,7 +2,6 @@
 #![tactic(auto)]
 
 ghost use Rattle.std.specs.Prelude.{◌≡◌};
-ghost use Rattle.evaluation.specs.declared.Evaluation.TheVariants.{Done};
 ghost use Rattle.evaluation.specs.Evaluated.{evaluated};
 ghost use Rattle.evaluation.specs.Report.{evaluation_report};
 
@@ -12,70 +11,66 @@ use step::Frac;
 
 pub mod halves; // both values, by halves of the rows
 
-// Done tells n, and the values of the columns p and q.
+// The sum of no rows.
+const EMPTY_SUM: Frac = Frac {
+    p: Ext::ZERO,
+    q: Ext::ONE,
+};
+
+// n, and the values of the columns p and q.
 #[derive(Clone, Copy)]
-pub enum Evaluation {
-    Done {
-        rounds: usize,
-        numer: Ext,
-        denom: Ext,
-    },
-    Refused(Refusal),
+pub struct Values {
+    pub rounds: usize,
+    pub numer: Ext,
+    pub denom: Ext,
 }
 
-// n, and both values.
-fn done(rounds: usize, value: Frac) -> Evaluation
-    ensures { result ≡ Done rounds value.p value.q }
-{
-    let numer = value.p;
-    let denom = value.q;
-    Evaluation::Done {
-        rounds,
-        numer,
-        denom,
-    }
-}
+// The values, or the first refusal that fits.
+pub type Evaluation = Result<Values, Refusal>;
 
 // Both columns of the rows at the point: row words, eight a row, and the point's words, four a round.
+#[tactic(auto, using(wire::specs::WordLaws::none_canonical, wire::specs::WordLaws::some_bad), unfolding(crate::specs::Evaluated::evaluated, refusal::specs::Tests::first_of))]
 pub fn evaluate(rows: &[u32], point: &[u32]) -> Evaluation
     ensures { result ≡ evaluated rows.now point.now }
 {
     let count = rows.len() / 8;
     if rows.len() % 8 != 0 {
-        return Evaluation::Refused(Refusal::RaggedRows);
+        return Err(Refusal::RaggedRows);
     }
     if refusal::MAX_ROWS < count {
-        return Evaluation::Refused(Refusal::TooManyRows);
+        return Err(Refusal::TooManyRows);
     }
     if !sizes::is_size(count) {
-        return Evaluation::Refused(Refusal::NotPowerOfTwo);
+        return Err(Refusal::NotPowerOfTwo);
     }
     let n = sizes::least_size(count).n;
     if point.len() != 4 * n {
-        return Evaluation::Refused(Refusal::BadLength);
+        return Err(Refusal::BadLength);
     }
     let place = wire::first_bad_word(rows);
     if place < rows.len() {
-        return Evaluation::Refused(Refusal::BadWord {
+        return Err(Refusal::BadWord {
             place,
             list: Words::Rows,
         });
     }
     let place = wire::first_bad_word(point);
     if place < point.len() {
-        return Evaluation::Refused(Refusal::BadWord {
+        return Err(Refusal::BadWord {
             place,
             list: Words::Point,
         });
     }
-    if count == 0 {
-        return Evaluation::Done {
-            rounds: 0,
-            numer: Ext::ZERO,
-            denom: Ext::ONE,
-        };
-    }
-    done(n, halves::eval_rows_by_halves(rows, point, n))
+    let value = if count == 0 {
+        EMPTY_SUM
+    } else {
+        halves::eval_rows_by_halves(rows, point, n)
+    };
+    Ok(Values {
+        rounds: n,
+        numer: value.p,
+        denom: value.q,
+    })
 }
 
 // The answer as document 01 has it: its number, and its values.
@@ -83,11 +78,7 @@ pub fn number_and_values(answer: Evaluation) -> Report
     ensures { result ≡ evaluation_report answer }
 {
     match answer {
-        Evaluation::Done {
-            rounds,
-            numer,
-            denom,
-        } => refusal::done(rounds, numer, denom),
-        Evaluation::Refused(r) => refusal::number_and_fields(r),
+        Ok(values) => refusal::done(values.rounds, values.numer, values.denom),
+        Err(refusal) => refusal::number_and_fields(refusal),
     }
 }
