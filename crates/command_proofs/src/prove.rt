@@ -20,7 +20,7 @@ fn proof_length(rounds: usize) -> usize {
 
 // What `prove` is asked: the names of its files and the modes.
 #[derive(Clone, Copy)]
-struct Prove<'a> {
+struct Asked<'a> {
     sheet: &'a [u8],
     proof: &'a [u8],
     challenges: &'a [u8],
@@ -28,7 +28,7 @@ struct Prove<'a> {
     log: &'a [u8],
 }
 
-impl<'a> Prove<'a> {
+impl<'a> Asked<'a> {
     // The rows of the sheet, over lent challenges. Where the proof gets no file nothing else is kept or told.
     fn run(
         self,
@@ -81,7 +81,7 @@ pub fn prove(
     modes: Proving,
     log: &[u8],
 ) {
-    let asked = Prove {
+    let asked = Asked {
         sheet,
         proof,
         challenges,

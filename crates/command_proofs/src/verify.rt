@@ -13,7 +13,7 @@ use verifier_round::Claims;
 
 // What `verify` is asked: the names of its files, the rounds and the modes.
 #[derive(Clone, Copy)]
-struct Verify<'a> {
+struct Asked<'a> {
     proof: &'a [u8],
     rounds: usize,
     modes: Verifying,
@@ -22,7 +22,7 @@ struct Verify<'a> {
     log: &'a [u8],
 }
 
-impl<'a> Verify<'a> {
+impl<'a> Asked<'a> {
     // The bytes of the proof, over lent challenges.
     fn run(
         self,
@@ -30,7 +30,7 @@ impl<'a> Verify<'a> {
         proof: &[u8],
         challenges: &[u32],
     ) -> Result<(), Fault<'a>> {
-        let Verify { rounds, modes, .. } = self;
+        let Asked { rounds, modes, .. } = self;
         let mut point = [0u32; 40];
         let mut log = [0u32; 964];
         let verified = verifier::verify_gkr(proof, rounds, modes, challenges, &mut point, &mut log);
@@ -90,7 +90,7 @@ pub fn verify(
     sheet: &[u8],
     log: &[u8],
 ) {
-    let asked = Verify {
+    let asked = Asked {
         proof,
         rounds,
         modes,
