@@ -7,20 +7,22 @@ ghost use Rattle.field.specs.Cells.{cell, Clean, Stored};
 
 mod words; // sums, differences and products of words
 pub mod sums; // two products of elements, added before they are reduced
+mod elements; // Field: what both types have
 mod base_field; // Base: the public operations
-mod constants; // the constants, and which element each is
+mod constants; // the prime
 mod inner; // Ext: the operations on canonical words
 mod extension; // Ext: the public operations
-mod tests; // Ext: equality, zero, canonical
+
+pub use elements::Field;
 
 // An element of the base field: the remainder of its word.
-#[derive(Clone, Copy)]
+#[derive(Clone, Copy, PartialEq, Eq)]
 pub struct Base {
     pub value: u32,
 }
 
 // An element of the extension: c0 + c1·x + c2·x² + c3·x³, each word by its remainder.
-#[derive(Clone, Copy)]
+#[derive(Clone, Copy, PartialEq, Eq)]
 pub struct Ext {
     pub c0: u32,
     pub c1: u32,

@@ -94,8 +94,8 @@ fn rise_entry(work: &mut [u32], pq: usize, y: usize)
     let a = load_pair(work, pq, 2 * y);
     let b = load_pair(work, pq, i);
     let d = Pair {
-        l: step::pair_minus(b.l, a.l),
-        r: step::pair_minus(b.r, a.r),
+        l: b.l.zip(a.l, Ext::minus),
+        r: b.r.zip(a.r, Ext::minus),
     };
     store_pair(work, pq, i, d);
 }

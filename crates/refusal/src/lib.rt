@@ -6,7 +6,7 @@ ghost use Rattle.refusal.specs.Limits.{max_rounds, max_rows};
 ghost use Rattle.refusal.specs.Numbers.{plain, elements, report_of};
 ghost use Rattle.refusal.specs.Powers.{power_of_two};
 
-use field::Ext;
+use field::{Ext, Field};
 
 // The most rounds, and so the most rows, that a call takes.
 pub const MAX_ROUNDS: usize = 10;
@@ -156,7 +156,7 @@ pub fn done(first: usize, left: Ext, right: Ext) -> Report
     elements(0, first, left, right)
 }
 
-// Each refusal's number and fields.
+// A refusal's number, and its fields, zero where there are none.
 impl From<Refusal> for Report {
     ghost from_gives = { λ refusal report. report ≡ report_of refusal };
 

@@ -1,7 +1,7 @@
 -- The answers of the rows' checks, and the bytes of a sheet one after the other.
 -- Assumes nothing.
 use Rattle.std.specs.Prelude.{◌≡◌, Ok, Err, Some, None, List, [], ◌∷◌, ◌++◌, ℕ, ◌+◌, ◌*◌, ◌-◌, ◌/◌, ◌%◌, ◌<◌, ◌≤◌, length, get_or, drop}
-use Rattle.std.proofs.Common.{sym, ◌∙◌, ap, add-one, arith, eq-eqb, ne_eqb, length-drop, drop_of_length-le, drop-cons}
+use Rattle.std.proofs.Common.{sym, ◌∙◌, ap, ap₂, subst, add-one, arith, eq-eqb, ne_eqb, length-drop, drop_of_length-le, drop-cons}
 use Rattle.refusal.specs.Tests.{passed, refused, first_of}
 use Rattle.refusal.specs.declared.Refusal.{Refusal}
 use Rattle.refusal.specs.declared.Refusal.TheVariants.{RaggedRows, BadWord}
@@ -50,13 +50,13 @@ words_over ws i h = ap bytes_of (drop_of_length-le ws h)
 pub words_left : (ws : List ℕ) (i : ℕ) → length (bytes_of (drop i ws)) ≡ 4 * (length ws - i)
 words_left ws i = bytes_length (drop i ws) ∙ ap (λ n. 4 * n) (length-drop i ws)
 
-pub sheet_put : (ws l0 l1 l2 l3 l4 : List ℕ) (a b c d : ℕ) → Wrote l0 l1 0 a (1 ∷ []) → Wrote l1 l2 a b (length ws / 8 / 256 ∷ []) → Wrote l2 l3 b c (length ws / 8 % 256 ∷ [])
-    → Wrote l3 l4 c d (bytes_of ws) → Wrote l0 l4 0 d (sheet ws)
+pub sheet_put : (ws l0 l1 l2 l3 l4 : List ℕ) (high low a b c d : ℕ) → high ≡ length ws / 8 / 256 → low ≡ length ws / 8 % 256
+    → Wrote l0 l1 0 a (1 ∷ []) → Wrote l1 l2 a b (high ∷ []) → Wrote l2 l3 b c (low ∷ []) → Wrote l3 l4 c d (bytes_of ws) → Wrote l0 l4 0 d (sheet ws)
 unfolding sheet
-sheet_put ws l0 l1 l2 l3 l4 a b c d p q r s =
-    let x = wrote_then l0 l1 l2 0 a b (1 ∷ []) (length ws / 8 / 256 ∷ []) p q in
-    let y = wrote_then l0 l2 l3 0 b c (1 ∷ length ws / 8 / 256 ∷ []) (length ws / 8 % 256 ∷ []) x r in
-    wrote_then l0 l3 l4 0 c d (1 ∷ length ws / 8 / 256 ∷ length ws / 8 % 256 ∷ []) (bytes_of ws) y s
+sheet_put ws l0 l1 l2 l3 l4 high low a b c d h l p q r s =
+    let x = wrote_then l0 l1 l2 0 a b (1 ∷ []) (high ∷ []) p q in
+    let y = wrote_then l0 l2 l3 0 b c (1 ∷ high ∷ []) (low ∷ []) x r in
+    subst (λ k. Wrote l0 l4 0 d k) (ap₂ (λ (x y : ℕ). 1 ∷ x ∷ y ∷ bytes_of ws) h l) (wrote_then l0 l3 l4 0 c d (1 ∷ high ∷ low ∷ []) (bytes_of ws) y s)
 
 -- what the writer ends with
 module _ (ws old : List ℕ) (n : ℕ) (e : Ok n ≡ write_answer ws (length old)) where

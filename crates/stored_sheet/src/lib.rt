@@ -10,7 +10,7 @@ ghost use Rattle.stored_sheet.specs.Report.{sheet_report};
 ghost use Rattle.stored_sheet.specs.Sheet.{sheet};
 ghost use Rattle.stored_sheet.specs.SheetReads.{sized, read_answer, write_answer, sheet_read, sheet_written, sheet_end};
 
-use field::Ext;
+use field::{Ext, Field};
 use refusal::{Refusal, Report, Words};
 
 // The answer of reader or writer as document 01 has it: its number, and its values.
@@ -50,7 +50,7 @@ fn check_sheet(bytes: &[u8], room: usize) -> Result<usize, Refusal>
     ensures { result ≡ read_answer bytes.now room }
 {
     let count = match bytes {
-        [1, high, low, ..] => usize::from(*high) * 256 + usize::from(*low),
+        [1, high, low, ..] => usize::from(u16::from_be_bytes([*high, *low])),
         [1, ..] => return Err(Refusal::BadLength),
         _ => return Err(Refusal::BadVersion),
     };
@@ -77,7 +77,7 @@ fn copy_words(bytes: &[u8], rows: &mut [u32], n: usize)
     }
 }
 
-// The row count.
+// Reads a stored sheet into the rows; Ok has the row count.
 pub fn read_sheet(bytes: &[u8], rows: &mut [u32]) -> Result<usize, Refusal>
     ensures { record { answer = result; buffer = rows.new } ≡ sheet_read bytes.now rows.old }
 {
@@ -119,14 +119,14 @@ fn put_sheet(out: &mut [u8], rows: &[u32]) -> usize
     requires { (3 + 4 * length rows.now ≤ length out.old) × (length rows.now < 65536) }
     ensures { Wrote out.old out.new 0 result (sheet rows.now) }
 {
-    let count = rows.len() / 8;
+    let [high, low] = ((rows.len() / 8) as u16).to_be_bytes();
     let a = wire::put_byte(out, 0, 1);
-    let b = wire::put_byte(out, a, (count / 256) as u8);
-    let c = wire::put_byte(out, b, (count % 256) as u8);
+    let b = wire::put_byte(out, a, high);
+    let c = wire::put_byte(out, b, low);
     put_words(out, c, rows)
 }
 
-// The number of bytes.
+// Writes the rows as a stored sheet; Ok has the number of bytes.
 pub fn write_sheet(rows: &[u32], out: &mut [u8]) -> Result<usize, Refusal>
     ensures { record { answer = result; buffer = out.new } ≡ sheet_written rows.now out.old }
 {

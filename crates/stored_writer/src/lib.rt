@@ -11,7 +11,7 @@ ghost use Rattle.stored.specs.Layout.{cubic_words, claim_words, cubics_words, cl
 ghost use Rattle.stored.specs.Lengths.{proof_size};
 ghost use Rattle.stored_writer.specs.Messages.{stored_cubic, stored_claims, stored_polys, stored_layers, stored_entries, stored_proof, no_rows, words_of_log};
 
-use field::{Base, Ext};
+use field::{Base, Ext, Field};
 
 fn put_element(out: &mut [u8], at: usize, e: Ext) -> usize
     requires { at + 16 ≤ length out.old }
@@ -87,7 +87,7 @@ fn put_layers(out: &mut [u8], at: usize, log: &[u32], i: usize, n: usize) -> usi
     let mut c = i;
     for r in 1..n {
         p = put_claims(out, p, log, c + 1 + 4 * r);
-        c = c + 6 + 4 * r;
+        c += 6 + 4 * r;
     }
     p
 }
@@ -101,7 +101,7 @@ fn put_entries(out: &mut [u8], at: usize, log: &[u32], i: usize, n: usize) -> us
     let mut c = i;
     for r in 1..n {
         p = put_entry(out, p, log, c + 1, r);
-        c = c + 6 + 4 * r;
+        c += 6 + 4 * r;
     }
     p
 }
@@ -119,10 +119,7 @@ fn body_size(n: usize) -> u32
 fn version(sized: bool) -> u8
     ensures { result ≡ version_of sized }
 {
-    if sized {
-        return 2;
-    }
-    1
+    if sized { 2 } else { 1 }
 }
 
 // The version, and the length of what follows.

@@ -1,4 +1,4 @@
-use Rattle.std.proofs.Common.{◌*◌, ◌+◌, arith}
+use Rattle.std.proofs.Common.{arith}
 use Rattle.std.proofs.Math.ListN.{get_or-eq_default}
 use Rattle.std.proofs.lemmas.Result.{err_from_is_err_and}
 use Rattle.stored_sheet.proofs.SheetSteps.{count_read, no_version, wrong_length, read_refused, read_bad, read_all}
@@ -22,10 +22,10 @@ returns-then-bytes-count c = wrong_length c.args.bytes.now _ (omega arith) (λ e
 pub returns-in_err-check_size : goal.returns-in_err-check_size
 returns-in_err-check_size c =
     let p = err_from_is_err_and c.from_residual.result c.from_residual.ensures.1 in
-    rw (p.1, p.2) (read_refused c.args.bytes.now c.args.room (omega arith) (c.from.result * 256 + c.from-in-1.result) (omega (arith, count_read c.args.bytes.now)) (omega arith) _ c.in_err-check_size.ensures)
+    rw (p.1, p.2) (read_refused c.args.bytes.now c.args.room (omega arith) c.from-count.result (omega (arith, count_read c.args.bytes.now)) (omega arith) _ c.in_err-check_size.ensures)
 
 pub returns-in-Some : goal.returns-in-Some
-returns-in-Some c = read_bad c.args.bytes.now c.args.room (omega arith) (c.from.result * 256 + c.from-in-1.result) (omega (arith, count_read c.args.bytes.now)) (omega arith) _ c.in_ok-check_size.ensures c.in-Some.ensures
+returns-in-Some c = read_bad c.args.bytes.now c.args.room (omega arith) c.from-count.result (omega (arith, count_read c.args.bytes.now)) (omega arith) _ c.in_ok-check_size.ensures c.in-Some.ensures
 
 pub returns : goal.returns
-returns c = read_all c.args.bytes.now c.args.room (omega arith) (c.from.result * 256 + c.from-in-1.result) (omega (arith, count_read c.args.bytes.now)) (omega arith) c.in_ok-check_size.ensures c.in_default-first_bad_stored.ensures
+returns c = read_all c.args.bytes.now c.args.room (omega arith) c.from-count.result (omega (arith, count_read c.args.bytes.now)) (omega arith) c.in_ok-check_size.ensures c.in_default-first_bad_stored.ensures
