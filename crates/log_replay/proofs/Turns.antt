@@ -1,5 +1,6 @@
 -- One turn of a comparison of two logs, and its ends; and whether there is one.
 -- Assumes nothing.
+use Rattle.std.specs.Prelude.{Result, Err}
 use mathlib.Core.Path.{◌≡◌, sym, ◌∙◌, ap, ap₂}
 use mathlib.Core.Bool.{Bool, true, false, cond, ◌&&◌}
 use mathlib.Core.List.{List, ◌∷◌}
@@ -13,8 +14,7 @@ use lib.Seq.{drop-cons}
 use Rattle.refusal.specs.declared.Refusal.{Refusal}
 use Rattle.refusal.specs.declared.Refusal.TheVariants.{LogMismatch, LogShort, LogLong}
 use Rattle.refusal.specs.Numbers.{report_of}
-use Rattle.verifier_round.specs.declared.Verdict.{Verdict}
-use Rattle.verifier_round.specs.declared.Verdict.TheVariants.{Refused}
+use Rattle.verifier_round.specs.declared.Claims.{Claims}
 use Rattle.log_replay.specs.Replayed.{Compared, same, differs, compared, of_run}
 use Rattle.log_replay.specs.Inner.{gap}
 
@@ -58,11 +58,11 @@ module _ (given left : List ℕ) (i : ℕ) where
 -- WHETHER THE LOG IS LOOKED AT
 
 module _ (r : Refusal) {n : ℕ} (e : n ≡ (report_of r).number) where
-  pub before_run : n < 16 → of_run (Refused r) ≡ false
+  pub before_run : n < 16 → of_run (Err r) ≡ false
   before_run h = ap (λ t. t && leb (report_of r).number 19) (lt-leb 16 (report_of r).number (omega (arith, e, h)))
 
-  pub from_run : 16 ≤ n → of_run (Refused r) ≡ leb n 19
+  pub from_run : 16 ≤ n → of_run (Err r) ≡ leb n 19
   from_run h = ap₂ ◌&&◌ (le-leb 16 (report_of r).number (omega (arith, e, h))) (ap (λ m. leb m 19) (sym e))
 
-pub looked_at : (v : Verdict) (given left : List ℕ) {t : Bool} → t ≡ of_run v → t ≡ true → gap v given left ≡ compared given left 0
+pub looked_at : (v : Result Claims Refusal) (given left : List ℕ) {t : Bool} → t ≡ of_run v → t ≡ true → gap v given left ≡ compared given left 0
 looked_at v given left e h = ap (λ t. cond t (compared given left 0) same) (sym e ∙ h)

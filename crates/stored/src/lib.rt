@@ -2,7 +2,7 @@
 #![tactic(auto)]
 
 ghost use Rattle.std.specs.Prelude.{◌≡◌, true, ◌+◌, ◌*◌, ◌≤◌, length, drop};
-ghost use Rattle.wire.specs.Words.{first_bad};
+ghost use Rattle.wire.specs.Words.{bad_place};
 ghost use Rattle.stored.specs.Elements.{over_zero};
 ghost use Rattle.stored.specs.Layout.{polys_words, proof_words};
 ghost use Rattle.stored.specs.Parse.{known, sized, parse, entries_fit, entries_from, proof_of, claims_of, cubic_of};
@@ -120,43 +120,38 @@ pub fn read_subround(proof: &[u8], at: usize) -> SubroundEvals
     }
 }
 
-// The place of the first bad word among the polynomial entries from a place on: left by the label at that word's sub-round.
-fn first_bad_in_entries(proof: &[u8], from: usize, count: usize) -> usize
+// The place of the first bad word among the polynomial entries from a place on, if there is one.
+fn first_bad_in_entries(proof: &[u8], from: usize, count: usize) -> Option<usize>
     requires { (from ≤ length proof.now) × (entries_fit count (drop from proof.now) ≡ true) }
-    ensures { (result ≡ first_bad (polys_words (entries_from count (drop from proof.now)))) × (4 * result ≤ length proof.now) }
+    ensures { result ≡ bad_place (polys_words (entries_from count (drop from proof.now))) }
 {
-    let mut place = 0;
+    let mut passed = 0;
     let mut at = from;
-    'entries: for k in 0..count {
-        let subrounds = usize::from(proof[at]);
-        at += 1;
-        for j in 0..subrounds {
-            let bad = wire::first_bad_stored(proof, at, 12);
-            place += bad;
-            if bad < 12 {
-                break 'entries;
-            }
-            at += 48;
+    for k in 0..count {
+        let words = 12 * usize::from(proof[at]);
+        if let Some(place) = wire::first_bad_stored(proof, at + 1, words) {
+            return Some(passed + place);
         }
+        passed += words;
+        at += 1 + 4 * words;
     }
-    place
+    None
 }
 
-// The place of the first bad word of a proof, counted over the words of its elements; their number if there is none.
-pub fn first_bad_in_proof(proof: &[u8], outline: Outline) -> usize
+// The place of the first bad word of a proof, counted over the words of its elements, if there is one.
+pub fn first_bad_in_proof(proof: &[u8], outline: Outline) -> Option<usize>
     requires { Shaped proof.now outline }
-    ensures { result ≡ first_bad (proof_words (proof_of proof.now)) }
+    ensures { result ≡ bad_place (proof_words (proof_of proof.now)) }
 {
-    let root = wire::first_bad_stored(proof, 5, 4);
-    if root < 4 {
-        return root;
+    if let Some(place) = wire::first_bad_stored(proof, 5, 4) {
+        return Some(place);
     }
     let words = 16 * outline.layers;
-    let claims = wire::first_bad_stored(proof, 22, words);
-    if claims < words {
-        return 4 + claims;
+    if let Some(place) = wire::first_bad_stored(proof, 22, words) {
+        return Some(4 + place);
     }
-    4 + words + first_bad_in_entries(proof, outline.polys, outline.entries)
+    let place = first_bad_in_entries(proof, outline.polys, outline.entries)?;
+    Some(4 + words + place)
 }
 
 // How many words the elements of a proof have: its bytes but for version, length, the two counts and each entry's count, in fours.

@@ -1,6 +1,7 @@
 -- A sheet whose evaluation at the point written gives both claims: the claims are the values of its rows.
 -- Assumes nothing.
-use mathlib.Core.Path.{◌≡◌, refl, sym, ◌∙◌, ap, ap₂, subst}
+use Rattle.std.specs.Prelude.{Ok}
+use mathlib.Core.Path.{◌≡◌, refl, sym, ◌∙◌, ap, subst}
 use mathlib.Core.Bool.{Bool, true, false, cond}
 use mathlib.Core.List.{List}
 use mathlib.Core.Logic.{◌⊎◌}
@@ -27,7 +28,6 @@ use Rattle.refusal.specs.TestLaws.{passed_all}
 use Rattle.sizes.specs.Sizes.{row_count, rounds_of, is_size}
 use Rattle.sizes.specs.SizeLaws.{some_size}
 use Rattle.prover_tree.specs.Nodes.{node}
-use Rattle.verifier_round.specs.declared.Verdict.TheVariants.{Accepted}
 use Rattle.verifier.specs.Verified.{Asked, Lent, verified}
 use Rattle.evaluation.specs.declared.Evaluation.TheVariants.{Done}
 use Rattle.evaluation.specs.declared.Evaluation.TheVariants as Ends
@@ -84,7 +84,7 @@ sheet_matches a b rows c =
     let pt = (verified a b).buffers.point in
     let v = evaluates rows (take (point_words a.rounds) pt) a.rounds c.numer c.denom (λ e. none a.rounds e c.some) c.valued in
     let at = ap (Tree.value ExtRing (node rows)) (front_cells pt a.rounds) in
-    (v.size, (c.some, c.accepted ∙ ap₂ Accepted (v.numer ∙ ap (λ x. enc x.p) at) (v.denom ∙ ap (λ x. enc x.q) at)))
+    (v.size, (c.some, c.accepted ∙ (λ i. Ok (record { numer = (v.numer ∙ ap (λ x. enc x.p) at) i; denom = (v.denom ∙ ap (λ x. enc x.q) at) i }))))
 
 -- WHAT IT SAYS OF THE SHEET
 

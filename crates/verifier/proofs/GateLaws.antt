@@ -1,6 +1,6 @@
 -- Each way through the checks is the first test that is met, and where none is, what the run asks holds.
 -- Assumes nothing.
-use Rattle.std.specs.Prelude.{Result, Ok, Err}
+use Rattle.std.specs.Prelude.{Result, Ok, Err, Some, None}
 use mathlib.Core.Path.{◌≡◌, refl, sym, ◌∙◌, ap, ap₂, subst}
 use mathlib.Core.Bool.{Bool, true, false, cond, not, ◌&&◌, ◌||◌, false≢true}
 use mathlib.Core.List.{List, ◌∷◌}
@@ -18,8 +18,8 @@ use Rattle.refusal.specs.declared.Words.TheVariants.{Proof as ProofWords, Challe
 use Rattle.refusal.specs.Tests.{Test, Tested, passed, refused, test, first_of}
 use Rattle.refusal.specs.TestLaws.{all_passed, passed_all}
 use Rattle.sizes.specs.Sizes.{needed_words, log_room}
-use Rattle.wire.specs.Words.{all_canonical, first_bad}
-use Rattle.wire.specs.WordLaws.{none_canonical, some_bad}
+use Rattle.wire.specs.Words.{all_canonical, first_bad, bad_place}
+use Rattle.wire.specs.PlaceLaws.{place_canonical, place_bad}
 use Rattle.stored.specs.declared.Outline.{Outline}
 use Rattle.stored.specs.Shapes.{shape_of}
 use Rattle.stored.specs.Layout.{proof_words}
@@ -28,20 +28,20 @@ use Rattle.stored.specs.ParseLaws.{Reads, Shaped, good_shape, reads_fits}
 use Rattle.verifier.specs.Verified.{Asked, needed, rootless, tests}
 use Rattle.verifier.specs.Gates.{words_gate, Opened, Gated}
 
--- ---- the words: of the proof so many, of which b is the first bad one; of the challenges c
-module _ (bs : List ℕ) (o : Outline) (needs : List ℕ) (b w : ℕ) (e : b ≡ first_bad (proof_words (proof_of bs))) (l : w ≡ length (proof_words (proof_of bs))) where
-  pub words_shut : b < w → Err (BadWord b ProofWords) ≡ words_gate bs o needs
-  words_shut h = ap (λ x. Err (BadWord x ProofWords)) e ∙ rw (some_bad (proof_words (proof_of bs)) (omega (arith, e, l)))
+-- ---- the words: of the proof, then of the challenges
+module _ (bs : List ℕ) (o : Outline) (needs : List ℕ) where
+  pub words_shut : (b : ℕ) → Some b ≡ bad_place (proof_words (proof_of bs)) → Err (BadWord b ProofWords) ≡ words_gate bs o needs
+  words_shut b e = let t = place_bad (proof_words (proof_of bs)) b e in ap (λ x. Err (BadWord x ProofWords)) t.0 ∙ rw t.1
 
-  module _ (h : w ≤ b) (c : ℕ) (f : c ≡ first_bad needs) where
+  module _ (e : None ≡ bad_place (proof_words (proof_of bs))) where
     good : all_canonical (proof_words (proof_of bs)) ≡ true
-    good = none_canonical (proof_words (proof_of bs)) (omega (arith, e, l))
+    good = place_canonical (proof_words (proof_of bs)) e
 
-    pub needs_shut : c < length needs → Err (BadWord c Challenges) ≡ words_gate bs o needs
-    needs_shut k = ap (λ x. Err (BadWord x Challenges)) f ∙ rw (good, some_bad needs (omega (arith, f)))
+    pub needs_shut : (c : ℕ) → Some c ≡ bad_place needs → Err (BadWord c Challenges) ≡ words_gate bs o needs
+    needs_shut c f = let t = place_bad needs c f in ap (λ x. Err (BadWord x Challenges)) t.0 ∙ rw (good, t.1)
 
-    pub words_open : length needs ≤ c → Ok o ≡ words_gate bs o needs
-    words_open k = rw (good, none_canonical needs (omega (arith, f)))
+    pub words_open : None ≡ bad_place needs → Ok o ≡ words_gate bs o needs
+    words_open f = rw (good, place_canonical needs f)
 
 -- ---- the shape, of a version that is read
 shape_shut : (version fit size : Bool) (π : Proof Ext) (e : Refusal) (ts : List Test) → version ≡ true → Err e ≡ shape_of (cond version (cond fit (parsed size π) bad_length) bad_version)

@@ -27,15 +27,13 @@ fn check_words(proof: &[u8], outline: Outline, needs: &[u32]) -> Result<Outline,
     requires { Shaped proof.now outline }
     ensures { result ≡ words_gate proof.now outline needs.now }
 {
-    let place = stored::first_bad_in_proof(proof, outline);
-    if place < stored::word_count(proof, outline) {
+    if let Some(place) = stored::first_bad_in_proof(proof, outline) {
         return Err(Refusal::BadWord {
             place,
             list: Words::Proof,
         });
     }
-    let place = wire::first_bad_word(needs);
-    if place < needs.len() {
+    if let Some(place) = wire::first_bad_word(needs) {
         return Err(Refusal::BadWord {
             place,
             list: Words::Challenges,

@@ -78,7 +78,7 @@ pub fn number_and_values(verdict: Verdict) -> Report
 {
     match verdict {
         Ok(Claims { numer, denom }) => refusal::done(0, numer, denom),
-        Err(refusal) => refusal::number_and_fields(refusal),
+        Err(refusal) => Report::from(refusal),
     }
 }
 

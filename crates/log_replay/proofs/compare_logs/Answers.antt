@@ -1,11 +1,7 @@
 use mathlib.Core.Path.{◌≡◌, refl, sym, ap, ◌∙◌}
-use Prim.Native.Nat.{◌-◌, ◌≤◌}
 use lib.ListN.{length}
-use Rattle.log_replay.specs.Replayed.{compared}
 use Rattle.log_replay.proofs.Turns.{rest, too_long, too_short, both_out, alike, unlike}
-use borrow.Author.Tests.{not-true, not-false}
 use native.Mathlib.Omega.{arith}
-use borrow.Author.Rules.{rules}
 use Rattle.log_replay.proofs.compare_logs.Goals as goal
 
 pub loop-i-init : goal.loop-i-init

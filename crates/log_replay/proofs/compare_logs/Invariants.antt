@@ -1,11 +1,8 @@
-use mathlib.Core.Path.{◌≡◌, refl, sym, ap, ◌∙◌}
+use mathlib.Core.Path.{◌≡◌}
 use Prim.Native.Nat.{◌-◌, ◌≤◌}
 use lib.ListN.{length}
 use Rattle.log_replay.specs.Replayed.{compared}
-use Rattle.log_replay.proofs.Turns.{rest, too_long, too_short, both_out, alike, unlike}
-use borrow.Author.Tests.{not-true, not-false}
-use native.Mathlib.Omega.{arith}
-use borrow.Author.Rules.{rules}
+use Rattle.log_replay.proofs.Turns.{rest}
 use Rattle.log_replay.proofs.compare_logs.Given as goal
 
 abbrev pub invariant-loop-i : goal.invariant-loop-i
