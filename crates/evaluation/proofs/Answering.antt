@@ -1,6 +1,6 @@
 -- What is told of a sheet whose rows and point fit: the values, by their words.
 -- Assumes nothing.
-use Rattle.std.specs.Prelude.{◌≡◌, true, List, ℕ, ◌*◌, ◌%◌, ◌^◌, ◌≤◌, length, Result, Ok}
+use Rattle.std.specs.Prelude.{◌≡◌, true, List, ℕ, ◌*◌, ◌%◌, ◌^◌, length, None, Result, Ok}
 use Rattle.std.proofs.Common.{sym, ◌∙◌, ap, arith, eq-eqb, ne_eqb}
 use Rattle.field.specs.ExtRing.{ExtRing}
 use Rattle.field.specs.ElementLaws.{enc_of_is, zero_is, one_is}
@@ -8,8 +8,9 @@ use Rattle.field.specs.Cells.{Clean, cells}
 use Rattle.gkr.specs.Tree as Tree
 use Rattle.refusal.specs.declared.Refusal.{Refusal}
 use Rattle.refusal.specs.Tests.{passed, first_of}
-use Rattle.wire.specs.Words.{first_bad}
-use Rattle.wire.specs.WordLaws.{none_canonical, canonical_below}
+use Rattle.wire.specs.Words.{bad_place}
+use Rattle.wire.specs.WordLaws.{canonical_below}
+use Rattle.wire.specs.PlaceLaws.{place_canonical, place_bad}
 use Rattle.step.specs.declared.Frac.{Frac as FracW}
 use Rattle.step.specs.Values.{IsFrac}
 use Rattle.prover_tree.specs.Nodes.{node}
@@ -19,8 +20,11 @@ use Rattle.evaluation.specs.declared.Values.{Values}
 use Rattle.evaluation.specs.Evaluated.{tests, evaluated}
 
 -- no word is bad
-pub clean_words : (ws : List ℕ) → length ws ≤ first_bad ws → Clean ws
-clean_words ws h = record { below = canonical_below ws (none_canonical ws h) }
+pub clean_words : (ws : List ℕ) → None ≡ bad_place ws → Clean ws
+clean_words ws h = record { below = canonical_below ws (place_canonical ws h) }
+
+-- what the searches of words say
+pub ruleset searches = (place_canonical, place_bad, clean_words)
 
 module _ (rows point : List ℕ) {n : ℕ} (ne : n ≡ rounds_of (row_count rows)) where
   -- what the evaluation by halves asks for

@@ -8,8 +8,6 @@ use native.Mathlib.Omega.{arith}
 use lib.ListN.{length, take, drop}
 use Rattle.field.specs.Ext as E
 use Rattle.field.specs.ExtRing.{ExtRing}
-use Rattle.field.specs.declared.Ext.{Ext}
-use Rattle.field.specs.Element.{dec, Is}
 use Rattle.field.specs.ElementLaws.{is_eq}
 use Rattle.field.specs.Cells.{cell, cells}
 use Rattle.field.specs.CellLaws.{cell_take, cell_drop}
@@ -19,7 +17,7 @@ use Rattle.multilinear.proofs.TableLaws as TableLaws
 use Rattle.gkr.specs.Run.{Frac}
 use Rattle.gkr.specs.Tree as Tree
 use Rattle.step.specs.declared.Frac.{Frac as FracW}
-use Rattle.step.specs.Values.{CanonFrac, IsFrac, dec_frac, zip_frac, line}
+use Rattle.step.specs.Values.{IsFrac, dec_frac, zip_frac, line}
 use Rattle.prover_tree.specs.Nodes.{node}
 
 pub half : (n l : ℕ) → (n ≡ 0 → ⊥) → l ≡ 8 * 2 ^ n → (l / 2 ≡ 8 * 2 ^ (n - 1)) × (l ≡ l / 2 + l / 2)

@@ -29,7 +29,7 @@ pub struct Values {
 pub type Evaluation = Result<Values, Refusal>;
 
 // Both columns of the rows at the point: row words, eight a row, and the point's words, four a round.
-#[tactic(auto, using(wire::specs::WordLaws::none_canonical, wire::specs::WordLaws::some_bad), unfolding(crate::specs::Evaluated::evaluated, refusal::specs::Tests::first_of))]
+#[tactic(auto, using(crate::proofs::Answering::searches, crate::proofs::Answering::rows_length), unfolding(crate::specs::Evaluated::evaluated, refusal::specs::Tests::first_of))]
 pub fn evaluate(rows: &[u32], point: &[u32]) -> Evaluation
     ensures { result ≡ evaluated rows.now point.now }
 {
@@ -43,19 +43,17 @@ pub fn evaluate(rows: &[u32], point: &[u32]) -> Evaluation
     if !sizes::is_size(count) {
         return Err(Refusal::NotPowerOfTwo);
     }
-    let n = sizes::least_size(count).n;
+    let n = sizes::rounds_of(count);
     if point.len() != 4 * n {
         return Err(Refusal::BadLength);
     }
-    let place = wire::first_bad_word(rows);
-    if place < rows.len() {
+    if let Some(place) = wire::first_bad_word(rows) {
         return Err(Refusal::BadWord {
             place,
             list: Words::Rows,
         });
     }
-    let place = wire::first_bad_word(point);
-    if place < point.len() {
+    if let Some(place) = wire::first_bad_word(point) {
         return Err(Refusal::BadWord {
             place,
             list: Words::Point,
@@ -79,6 +77,6 @@ pub fn number_and_values(answer: Evaluation) -> Report
 {
     match answer {
         Ok(values) => refusal::done(values.rounds, values.numer, values.denom),
-        Err(refusal) => refusal::number_and_fields(refusal),
+        Err(refusal) => Report::from(refusal),
     }
 }

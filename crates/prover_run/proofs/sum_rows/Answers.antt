@@ -4,7 +4,6 @@ use Rattle.field.specs.Cells.{Clean}
 use Rattle.field.specs.CellLaws.{clean_zeros}
 use Rattle.prover_run.proofs.Whole.{planted}
 use native.Mathlib.Omega.{arith}
-use borrow.Author.Rules.{rules}
 use Rattle.prover_run.proofs.sum_rows.Goals as goal
 
 pub build-requires : goal.build-requires
