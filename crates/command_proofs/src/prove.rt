@@ -6,6 +6,7 @@ use command_files::fault::Fault;
 use command_files::inputs::read_sheet;
 use command_files::logs::keep_log;
 use command_files::replace;
+use field::Field;
 use prover::Done;
 use refusal::Proving;
 use std::rt::Files;

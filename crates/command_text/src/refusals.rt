@@ -1,7 +1,7 @@
 // The words of each refusal: `refused`, its number, its name, and what it means.
 use crate::bad_words::BadWord;
 use crate::{Short, log_places, places};
-use field::Ext;
+use field::{Ext, Field};
 use refusal::{Refusal, Report};
 use std::fmt;
 

@@ -7,7 +7,7 @@ ghost use Rattle.io.specs.Counts.{IsPrefixLen};
 use answers::say;
 use command_files::system::{open_read, read_full};
 use command_text::refusals::{Named, Refused, Replayed};
-use field::Ext;
+use field::{Ext, Field};
 use refusal::{Refusal, Words};
 use std::rt::Files;
 
