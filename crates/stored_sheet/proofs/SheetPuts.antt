@@ -1,16 +1,15 @@
 -- The answers of the rows' checks, and the bytes of a sheet one after the other.
 -- Assumes nothing.
-use Rattle.std.specs.Prelude.{◌≡◌, Ok, Err, Some, None, List, [], ◌∷◌, ◌++◌, ℕ, ◌+◌, ◌*◌, ◌-◌, ◌/◌, ◌%◌, ◌<◌, ◌≤◌, length, get_or, drop}
-use Rattle.std.proofs.Common.{sym, ◌∙◌, ap, ap₂, subst, add-one, arith, eq-eqb, ne_eqb, length-drop, drop_of_length-le, drop-cons}
+use Rattle.std.specs.Prelude.{◌≡◌, Ok, Err, Some, None, List, [], ◌∷◌, ℕ, ◌+◌, ◌*◌, ◌/◌, ◌%◌, ◌<◌, ◌≤◌, length}
+use Rattle.std.proofs.Common.{sym, ◌∙◌, ap, ap₂, subst, arith, eq-eqb, ne_eqb}
 use Rattle.refusal.specs.Tests.{passed, refused, first_of}
 use Rattle.refusal.specs.declared.Refusal.{Refusal}
 use Rattle.refusal.specs.declared.Refusal.TheVariants.{RaggedRows, BadWord}
 use Rattle.refusal.specs.declared.Words.TheVariants.{Rows}
-use Rattle.wire.specs.Bytes.{be4, bytes_of}
+use Rattle.wire.specs.Bytes.{bytes_of}
 use Rattle.wire.specs.Words.{bad_place}
 use Rattle.wire.specs.Written.{Wrote}
 use Rattle.wire.specs.WrittenLaws.{wrote_then, wrote_front}
-use Rattle.wire.proofs.ByteLaws.{bytes_length}
 use Rattle.stored_sheet.specs.Sheet.{sheet}
 use Rattle.stored_sheet.specs.SheetReads.{sized, tested, write_answer, SheetEnd, sheet_end, sheet_written}
 use Rattle.stored_sheet.proofs.SheetLaws.{write_done}
@@ -39,17 +38,6 @@ module _ (ws : List ℕ) (room : ℕ) where
     write_all h e = sym (inside ∙ ap (tested need) (sized_passed (length ws / 8) need room ws h e))
 
 -- THE BYTES
-pub words_turn : (ws : List ℕ) (i : ℕ) → i < length ws → bytes_of (drop i ws) ≡ be4 (get_or ws i 0) ++ bytes_of (drop (i + 1) ws)
-unfolding bytes_of
-words_turn ws i h = ap bytes_of (drop-cons ws i 0 h ∙ ap (λ k. get_or ws i 0 ∷ drop k ws) (sym (add-one i)))
-
-pub words_over : (ws : List ℕ) (i : ℕ) → length ws ≤ i → bytes_of (drop i ws) ≡ []
-unfolding bytes_of
-words_over ws i h = ap bytes_of (drop_of_length-le ws h)
-
-pub words_left : (ws : List ℕ) (i : ℕ) → length (bytes_of (drop i ws)) ≡ 4 * (length ws - i)
-words_left ws i = bytes_length (drop i ws) ∙ ap (λ n. 4 * n) (length-drop i ws)
-
 pub sheet_put : (ws l0 l1 l2 l3 l4 : List ℕ) (high low a b c d : ℕ) → high ≡ length ws / 8 / 256 → low ≡ length ws / 8 % 256
     → Wrote l0 l1 0 a (1 ∷ []) → Wrote l1 l2 a b (high ∷ []) → Wrote l2 l3 b c (low ∷ []) → Wrote l3 l4 c d (bytes_of ws) → Wrote l0 l4 0 d (sheet ws)
 unfolding sheet

@@ -1,18 +1,16 @@
 -- The answers of the sheet's checks, and the turns of the copy.
 -- Assumes nothing.
-use Rattle.std.specs.Prelude.{◌≡◌, refl, Ok, Err, Some, None, Bool, true, false, cond, List, [], ◌∷◌, ◌++◌, ℕ, ◌+◌, ◌*◌, ◌<◌, ◌≤◌, not, ltb, length, get_or, drop}
-use Rattle.std.proofs.Common.{sym, ◌∙◌, ap, ap₂, add-one, arith, append_assoc, eq-eqb, ne_eqb, le-ltb, lt-ltb, drop-cons, drop-drop, get_or-drop}
-use Rattle.std.proofs.Math.ListN.{set}
-use Rattle.std.proofs.Math.Seq.{set_at}
+use Rattle.std.specs.Prelude.{◌≡◌, refl, Ok, Err, Some, None, Bool, true, false, cond, List, [], ◌++◌, ℕ, ◌+◌, ◌*◌, ◌<◌, ◌≤◌, not, ltb, length, get_or, drop}
+use Rattle.std.proofs.Common.{sym, ◌∙◌, ap, ap₂, arith, eq-eqb, ne_eqb, le-ltb, lt-ltb, get_or-drop}
 use Rattle.refusal.specs.Limits.{max_rows}
 use Rattle.refusal.specs.Tests.{Tested, passed, refused, first_of}
 use Rattle.refusal.specs.TestWays.{next}
 use Rattle.refusal.specs.declared.Refusal.{Refusal}
 use Rattle.refusal.specs.declared.Refusal.TheVariants.{TooManyRows, NotPowerOfTwo, ShortRoom, BadWord, BadVersion, BadLength}
 use Rattle.refusal.specs.declared.Words.TheVariants.{Rows}
-use Rattle.wire.specs.Bytes.{word, words_from}
+use Rattle.wire.specs.Bytes.{words_from}
 use Rattle.wire.specs.Words.{all_canonical, first_bad, bad_place}
-use Rattle.wire.proofs.ByteLaws.{words_length, words_add}
+use Rattle.wire.proofs.ByteLaws.{words_length}
 use Rattle.wire.specs.PlaceLaws.{place_canonical, place_bad}
 use Rattle.stored_sheet.specs.Sheet.{row_count, row_words}
 use Rattle.stored_sheet.specs.SheetReads.{sized, tested, read_answer, SheetEnd, sheet_end, sheet_read}
@@ -96,24 +94,6 @@ module _ (bs : List ℕ) (room : ℕ) where
 
       pub read_all : size n (8 * n) room ≡ passed → None ≡ bad_place words → Ok n ≡ read_answer bs room
       read_all h e = sym (inside ∙ ap (tested n) (sized_passed n (8 * n) room words h e))
-
--- one word more is copied
-pub copy_more : (bs old : List ℕ) (i w : ℕ) → i < length old → w ≡ word (drop (3 + 4 * i) bs)
-    → set (words_from i (drop 3 bs) ++ drop i old) i w ≡ words_from (i + 1) (drop 3 bs) ++ drop (i + 1) old
-unfolding words_from
-copy_more bs old i w h e =
-    let ws = words_from i (drop 3 bs) in
-    let d : drop i old ≡ get_or old i 0 ∷ drop (i + 1) old = drop-cons old i 0 h ∙ ap (λ k. get_or old i 0 ∷ drop k old) (sym (add-one i)) in
-    let s : words_from (i + 1) (drop 3 bs) ≡ ws ++ (w ∷ []) =
-    words_add i 1 (drop 3 bs) ∙ ap (λ l. ws ++ (word l ∷ [])) (drop-drop (4 * i) 3 bs) ∙ ap (λ x. ws ++ (x ∷ [])) (sym e) in
-    ap (λ l. set (ws ++ l) i w) d
-    ∙ set_at ws (get_or old i 0) (drop (i + 1) old) w i (words_length i (drop 3 bs))
-    ∙ sym (append_assoc ws (w ∷ []) (drop (i + 1) old))
-    ∙ ap (λ l. l ++ drop (i + 1) old) (sym s)
-
-pub copy_none : (bs old : List ℕ) → old ≡ words_from 0 (drop 3 bs) ++ drop 0 old
-unfolding words_from
-copy_none bs old = refl
 
 -- what the reader ends with
 module _ (bs old : List ℕ) (n : ℕ) (e : Ok n ≡ read_answer bs (length old)) where

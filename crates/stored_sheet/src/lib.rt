@@ -1,10 +1,9 @@
 // The stored form of a sheet: read into words, and written from them.
 #![tactic(auto)]
 
-ghost use Rattle.std.specs.Prelude.{◌≡◌, true, cond, [], ◌++◌, ◌+◌, ◌*◌, ◌<◌, ◌≤◌, eqb, length, drop, MatchResult};
+ghost use Rattle.std.specs.Prelude.{◌≡◌, true, cond, [], ◌+◌, ◌*◌, ◌<◌, ◌≤◌, eqb, length, MatchResult};
 ghost use Rattle.refusal.specs.Powers.{power_of_two};
 ghost use Rattle.refusal.specs.Tests.{passed, refused, first_of};
-ghost use Rattle.wire.specs.Bytes.{words_from, bytes_of};
 ghost use Rattle.wire.specs.Written.{Wrote};
 ghost use Rattle.stored_sheet.specs.Report.{sheet_report};
 ghost use Rattle.stored_sheet.specs.Sheet.{sheet};
@@ -67,22 +66,12 @@ fn check_sheet(bytes: &[u8], room: usize) -> Result<usize, Refusal>
     Ok(count)
 }
 
-// The n words after the row count, to the front of the rows.
-fn copy_words(bytes: &[u8], rows: &mut [u32], n: usize)
-    requires { (3 + 4 * n ≤ length bytes.now) × (n ≤ length rows.old) }
-    ensures { rows.new ≡ words_from n (drop 3 bytes.now) ++ drop n rows.old }
-{
-    for i in 0..n {
-        rows[i] = wire::word_at(bytes, 3 + 4 * i);
-    }
-}
-
 // Reads a stored sheet into the rows; Ok has the row count.
 pub fn read_sheet(bytes: &[u8], rows: &mut [u32]) -> Result<usize, Refusal>
     ensures { record { answer = result; buffer = rows.new } ≡ sheet_read bytes.now rows.old }
 {
     let count = check_sheet(bytes, rows.len())?;
-    copy_words(bytes, rows, 8 * count);
+    wire::copy_words(bytes, 3, rows, 8 * count);
     Ok(count)
 }
 
@@ -104,17 +93,6 @@ fn check_rows(rows: &[u32], room: usize) -> Result<usize, Refusal>
     Ok(bytes)
 }
 
-fn put_words(out: &mut [u8], at: usize, words: &[u32]) -> usize
-    requires { at + 4 * length words.now ≤ length out.old }
-    ensures { Wrote out.old out.new at result (bytes_of words.now) }
-{
-    let mut p = at;
-    for word in words {
-        p = wire::put_word(out, p, *word);
-    }
-    p
-}
-
 fn put_sheet(out: &mut [u8], rows: &[u32]) -> usize
     requires { (3 + 4 * length rows.now ≤ length out.old) × (length rows.now < 65536) }
     ensures { Wrote out.old out.new 0 result (sheet rows.now) }
@@ -123,7 +101,7 @@ fn put_sheet(out: &mut [u8], rows: &[u32]) -> usize
     let a = wire::put_byte(out, 0, 1);
     let b = wire::put_byte(out, a, high);
     let c = wire::put_byte(out, b, low);
-    put_words(out, c, rows)
+    wire::put_words(out, c, rows)
 }
 
 // Writes the rows as a stored sheet; Ok has the number of bytes.

@@ -1,8 +1,8 @@
 // Words in bytes, the highest byte first, and the search for a word that is not canonical.
 #![tactic(auto)]
 
-ghost use Rattle.std.specs.Prelude.{◌≡◌, [], ◌∷◌, ◌+◌, ◌*◌, ◌≤◌, length, drop};
-ghost use Rattle.wire.specs.Bytes.{be4, word, words_from, elem};
+ghost use Rattle.std.specs.Prelude.{◌≡◌, [], ◌∷◌, ◌++◌, ◌+◌, ◌*◌, ◌≤◌, length, drop};
+ghost use Rattle.wire.specs.Bytes.{be4, word, words_from, bytes_of, elem};
 ghost use Rattle.wire.specs.Words.{all_canonical, bad_place};
 ghost use Rattle.wire.specs.Written.{Wrote};
 
@@ -45,6 +45,28 @@ pub fn put_byte(out: &mut [u8], at: usize, b: u8) -> usize
 {
     out[at] = b;
     at + 1
+}
+
+// The n words stored from a place on, to the front of the words.
+pub fn copy_words(bytes: &[u8], at: usize, words: &mut [u32], n: usize)
+    requires { (at + 4 * n ≤ length bytes.now) × (n ≤ length words.old) }
+    ensures { words.new ≡ words_from n (drop at bytes.now) ++ drop n words.old }
+{
+    for i in 0..n {
+        words[i] = word_at(bytes, at + 4 * i);
+    }
+}
+
+// The bytes of the words go in one after the other from a place on; the place after them.
+pub fn put_words(out: &mut [u8], at: usize, words: &[u32]) -> usize
+    requires { at + 4 * length words.now ≤ length out.old }
+    ensures { Wrote out.old out.new at result (bytes_of words.now) }
+{
+    let mut p = at;
+    for word in words {
+        p = put_word(out, p, *word);
+    }
+    p
 }
 
 // Whether each word is canonical.

@@ -1,8 +1,8 @@
 use Rattle.std.proofs.Common.{arith}
 use Rattle.wire.specs.WrittenLaws.{writing_next, writing_end}
 use Rattle.wire.proofs.ByteLaws.{bytes_length}
-use Rattle.stored_sheet.proofs.SheetPuts.{words_turn, words_over, words_left}
-use Rattle.stored_sheet.proofs.put_words.Goals as goal
+use Rattle.wire.proofs.Runs.{words_turn, words_over, words_left}
+use Rattle.wire.proofs.put_words.Goals as goal
 
 pub put_word-p-requires : goal.put_word-p-requires
 put_word-p-requires c = omega (arith, c.loop-word.invariant.ends, words_left c.args.words.now c.loop-word.word-index, bytes_length c.args.words.now)
