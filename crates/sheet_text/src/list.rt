@@ -98,14 +98,9 @@ pub fn read_list(text: &[u8], words: &mut [u32], pairs: bool) -> Result<usize, L
     ensures words_after { record { answer = result; words = words.new } ≡ list_read pairs text.now words.old }
     ensures within { IfOk result (λ count. count ≤ length words.new) }
 {
-    let mut at = 0;
-    let mut line = 0;
     let mut put = 0;
-    while at < text.len() {
-        let end = find(text, at, b'\n');
-        line += 1;
-        put = put_line(words, put, &text[at..end], pairs).map_err(|e| e.at_line(line))?;
-        at = beyond(end, text.len());
+    for (i, line) in text.split(|b| *b == b'\n').enumerate() {
+        put = put_line(words, put, line, pairs).map_err(|e| e.at_line(i + 1))?;
     }
     Ok(put)
 }

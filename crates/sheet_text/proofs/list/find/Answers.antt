@@ -1,4 +1,4 @@
-use Rattle.sheet_text.proofs.Listing.{first_from}
+use Rattle.sheet_text.proofs.Finding.{first_from}
 use Rattle.std.proofs.Common.{arith}
 use Rattle.sheet_text.proofs.list.find.Goals as goal
 

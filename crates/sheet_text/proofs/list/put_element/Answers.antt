@@ -1,4 +1,4 @@
-use Rattle.sheet_text.proofs.Listing.{put_words}
+use Rattle.sheet_text.proofs.Placing.{put_words}
 use Rattle.std.proofs.Common.{arith}
 use Rattle.wire.specs.Words.{ext_words}
 use Rattle.sheet_text.proofs.list.put_element.Goals as goal
