@@ -1,26 +1,13 @@
 // A log in a file: its words one after the other, four bytes each, the highest first.
-ghost use Rattle.std.specs.Prelude.{◌≡◌, ◌++◌, ◌*◌, ◌≤◌, length, drop, IfOk};
+ghost use Rattle.std.specs.Prelude.{◌≡◌, ◌≤◌, length, IfOk};
 ghost use Rattle.std.specs.Result.{result_ok};
 ghost use Rattle.io.specs.Counts.{IsPrefixLen};
-ghost use Rattle.wire.specs.Bytes.{words_from, bytes_of};
-ghost use Rattle.wire.specs.Written.{Wrote};
 ghost use Rattle.command_files.specs.Given.{FromFile};
 ghost use Rattle.command_files.specs.Logs.{log_of, log_given};
 
 use crate::fault::Fault;
 use crate::{Input, read, replace};
 use std::rt::Files;
-
-// The first n words of the bytes go to the front of the words.
-fn copy_log(bytes: &[u8], words: &mut [u32], n: usize)
-    requires { (4 * n ≤ length bytes.now) × (n ≤ length words.old) }
-    ensures { words.new ≡ words_from n bytes.now ++ drop n words.old }
-{
-    // Stays: the check knows nothing of what is written through an adapter of `iter_mut`.
-    for i in 0..n {
-        words[i] = wire::word_at(bytes, 4 * i);
-    }
-}
 
 fn too_long(path: &[u8]) -> Fault<'_> {
     Fault::TooLong {
@@ -44,7 +31,7 @@ fn log_of<'a>(path: &'a [u8], bytes: &[u8], words: &mut [u32]) -> Result<usize, 
     if words.len() < n {
         return Err(too_long(path));
     }
-    copy_log(bytes, words, n);
+    wire::copy_words(bytes, 0, words, n);
     Ok(n)
 }
 
@@ -60,23 +47,11 @@ pub fn read_log<'a>(rt: &impl Files, path: &'a [u8], words: &mut [u32]) -> Resul
     }
 }
 
-// The words go to the front of the bytes.
-fn put_log(out: &mut [u8], words: &[u32]) -> usize
-    requires { 4 * length words.now ≤ length out.old }
-    ensures { Wrote out.old out.new 0 result (bytes_of words.now) }
-{
-    let mut p = 0;
-    for &word in words {
-        p = wire::put_word(out, p, word);
-    }
-    p
-}
-
 fn write_log<'a>(rt: &impl Files, path: &'a [u8], log: &[u32]) -> Result<(), Fault<'a>>
     requires { length log.now ≤ 968 }
 {
     let mut bytes = [0u8; 3872];
-    let end = put_log(&mut bytes, log).min(bytes.len());
+    let end = wire::put_words(&mut bytes, 0, log).min(bytes.len());
     replace(rt, path, &bytes[..end])
 }
 
