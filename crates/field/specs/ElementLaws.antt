@@ -1,7 +1,7 @@
 -- Words and elements are one another's inverses on canonical words, so no second answer fits.
 -- Assumes nothing.
 use Rattle.std.specs.Prelude.{◌≡◌, refl, Bool, true, not, ◌&&◌, ℕ, ◌<◌, eqb, ltb}
-use Rattle.std.proofs.Common.{sym, ◌∙◌, ap, subst, mod-eq_of_lt, arith, ltb-true, lt-ltb}
+use Rattle.std.proofs.Common.{sym, ◌∙◌, ap, ap₂, subst, mod-eq_of_lt, arith, ltb-true, lt-ltb}
 use Rattle.field.specs.Base as B
 use Rattle.field.specs.Base.{F, P, of}
 use Rattle.field.specs.BaseRing.{val_of, val_lt, of_val}
@@ -136,6 +136,11 @@ pub canon_of : (e : Ext) → Canon e → canon_words e ≡ true
 unfolding canon_words
 canon_of e h = rw (lt-ltb e.c0 P h.c0, lt-ltb e.c1 P h.c1, lt-ltb e.c2 P h.c2, lt-ltb e.c3 P h.c3)
 
+-- on words of elements `==` is the test on elements
+pub same_of_enc : (x y : E.Ext) → (eqb x.c0.val y.c0.val && (eqb x.c1.val y.c1.val && (eqb x.c2.val y.c2.val && eqb x.c3.val y.c3.val))) ≡ E.same x y
+unfolding E.same
+same_of_enc x y = refl
+
 -- what `a == b`, which is derived, answers is the test on words
 pub equal_words : (a b : Ext) {r : Bool} → r ≡ (eqb a.c0 b.c0 && (eqb a.c1 b.c1 && (eqb a.c2 b.c2 && eqb a.c3 b.c3))) → r ≡ same_words a b
 unfolding same_words
@@ -151,8 +156,6 @@ pub same_enc : (x y : E.Ext) → same_words (enc x) (enc y) ≡ E.same x y
 unfolding same_words E.same
 same_enc x y = refl
 
-pub same_of_enc : (x y : E.Ext) → (eqb x.c0.val y.c0.val && (eqb x.c1.val y.c1.val && (eqb x.c2.val y.c2.val && eqb x.c3.val y.c3.val))) ≡ E.same x y
-same_of_enc x y = equal_words (enc x) (enc y) refl ∙ same_enc x y
-
 pub same_is : {a b : Ext} {x y : E.Ext} → Is a x → Is b y → same_words a b ≡ E.same x y
-same_is {x = x} {y = y} h k = cc (enc_of_is h, enc_of_is k, same_enc x y)
+unfolding same_words E.same
+same_is h k = ap₂ same_words (enc_of_is h) (enc_of_is k)

@@ -36,6 +36,7 @@ pub fn load(s: &[u32], i: usize) -> Ext
     requires clean { Clean s.now }
     ensures { Is result (cell s.now i) }
 {
+    // Stays: a pattern of four words in a slice needs an arm for slices of another length, which never runs.
     let k = 4 * i;
     Ext {
         c0: s[k],
@@ -52,6 +53,7 @@ pub fn store(s: &mut [u32], i: usize, e: Ext)
     requires canon { Canon e }
     ensures { Stored s.old s.new i (dec e) }
 {
+    // Stays: `copy_from_slice` is proved too, but the words go through memory twice, with a test that they do not overlap.
     let k = 4 * i;
     s[k] = e.c0;
     s[k + 1] = e.c1;

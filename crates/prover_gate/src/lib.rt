@@ -7,6 +7,7 @@ ghost use Rattle.refusal.specs.Limits.{max_rounds};
 ghost use Rattle.sizes.specs.Sizes.{row_count};
 ghost use Rattle.prover_gate.specs.Refusals.{short_room, lowest_row, call, first_refusal, as_gate};
 
+use field::Field;
 use refusal::{Proving, Refusal, Words};
 
 // The lengths of the rooms: proof bytes, and words of point, log and workspace.

@@ -13,7 +13,7 @@ ghost use Rattle.prover_layer.specs.Passes.{CanonPair, IsPair, dec_pair, side, s
 
 use crate::message::message;
 use crate::{Pair, Turn};
-use field::Ext;
+use field::{Ext, Field};
 use field::sums::sum_of_products;
 use step::{Frac, Three};
 

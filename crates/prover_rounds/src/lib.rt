@@ -3,7 +3,7 @@
 
 ghost use Rattle.std.specs.Prelude.{◌≡◌, ℕ, suc, ◌+◌, ◌*◌, ◌-◌, ◌^◌, ◌<◌, ◌≤◌, length};
 ghost use Rattle.field.specs.Ext as E;
-ghost use Rattle.field.specs.Element.{dec, Canon};
+ghost use Rattle.field.specs.Element.{dec, Canon, Is};
 ghost use Rattle.field.specs.Cells.{cell, Clean};
 ghost use Rattle.gkr.specs.Run.{Frac as Fraction};
 ghost use Rattle.transcript.specs.Log.{Enough, Steps, log_of, source_of, state};
@@ -13,7 +13,7 @@ ghost use Rattle.prover_layer.specs.Message.{CanonTurn, IsTurn};
 ghost use Rattle.prover_rounds.specs.SubRounds.{observed_three, SubSent, SubRounds};
 ghost use Rattle.prover_rounds.specs.Layers.{observed_frac, RoundClosed, OneLayer, Levels, log_up_to, used_up_to, AllLayers};
 
-use field::Ext;
+use field::{Ext, Field};
 use prover_layer::Turn;
 use step::{Frac, Three};
 use transcript::Transcript;
@@ -30,7 +30,7 @@ fn observe_round_poly(transcript: &mut Transcript<'_>, s: Three)
     transcript.observe_ext(s.s3);
 }
 
-// One sub-round over weighed claims that begins with t: its polynomial is observed, rho sampled and kept in cell i of the point, and the claims are folded at rho.
+// One sub-round over weighed claims that begins with t: its polynomial is observed, rho sampled and kept in cell i of the point, and the claims are folded at it.
 fn sub_round(
     work: &mut [u32],
     at: usize,
@@ -40,7 +40,7 @@ fn sub_round(
     xi: &mut [u32],
     i: usize,
     transcript: &mut Transcript<'_>,
-)
+) -> Ext
     requires layer { (2 * pq + 8 * half ≤ at) × (4 * (at + half) ≤ length work.old) }
     requires room { (4 * i + 3 < length xi.old) × (transcript.old.put + 16 ≤ length transcript.old.log.now) }
     requires enough { Enough (state transcript.old) 1 }
@@ -48,12 +48,14 @@ fn sub_round(
     ensures same { transcript.new.log.ghost_name ≡ transcript.old.log.ghost_name }
     ensures sent { SubSent work.old work.new xi.old xi.new (state transcript.old) (state transcript.new)
         (source_of (state transcript.old)) at pq half i t }
+    ensures rho { Is result (cell xi.new i) }
 {
     let s = prover_layer::passes::sumcheck_round_poly_evals(work, at, pq, half, t);
     observe_round_poly(transcript, s);
     let rho = transcript.sample_ext();
     field::store(xi, i, rho);
     prover_layer::passes::fold_mle_evals(work, pq, half, rho);
+    rho
 }
 
 // The sub-rounds of a round over size = 2^round entries with weighed claims; each rho goes into the point behind cell 0, in order,
@@ -82,8 +84,7 @@ fn weighed_sub_rounds(
     for j in 0..round {
         let i = j + 1;
         let x = field::load(xi, i);
-        sub_round(work, eq + half, pq, half, t, xi, i, transcript);
-        let rho = field::load(xi, i);
+        let rho = sub_round(work, eq + half, pq, half, t, xi, i, transcript);
         half /= 2;
         t = prover_layer::passes::next_turn(work, eq + half, pq, half, t, rho, x);
     }

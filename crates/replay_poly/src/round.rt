@@ -1,17 +1,17 @@
 // The code over five lists.
 use cases::print;
 use cases::read::{next_ext, next_words};
-use poly::RoundEvals;
 use poly::report::round_number_and_values;
 use poly::round::sumcheck_round_poly_evals;
+use refusal::Refusal;
+use step::Three;
 
-fn print_round(evals: RoundEvals) {
+fn print_round(evals: Result<Three, Refusal>) {
     let r = round_number_and_values(evals);
-    let s = r.values;
-    print::first(r.report.number as u64);
-    print::ext(s.s1);
-    print::ext(s.s2);
-    print::ext(s.s3);
+    print::first(u64::from(r.report.number));
+    print::ext(r.values.s1);
+    print::ext(r.values.s2);
+    print::ext(r.values.s3);
     print::end();
 }
 
@@ -28,17 +28,12 @@ pub fn round_evals(text: &[u8], at: usize) -> usize {
     let c = next_words(text, b.at, &mut q0);
     let d = next_words(text, c.at, &mut p1);
     let e = next_words(text, d.at, &mut q1);
-    let i = a.count;
-    let j = b.count;
-    let k = c.count;
-    let l = d.count;
-    let m = e.count;
     print_round(sumcheck_round_poly_evals(
-        &eq[..i],
-        &p0[..j],
-        &q0[..k],
-        &p1[..l],
-        &q1[..m],
+        &eq[..a.count],
+        &p0[..b.count],
+        &q0[..c.count],
+        &p1[..d.count],
+        &q1[..e.count],
         lambda.value,
     ));
     e.at

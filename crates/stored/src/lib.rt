@@ -9,7 +9,7 @@ ghost use Rattle.stored.specs.Parse.{known, sized, parse, entries_fit, entries_f
 ghost use Rattle.stored.specs.ParseLaws.{Shaped};
 ghost use Rattle.stored.specs.Shapes.{shape_of, claims_in, cubic_in};
 
-use field::Ext;
+use field::{Ext, Field};
 use refusal::Refusal;
 
 // The counts of the two lists, and the place of the first polynomial entry.

@@ -13,7 +13,7 @@ use Rattle.field.specs.Element.{enc}
 use Rattle.field.specs.Cells.{cell}
 use Rattle.field.specs.declared.Ext.{Ext}
 use Rattle.multilinear.specs.RoundSum.{Claims}
-use Rattle.wire.specs.Bytes.{be4, bytes_of}
+use Rattle.wire.specs.Bytes.{bytes_of}
 use Rattle.wire.specs.Words.{ext_words}
 use Rattle.wire.specs.Written.{Wrote}
 use Rattle.wire.specs.WrittenLaws.{wrote_then}
@@ -24,15 +24,6 @@ use Rattle.stored.proofs.RoundTrip.{claims_size, cubics_size}
 use Rattle.stored_writer.specs.Messages.{stored_cubic, stored_claims, stored_polys, stored_layers, stored_entries, words_of_log}
 
 -- PIECES
-module _ (l0 l1 l2 l3 l4 : List ℕ) (at a b c d : ℕ) where
-  pub element_form : (e : Ext) → Wrote l0 l1 at a (be4 e.c0) → Wrote l1 l2 a b (be4 e.c1) → Wrote l2 l3 b c (be4 e.c2) → Wrote l3 l4 c d (be4 e.c3)
-      → Wrote l0 l4 at d (bytes_of (ext_words e))
-  unfolding bytes_of
-  element_form e p q r s =
-      let x = wrote_then l0 l1 l2 at a b (be4 e.c0) (be4 e.c1) p q in
-      let y = wrote_then l0 l2 l3 at b c (be4 e.c0 ++ be4 e.c1) (be4 e.c2) x r in
-      wrote_then l0 l3 l4 at c d ((be4 e.c0 ++ be4 e.c1) ++ be4 e.c2) (be4 e.c3) y s
-
 module _ (l0 l1 l2 l3 : List ℕ) (at a b c : ℕ) (u v w : Ext) (p : Wrote l0 l1 at a (bytes_of (ext_words u))) (q : Wrote l1 l2 a b (bytes_of (ext_words v)))
     (r : Wrote l2 l3 b c (bytes_of (ext_words w))) where
   pub cubic_form : Wrote l0 l3 at c (bytes_of (cubic_words (record { at1 = u; at2 = v; at3 = w })))

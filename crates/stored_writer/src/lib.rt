@@ -17,10 +17,7 @@ fn put_element(out: &mut [u8], at: usize, e: Ext) -> usize
     requires { at + 16 ≤ length out.old }
     ensures { Wrote out.old out.new at result (bytes_of (ext_words e)) }
 {
-    let a = wire::put_word(out, at, e.c0);
-    let b = wire::put_word(out, a, e.c1);
-    let c = wire::put_word(out, b, e.c2);
-    wire::put_word(out, c, e.c3)
+    wire::put_words(out, at, &[e.c0, e.c1, e.c2, e.c3])
 }
 
 // Cell i of the log, each word by its remainder.

@@ -6,7 +6,7 @@ use mathlib.Core.List.{List, [], ◌∷◌, ◌++◌, map}
 use Prim.Native.Nat.{ℕ, suc, ◌+◌, ◌<◌, ◌≤◌}
 use native.Mathlib.Nat.{mod-eq_of_lt}
 use native.Mathlib.Omega.{arith}
-use lib.ListN.{length, take, drop, set, length-append}
+use lib.ListN.{length, take, drop, set, length-append, length-set}
 use lib.Seq.{sets-eq, take_at, drop_at, length-take-le, drop-drop}
 use native.Mathlib.Numerals.{add-one}
 use Rattle.field.specs.Base.{P, of}
@@ -25,6 +25,9 @@ use Rattle.transcript.specs.Bound.{bound}
 
 abbrev pub four : List ℕ → ℕ → ℕ → ℕ → ℕ → ℕ → List ℕ
 four l put a b c d = set (set (set (set l put a) (put + 1) b) (put + 2) c) (put + 3) d
+
+pub four_length : (l : List ℕ) (put a b c d : ℕ) → length (four l put a b c d) ≡ length l
+four_length l put a b c d = simp length-set refl
 
 module _ (l : List ℕ) (put a b c d : ℕ) (h : put + 4 ≤ length l) where
   abbrev vs : List ℕ
@@ -65,6 +68,7 @@ with_four s used a b c d p = record { buffer = four s.buffer s.put a b c d; put 
 
 pub observed : (s : State) (e : Ext) → s.put + 4 ≤ length s.buffer → Canon e → Steps s (with_four s s.used e.c0 e.c1 e.c2 e.c3 s.sponge) 4 0 (Observing.observe (dec e) (log_of s))
 observed s e h k = record {
+  room = four_length s.buffer s.put e.c0 e.c1 e.c2 e.c3;
   put = refl;
   used = omega arith;
   drawn = refl;
@@ -84,6 +88,7 @@ sampled s ch e p h i g =
     let c = mark e.c2 in
     let d = mark e.c3 in
     record {
+      room = four_length s.buffer s.put a b c d;
       put = refl;
       used = refl;
       drawn = refl;
@@ -98,6 +103,7 @@ pub then : {s₀ s₁ s₂ : State} {n m n' m' : ℕ} {t t' : Words} → Steps s
 then {s₀} {s₁} {s₂} {n' = n'} a b =
     let e : s₂.put ≡ s₁.put + n' = b.put in
     record {
+      room = b.room ∙ a.room;
       put = omega (arith, a.put, b.put);
       used = omega (arith, a.used, b.used);
       drawn = b.drawn ∙ a.drawn;
@@ -111,6 +117,7 @@ then {s₀} {s₁} {s₂} {n' = n'} a b =
 -- the same with the log told otherwise
 pub retold : {s s' : State} {n m n' m' : ℕ} {t t' : Words} → n ≡ n' → m ≡ m' → t ≡ t' → Steps s s' n m t → Steps s s' n' m' t'
 retold en em e a = record {
+  room = a.room;
   put = omega (arith, a.put, en);
   used = omega (arith, a.used, em);
   drawn = a.drawn;
@@ -121,7 +128,7 @@ retold en em e a = record {
 }
 
 pub no_steps : (s : State) → Steps s s 0 0 (log_of s)
-no_steps s = record { put = omega arith; used = omega arith; drawn = refl; challenges = refl; log = refl; rest = refl; absorbed = λ h. h }
+no_steps s = record { room = refl; put = omega arith; used = omega arith; drawn = refl; challenges = refl; log = refl; rest = refl; absorbed = λ h. h }
 
 -- the source of challenges is the same one
 pub same_source : {s s' : State} {n m : ℕ} {t : Words} → Steps s s' n m t → source_of s' ≡ source_of s

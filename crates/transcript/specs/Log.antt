@@ -54,6 +54,7 @@ pub record Enough (s : State) (k : ℕ) : Type 0 where
 
 -- From s to s', n words and m challenges on: the log is then t, and past it the buffer is as before.
 pub record Steps (s s' : State) (n m : ℕ) (t : Words) : Type 0 where
+  pub room : length s'.buffer ≡ length s.buffer
   pub put : s'.put ≡ s.put + n
   pub used : s'.used ≡ s.used + m
   pub drawn : s'.drawn ≡ s.drawn

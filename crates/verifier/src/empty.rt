@@ -4,7 +4,7 @@ ghost use Rattle.refusal.specs.Tests.{first_of};
 ghost use Rattle.verifier.specs.Verified.{empty_tests, emptied};
 ghost use Rattle.verifier.specs.Gates.{ReadyEmpty};
 
-use field::Ext;
+use field::{Ext, Field};
 use refusal::Refusal;
 use stored::Outline;
 use verifier_round::{Claims, Verdict};

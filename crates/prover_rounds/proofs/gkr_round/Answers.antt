@@ -28,7 +28,8 @@ returns-clause-layer c =
     let s = c.sub_rounds.ensures.sent in
     let h = same_source d.ensures.steps in
     let k = same_source (then d.ensures.steps s.steps) in
-    one_layer _ _ _ _ _ _ (source_of (state a.transcript.now)) a.eq a.round a.size d.result _ p.size.0 p.size.1 p.layer.0 d.ensures.steps d.ensures.value c.first_turn-first.ensures c.eq_heap.ensures (rw h at s) (rw k at c.close_round.ensures.closed)
+    one_layer _ _ _ _ _ _ (source_of (state a.transcript.now)) a.eq a.round a.size d.result _ p.size.0 p.size.1 p.layer.0
+    d.ensures.steps d.ensures.value c.first_turn-first.ensures c.eq_heap.ensures (rw h at s) (rw k at c.close_round.ensures.closed)
 
 pub returns-clause-length : goal.returns-clause-length
 returns-clause-length c =

@@ -15,4 +15,5 @@ returns-clause-sent c =
     let d = c.sample_ext-rho in
     let h = same_source p in
     let m = c.sumcheck_round_poly_evals-s in
-    sub_done _ _ _ (source_of (state a.transcript.now)) a.at a.pq a.half a.t d.result m.result m.ensures.0 m.ensures.1 p (rw h at d.ensures.steps) (rw h at d.ensures.value) c.store.ensures c.fold_mle_evals.ensures
+    sub_done _ _ _ (source_of (state a.transcript.now)) a.at a.pq a.half a.t d.result m.result
+    m.ensures.0 m.ensures.1 p (rw h at d.ensures.steps) (rw h at d.ensures.value) c.store.ensures c.fold_mle_evals.ensures
