@@ -73,10 +73,10 @@ fn write_run(
     prover_run::begin(&mut transcript, modes.assert_zero, root.p);
     let opening = transcript.put;
     prover_run::run_rounds(n, sizes::rows_of(n), root.q, work, xi, &mut transcript);
-    let used = transcript.used_up();
+    let spent = transcript.used_up();
     stored_writer::put_proof(proof, log, opening / 4, n, modes.sized);
     prover_tree::clear(work); // nothing of the rows stays
-    used
+    spent
 }
 
 // Whether zero is asserted of a sum whose numerator is not zero.

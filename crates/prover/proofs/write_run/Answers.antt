@@ -25,4 +25,4 @@ returns c =
     (state c.new-transcript.result) (state c.begin.new.transcript) (state c.run_rounds.new.transcript) c.args.root
     (grind (arith, common_steps, same))
     (record { buffer = N.buffers.0; challenges = N.buffers.1; drawn = N.buffers.2; put = N.begun.0; used = N.begun.1 }) e R s (grind (arith, p.log, s.put, N.begun.0, r.length, same))
-    (r.run f m e L R.q.value) (grind (arith, p.log, s.put, N.begun.0, r.steps.put, same)) r.clean p.point (omega (arith, p.point)) p.proof (omega (arith, c.put_proof.auto)) c.put_proof.ensures.1 c.clear.ensures (omega arith) c.used_up-used.ensures
+    (r.run f m e L R.q.value) (grind (arith, p.log, s.put, N.begun.0, r.steps.put, same)) r.clean p.point (omega (arith, p.point)) p.proof (omega (arith, c.put_proof.auto)) c.put_proof.ensures.1 c.clear.ensures (omega arith) c.used_up-spent.ensures
