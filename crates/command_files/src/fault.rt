@@ -1,4 +1,7 @@
 // Why a command stops, and how that is told.
+ghost use Rattle.std.specs.Prelude.{◌≡◌};
+ghost use Rattle.command_files.specs.declared.fault.Fault.TheVariants as Fault;
+
 use crate::system::tell;
 use answers::say;
 use command_text::refusals::Refused;
@@ -30,6 +33,8 @@ pub enum Fault<'a> {
 }
 
 impl From<Refusal> for Fault<'_> {
+    ghost from_gives = { λ refusal fault. fault ≡ Fault.Refused refusal };
+
     fn from(refusal: Refusal) -> Self {
         Fault::Refused(refusal)
     }

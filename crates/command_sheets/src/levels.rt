@@ -14,18 +14,18 @@ struct Level<'a>(&'a [[u32; 8]]);
 
 impl fmt::Display for Level<'_> {
     fn fmt<W: fmt::Write>(&self, f: &mut fmt::Formatter<W>) -> fmt::Result {
-        for &[a, b, c, d, e, g, h, i] in self.0 {
+        for &[p0, p1, p2, p3, q0, q1, q2, q3] in self.0 {
             let p = Ext {
-                c0: a,
-                c1: b,
-                c2: c,
-                c3: d,
+                c0: p0,
+                c1: p1,
+                c2: p2,
+                c3: p3,
             };
             let q = Ext {
-                c0: e,
-                c1: g,
-                c2: h,
-                c3: i,
+                c0: q0,
+                c1: q1,
+                c2: q2,
+                c3: q3,
             };
             write!(f, " {}", Fraction(Frac { p, q }))?;
         }
