@@ -2,3 +2,4 @@
 pub mod LogPlaces
 pub mod Names
 pub mod Places
+pub mod Texts

@@ -1,6 +1,9 @@
 // Elements, fractions and refusals in words, as the text reader takes them and as people read them.
 #![tactic(auto)]
 
+ghost use Rattle.std.specs.Prelude.{Some};
+ghost use Rattle.command_text.specs.Texts.{word_text, element_text, fraction_text};
+
 use field::{Base, Ext};
 use std::fmt;
 use std::fmt::Display;
@@ -21,6 +24,8 @@ const HALF: u32 = 1006632960;
 struct Word(u32);
 
 impl Display for Word {
+    ghost output = { λ w. Some (word_text w.0) };
+
     fn fmt<W: fmt::Write>(&self, f: &mut fmt::Formatter<W>) -> fmt::Result {
         let word = self.0;
         if HALF < word && word < Base::ORDER_U32 {
@@ -36,6 +41,8 @@ impl Display for Word {
 pub struct Short(pub Ext);
 
 impl Display for Short {
+    ghost output = { λ e. Some (element_text e.0) };
+
     fn fmt<W: fmt::Write>(&self, f: &mut fmt::Formatter<W>) -> fmt::Result {
         let Ext { c0, c1, c2, c3 } = self.0;
         write!(f, "{}", Word(c0))?;
@@ -51,6 +58,8 @@ impl Display for Short {
 pub struct Fraction(pub Frac);
 
 impl Display for Fraction {
+    ghost output = { λ f. Some (fraction_text f.0) };
+
     fn fmt<W: fmt::Write>(&self, f: &mut fmt::Formatter<W>) -> fmt::Result {
         write!(f, "{}/{}", Short(self.0.p), Short(self.0.q))
     }
