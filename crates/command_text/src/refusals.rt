@@ -42,6 +42,7 @@ struct Meaning(Refusal);
 
 impl fmt::Display for Meaning {
     fn fmt<W: fmt::Write>(&self, f: &mut fmt::Formatter<W>) -> fmt::Result {
+        // Stays: one arm for each refusal, so that a new one asks for its words; in parts each part would need an arm for the others.
         match self.0 {
             Refusal::RaggedRows => write!(
                 f,

@@ -27,36 +27,42 @@ fn say_verdict(rt: &impl Print, verdict: Verdict, point: &[u32], rounds: usize) 
     }
 }
 
-// Proves and verifies the rows. The rooms are those of 64 rows: six rounds.
-fn show_rows(rt: &impl Print, rows: &[u32], work: &mut [u32]) {
+// Proves the rows and verifies the proof, whose point is left. The rooms are those of 64 rows: six rounds.
+fn prove(rows: &[u32], work: &mut [u32], point_again: &mut [u32; 24]) -> Joint {
+    let modes = Proving {
+        live: false,
+        assert_zero: true,
+        drawn: false,
+        sized: false,
+    };
+    let how = Verifying {
+        live: false,
+        drawn: false,
+        empty: false,
+    };
     let mut challenges = [0u32; 104];
+    count_up(&mut challenges);
     let mut proof = [0u8; 1132];
     let mut point = [0u32; 24];
     let mut log = [0u32; 384];
-    let mut point_again = [0u32; 24];
     let mut log_again = [0u32; 384];
-    count_up(&mut challenges);
-    match agreement::prove_and_verify(
+    agreement::prove_and_verify(
         rows,
-        Proving {
-            live: false,
-            assert_zero: true,
-            drawn: false,
-            sized: false,
-        },
-        Verifying {
-            live: false,
-            drawn: false,
-            empty: false,
-        },
+        modes,
+        how,
         &challenges,
         &mut proof,
         &mut point,
         &mut log,
         work,
-        &mut point_again,
+        point_again,
         &mut log_again,
-    ) {
+    )
+}
+
+fn show_rows(rt: &impl Print, rows: &[u32], work: &mut [u32]) {
+    let mut point = [0u32; 24];
+    match prove(rows, work, &mut point) {
         Joint::Proved {
             rounds,
             sum,
@@ -71,7 +77,7 @@ fn show_rows(rt: &impl Print, rows: &[u32], work: &mut [u32]) {
                     sum,
                 },
             );
-            say_verdict(rt, verified.verdict, &point_again, rounds);
+            say_verdict(rt, verified.verdict, &point, rounds);
         }
         Joint::Refused(refusal) => say_refusal(rt, refusal),
     }
