@@ -125,10 +125,10 @@ impl<'a> Message<'a> {
         requires { k ≤ (length self.label.now + 4 * length self.words.now) / 168 }
         ensures { result ≡ block_at (padded (message self.entry.label.now self.entry.words.now)) k }
     {
-        let mut b = [0u64; 21];
-        for n in 0..21 {
-            b[n] = self.lane(21 * k + n);
+        let mut lanes = [0u64; 21];
+        for (n, lane) in lanes.iter_mut().enumerate() {
+            *lane = self.lane(21 * k + n);
         }
-        b
+        lanes
     }
 }
