@@ -109,7 +109,8 @@ impl<'a> Message<'a> {
     {
         let size = self.size();
         let at = 8 * i;
-        if at >= self.label.len() && at + 8 < size {
+        // two tests that compile to two branches: with `at + 8 < size` both are asked in each lane, and a block takes longer
+        if at >= self.label.len() && at - self.label.len() + 8 < 4 * self.words.len() {
             lane_of_words(self.words, at - self.label.len())
         } else if at <= size {
             self.lane_by_quads(i)
