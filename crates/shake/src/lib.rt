@@ -59,8 +59,7 @@ fn absorb_block(s: Lanes, m: Message, k: usize) -> Lanes
     requires { k ≤ (length m.label.now + 4 * length m.words.now) / 168 }
     ensures { as_list result ≡ absorb_block (as_list s) (padded (message m.entry.label.now m.entry.words.now)) k }
 {
-    let block = m.block(k);
-    permute(xor_block(s, block))
+    permute(xor_block(s, m.block(k)))
 }
 
 // A sponge that has absorbed nothing, of whatever message.
