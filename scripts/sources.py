@@ -48,7 +48,8 @@ def comment_above(lines, i, pad):
     while lines[j].startswith(pad + "#["):
         j -= 1
     while j >= 0 and lines[j].startswith(pad + "//"):
-        above.insert(0, lines[j].strip()[2:].strip())
+        if not lines[j].strip().startswith("// Stays: "):
+            above.insert(0, lines[j].strip()[2:].strip())
         j -= 1
     return " ".join(above)
 

@@ -2,7 +2,8 @@
 -- Assumes nothing.
 use mathlib.Core.Path.{◌≡◌}
 use mathlib.Core.List.{List}
-use Prim.Native.Nat.{ℕ, ◌+◌, ◌*◌}
+use Prim.Native.Nat.{ℕ, ◌+◌, ◌*◌, ◌≤◌}
+use native.Mathlib.Omega.{arith}
 use Rattle.field.specs.Ext as E
 use Rattle.field.specs.Element.{dec}
 use Rattle.field.specs.ElementLaws.{is_eq}
@@ -13,7 +14,7 @@ use Rattle.step.specs.declared.Entry.{Entry}
 use Rattle.step.specs.declared.Three.{Three}
 use Rattle.step.specs.Values.{IsEntry, IsThree, dec_claims, summand_at, two, three}
 use Rattle.step.proofs.Pairs.{entry_claims}
-use Rattle.columns.specs.Passes.{summand_of, Summands, Sums}
+use Rattle.columns.specs.Passes.{summand_of, Room, Summands, Sums}
 use Rattle.columns.proofs.Turns.{sum_none, sum_turn}
 
 module _ (eq : List ℕ) (pq : ℕ → Claims E.Ext) (l : E.Ext) where
@@ -50,3 +51,18 @@ module _ (eq : List ℕ) (pq : ℕ → Claims E.Ext) (l : E.Ext) where
     s2 = record { canon = hr.s2.canon; value = sum_turn (summand_of eq pq l two) y ha.s2.value hb.s2.value hr.s2.value };
     s3 = record { canon = hr.s3.canon; value = sum_turn (summand_of eq pq l three) y ha.s3.value hb.s3.value hr.s3.value };
   }
+
+-- fewer words of five columns
+pub room_less : (m n : ℕ) {e a b c d : List ℕ} → m ≤ n → Room n e a b c d → Room m e a b c d
+room_less m n l h = record {
+  eq = omega arith;
+  p0 = omega arith;
+  q0 = omega arith;
+  p1 = omega arith;
+  q1 = omega arith;
+  eq_clean = h.eq_clean;
+  p0_clean = h.p0_clean;
+  q0_clean = h.q0_clean;
+  p1_clean = h.p1_clean;
+  q1_clean = h.q1_clean;
+}

@@ -1,5 +1,5 @@
 // A sub-round's polynomial at 1, 2 and 3, from the eq column and the four columns of claims: one pass over them.
-ghost use Rattle.std.specs.Prelude.{◌+◌, ◌*◌, ◌≤◌, length};
+ghost use Rattle.std.specs.Prelude.{◌+◌, ◌*◌};
 ghost use Rattle.field.specs.Element.{dec, Canon};
 ghost use Rattle.field.specs.Cells.{cell};
 ghost use Rattle.step.specs.Values.{IsEntry};
@@ -8,7 +8,7 @@ ghost use Rattle.columns.specs.Passes.{claims, Room, Summands, Sums, Constant};
 use field::{Ext, Field};
 use step::{Entry, Frac, Three};
 
-// What a sub-round reads: the eq column, and the claims on the left and the right children. Each column has the words of eq, or more.
+// What a sub-round reads: the eq column, and the claims on the left and the right children.
 #[derive(Clone, Copy)]
 pub struct Columns<'a> {
     pub eq: &'a [u32],
@@ -16,13 +16,12 @@ pub struct Columns<'a> {
     pub q0: &'a [u32],
     pub p1: &'a [u32],
     pub q1: &'a [u32],
-    pub ghost room: { Room (length eq.now) eq.now p0.now q0.now p1.now q1.now },
 }
 
 impl Columns<'_> {
     // Entry i of all five columns.
     fn entry(&self, i: usize) -> Entry
-        requires room { 4 * i + 4 ≤ length self.now.eq.now }
+        requires room { Room (4 * i + 4) self.now.eq.now self.now.p0.now self.now.q0.now self.now.p1.now self.now.q1.now }
         ensures { IsEntry result (cell self.now.eq.now i) (claims self.now.p0.now self.now.q0.now self.now.p1.now self.now.q1.now i) }
     {
         Entry {
@@ -40,7 +39,7 @@ impl Columns<'_> {
 
     // The three summands of the entries 2y and 2y + 1.
     fn pair(&self, y: usize, lambda: Ext) -> Three
-        requires room { 8 * y + 8 ≤ length self.now.eq.now }
+        requires room { Room (8 * y + 8) self.now.eq.now self.now.p0.now self.now.q0.now self.now.p1.now self.now.q1.now }
         requires canon { Canon lambda }
         ensures { Summands result y self.now.eq.now (claims self.now.p0.now self.now.q0.now self.now.p1.now self.now.q1.now) (dec lambda) }
     {
@@ -49,7 +48,7 @@ impl Columns<'_> {
 
     // The sums over the first n pairs of entries.
     pub fn sums(&self, n: usize, lambda: Ext) -> Three
-        requires room { 8 * n ≤ length self.now.eq.now }
+        requires room { Room (8 * n) self.now.eq.now self.now.p0.now self.now.q0.now self.now.p1.now self.now.q1.now }
         requires canon { Canon lambda }
         ensures { Sums result n self.now.eq.now (claims self.now.p0.now self.now.q0.now self.now.p1.now self.now.q1.now) (dec lambda) }
     {
@@ -59,14 +58,14 @@ impl Columns<'_> {
             s3: Ext::ZERO,
         };
         for y in 0..n {
-            acc = step::three_plus(acc, self.pair(y, lambda));
+            acc = acc + self.pair(y, lambda);
         }
         acc
     }
 
     // Of one entry there is no bit to bind: the constant, three times.
     pub fn constant(&self, lambda: Ext) -> Three
-        requires room { 4 ≤ length self.now.eq.now }
+        requires room { Room 4 self.now.eq.now self.now.p0.now self.now.q0.now self.now.p1.now self.now.q1.now }
         requires canon { Canon lambda }
         ensures { Constant result self.now.eq.now (claims self.now.p0.now self.now.q0.now self.now.p1.now self.now.q1.now) (dec lambda) }
     {

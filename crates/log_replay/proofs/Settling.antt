@@ -6,7 +6,7 @@ use mathlib.Core.Bool.{Bool, true, false, cond}
 use mathlib.Core.List.{List, [], ◌++◌, append_assoc}
 use Prim.Native.Nat.{ℕ, ◌*◌, ◌≤◌, ◌<◌}
 use native.Mathlib.Omega.{arith}
-use borrow.Author.Tests.{lt-ltb, le-ltb, ltb-true, ltb-false}
+use borrow.Author.Tests.{le-ltb, ltb-true, ltb-false}
 use lib.Dec.{eqb, ltb}
 use lib.ListN.{length, length-append, length-replicate, take, drop, replicate, take-append-drop}
 use lib.Seq.{length-take-le, take-append_seam, take_at, drop-append-le}
@@ -35,12 +35,6 @@ use Rattle.log_replay.specs.Replayed.{Kept, Compared, same, differs, outcome, to
 use Rattle.log_replay.specs.Inner.{fits, gap, settled}
 
 -- THE WORDS OF A POINT THAT ARE LOOKED AT
-
-pub fits_few : (p : ℕ) → p < 4 * max_rounds → fits p ≡ p
-fits_few p h = ap (λ t. cond t p (4 * max_rounds)) (lt-ltb p (4 * max_rounds) h)
-
-pub fits_many : (p : ℕ) → 4 * max_rounds ≤ p → fits p ≡ 4 * max_rounds
-fits_many p h = ap (λ t. cond t p (4 * max_rounds)) (le-ltb p (4 * max_rounds) h)
 
 -- by cases of their number
 by_room : (Q : ℕ → Type 0) (p : ℕ) → (p < 4 * max_rounds → Q p) → (4 * max_rounds ≤ p → Q (4 * max_rounds)) → Q (fits p)

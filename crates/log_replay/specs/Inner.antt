@@ -1,6 +1,6 @@
 -- What the inner functions of a replay answer.
 -- Assumes nothing.
-use Rattle.std.specs.Prelude.{⊤, Result, Ok, Err, Bool, cond, ◌&&◌, List, ℕ, ◌+◌, ◌*◌, ◌^◌, leb, ltb, length, set}
+use Rattle.std.specs.Prelude.{⊤, Result, Ok, Err, Bool, cond, not, eqb, ◌&&◌, List, ℕ, ◌+◌, ◌*◌, ◌^◌, leb, ltb, length, set}
 use Rattle.refusal.specs.Limits.{max_rounds}
 use Rattle.transcript.specs.Used.{unused}
 use Rattle.verifier_round.specs.declared.Claims.{Claims}
@@ -18,6 +18,11 @@ placed w words k = cond (goes w words k) (set words k (plain_word w)) words
 abbrev pub next_place : (w : ℕ) (words : List ℕ) (k : ℕ) → ℕ
 next_place w words k = cond (goes w words k) (k + 1) k
 
+-- two words that differ
+abbrev pub differ : ℕ × ℕ → Bool
+differ p = not (eqb p.0 p.1)
+
+-- an answer as the comparison that it tells
 abbrev pub as_compared : Result ⊤ Refusal → Compared
 as_compared (Ok _) = same
 as_compared (Err e) = differs e

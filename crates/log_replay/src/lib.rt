@@ -2,8 +2,9 @@
 #![tactic(auto)]
 
 ghost use Rattle.std.specs.Prelude.{◌≡◌, ◌++◌, Err, ◌^◌, ◌≤◌, eqb, length, take, drop, replicate};
+ghost use Rattle.std.specs.List.{zip, position};
 ghost use Rattle.log_replay.specs.Replayed.{kept, plain_word, most_words, challenges_of, of_run, compared, outcome, replayed};
-ghost use Rattle.log_replay.specs.Inner.{placed, next_place, as_compared, gap, fits, settled};
+ghost use Rattle.log_replay.specs.Inner.{placed, next_place, differ, as_compared, gap, fits, settled};
 
 use field::Base;
 use refusal::{MAX_ROUNDS, Refusal, Report, Verifying};
@@ -49,17 +50,22 @@ fn alike(given: u32, left: u32) -> bool
     given == left
 }
 
+// The first place where both logs have a word and these differ, if there is one.
+fn first_difference(given: &[u32], left: &[u32]) -> Option<usize>
+    ensures { result ≡ position differ (zip given.now left.now) }
+{
+    given.iter().zip(left).position(|(g, l)| !alike(*g, *l))
+}
+
 // That the log given is the log left, or the refusal of the first place where it is not.
 fn compare_logs(given: &[u32], left: &[u32]) -> Result<(), Refusal>
     ensures { as_compared result ≡ compared given.now left.now 0 }
 {
-    for i in 0..given.len() {
-        if left.len() <= i {
-            return Err(Refusal::LogLong { place: i });
-        }
-        if !alike(given[i], left[i]) {
-            return Err(Refusal::LogMismatch { place: i });
-        }
+    if let Some(place) = first_difference(given, left) {
+        return Err(Refusal::LogMismatch { place });
+    }
+    if left.len() < given.len() {
+        return Err(Refusal::LogLong { place: left.len() });
     }
     if given.len() < left.len() {
         return Err(Refusal::LogShort { place: given.len() });

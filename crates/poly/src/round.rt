@@ -9,8 +9,7 @@ use field::Ext;
 use refusal::{Refusal, power_of_two};
 use step::Three;
 
-// Stays: five slices, as `sumcheck_round_poly_evals` of the Rust takes them; `Columns` are five that passed these checks.
-// The words of five lists.
+// The words of five lists. Stays: five slices, as `sumcheck_round_poly_evals` of the Rust takes them.
 fn check_five(eq: &[u32], p0: &[u32], q0: &[u32], p1: &[u32], q1: &[u32]) -> Result<(), Refusal>
     ensures { result ≡ unless (all_five eq.now p0.now q0.now p1.now q1.now) bad_word (Ok tt) }
 {

@@ -4,6 +4,7 @@
 use cases::print;
 use cases::read::{fill_words, next_bytes, next_number, next_word, next_words};
 use refusal::Verifying;
+use verifier::Ending;
 
 // The length of the point, and what it holds before the call.
 #[derive(Clone, Copy)]
@@ -33,9 +34,7 @@ fn modes_of(word: u64) -> Verifying {
 }
 
 fn call(proof: &[u8], rounds: usize, modes: Verifying, log: &[u32], point: &mut [u32]) {
-    let replayed = log_replay::replay(proof, rounds, modes, log, point);
-    let verdict = replayed.verdict;
-    let used = replayed.used;
+    let Ending { verdict, used } = log_replay::replay(proof, rounds, modes, log, point);
     print::report(verifier_round::number_and_values(verdict));
     print::next(used.challenges as u64);
     print::next(used.words as u64);
@@ -59,13 +58,11 @@ fn answer(text: &[u8], at: usize) -> usize {
     let p = next_bytes(text, word.at, &mut proof);
     let l = next_words(text, p.at, &mut log);
     let room = next_room(text, l.at);
-    let m = p.count;
-    let n = l.count;
     call_filled(
-        &proof[..m],
+        &proof[..p.count],
         rounds.value as usize,
         modes_of(word.value),
-        &log[..n],
+        &log[..l.count],
         room,
     );
     room.at
@@ -73,7 +70,7 @@ fn answer(text: &[u8], at: usize) -> usize {
 
 fn replay(text: &[u8]) {
     let mut at = 0;
-    for turn in 0..text.len() {
+    for _ in 0..text.len() {
         if text.len() <= at {
             return;
         }

@@ -4,6 +4,7 @@
 use cases::print;
 use cases::read::{fill_words, next_bytes, next_number, next_word, next_words};
 use refusal::Verifying;
+use verifier::Ending;
 
 // The lengths of the two buffers, and what they hold before the call.
 #[derive(Clone, Copy)]
@@ -43,9 +44,9 @@ fn call(
     point: &mut [u32],
     log: &mut [u32],
 ) {
-    let verified = verifier::verify_gkr(proof, rounds, modes, challenges, point, log);
-    let verdict = verified.verdict;
-    let used = verified.used;
+    let Ending { verdict, used } = verifier::verify_gkr(
+        proof, rounds, modes, challenges, point, log,
+    );
     print::report(verifier_round::number_and_values(verdict));
     print::next(used.challenges as u64);
     print::next(used.words as u64);
@@ -79,13 +80,11 @@ fn answer(text: &[u8], at: usize) -> usize {
     let p = next_bytes(text, word.at, &mut proof);
     let c = next_words(text, p.at, &mut challenges);
     let rooms = next_rooms(text, c.at);
-    let m = p.count;
-    let n = c.count;
     call_filled(
-        &proof[..m],
+        &proof[..p.count],
         rounds.value as usize,
         modes_of(word.value),
-        &challenges[..n],
+        &challenges[..c.count],
         rooms,
     );
     rooms.at
@@ -93,7 +92,7 @@ fn answer(text: &[u8], at: usize) -> usize {
 
 fn replay(text: &[u8]) {
     let mut at = 0;
-    for turn in 0..text.len() {
+    for _ in 0..text.len() {
         if text.len() <= at {
             return;
         }

@@ -103,10 +103,6 @@ module _ (bs W : List ℕ) (n : ℕ) where
       sym (place_past W (omega (arith, t, l)))
 
 -- THE WHOLE PROOF
-pub entries_room : (bs : List ℕ) (o : Outline) → Shaped bs o → (o.polys ≤ length bs) × (entries_fit o.entries (drop o.polys bs) ≡ true)
-entries_room bs o s =
-    (omega (arith, s.polys, s.reads.room), ap₂ (λ (n m : ℕ). entries_fit n (drop m bs)) s.entries s.polys ∙ s.reads.fit)
-
 pub size_most : (bs : List ℕ) (o : Outline) → Shaped bs o → 7 + o.entries ≤ length bs
 size_most bs o s = omega (arith, proof_size bs s.reads, s.entries)
 

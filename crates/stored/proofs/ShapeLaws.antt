@@ -8,9 +8,9 @@ use native.Mathlib.Omega.{arith}
 use Rattle.std.proofs.lemmas.List.{take_all}
 use Rattle.std.proofs.Math.Numerals.{one-add}
 use Rattle.std.specs.Prelude.{Ok, Err}
-use borrow.Author.Tests.{eq-eqb, ne_eqb, lt-leb, le-leb, eqb-true, eqb-false}
+use borrow.Author.Tests.{ne_eqb, lt-leb, le-leb}
 use lib.Dec.{eqb, leb}
-use lib.ListN.{length, get_or, take, drop, length-drop, get_or-eq_default}
+use lib.ListN.{length, get_or, take, drop, length-drop}
 use lib.Seq.{drop-drop}
 use Rattle.field.specs.declared.Ext.{Ext}
 use Rattle.multilinear.specs.RoundSum.{Claims}
@@ -18,7 +18,7 @@ use Rattle.gkr.specs.Run.{Cubic}
 use Rattle.wire.specs.Bytes.{word, elem}
 use Rattle.refusal.specs.declared.Refusal.TheVariants.{BadVersion, BadLength}
 use Rattle.stored.specs.Shapes.{shape_of}
-use Rattle.stored.specs.Parse.{claims_of, cubic_of, entry_size, entries_fit, known, sized, count_of_layers, count_of_entries, polys_at, fits, parse}
+use Rattle.stored.specs.Parse.{claims_of, cubic_of, entry_size, entries_fit, known, count_of_layers, count_of_entries, polys_at, fits, parse}
 use Rattle.stored.specs.ParseLaws.{claims_count, entries_count, reads_parse}
 
 cond_false : (a : Bool) → cond a false false ≡ false
@@ -29,40 +29,12 @@ cond_twice : (a b : Bool) → cond a (cond b false false) false ≡ false
 cond_twice true b = cond_false b
 cond_twice false b = refl
 
--- two tests that hold together are one
-same_test : (a b c d : ℕ) → (a ≡ b → c ≡ d) → (c ≡ d → a ≡ b) → eqb a b ≡ eqb c d
-same_test a b c d f g = by (eqb a b) refl
-  where
-    by : (t : Bool) → eqb a b ≡ t → t ≡ eqb c d
-    by true e = sym (eq-eqb c d (f (eqb-true a b e)))
-    by false e = sym (ne_eqb c d (λ q. eqb-false a b e (g q)))
-
--- THE VERSION
-module _ (bs : List ℕ) where
-  first_none : length bs ≡ 0 → get_or bs 0 0 ≡ 0
-  first_none h = get_or-eq_default bs 0 {n = 0} (omega arith)
-
-  pub unknown_none : length bs ≡ 0 → false ≡ known bs
-  unknown_none h = rw (first_none h)
-
-  pub unsized_none : length bs ≡ 0 → false ≡ sized bs
-  unsized_none h = rw (first_none h)
-
-  pub known_one : get_or bs 0 0 ≡ 1 → true ≡ known bs
-  known_one h = rw h
-
-  pub known_two : (get_or bs 0 0 ≡ 1 → ⊥) → eqb (get_or bs 0 0) 2 ≡ known bs
-  known_two h = rw (ne_eqb (get_or bs 0 0) 1 h)
-
 -- ENTRIES
 module _ (bs : List ℕ) (from n : ℕ) where
   -- k entries are passed, and `rest` is what is left of the bytes
   pub record Fitting (rest : List ℕ) (k : ℕ) : Type 0 where
     pub upto : k ≤ n
     pub left : entries_fit n (drop from bs) ≡ entries_fit (n - k) rest
-
-  pub fitting_start : Fitting (drop from bs) 0
-  fitting_start = let e : n - 0 ≡ n = omega arith in record { upto = omega arith; left = rw e }
 
   turn : (rest : List ℕ) (k : ℕ) → Fitting rest k → k < n → entries_fit n (drop from bs) ≡ cond (leb (entry_size rest) (length rest)) (entries_fit (n - (k + 1)) (drop (entry_size rest) rest)) false
   unfolding entries_fit

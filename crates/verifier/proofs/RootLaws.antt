@@ -3,18 +3,13 @@
 use Rattle.std.specs.Prelude.{Result, Ok, Err}
 use mathlib.Core.Path.{◌≡◌, refl, sym, ◌∙◌, ap, subst}
 use mathlib.Core.Bool.{Bool, true, false, cond, ◌&&◌}
-use mathlib.Core.List.{List}
-use Prim.Native.Nat.{ℕ, ◌-◌}
-use borrow.Author.Tests.{eq-eqb, ne_eqb}
+use Prim.Native.Nat.{ℕ}
 use lib.ListN.{length, take}
-use Rattle.refusal.specs.declared.Verifying.{Verifying}
 use Rattle.refusal.specs.declared.Refusal.{Refusal}
 use Rattle.refusal.specs.declared.Refusal.TheVariants.{ZeroRoot}
 use Rattle.refusal.specs.Tests.{Tested, passed, refused, first_of}
 use Rattle.refusal.specs.TestWays.{next, next_passed, first_split}
 use Rattle.stored.specs.declared.Outline.{Outline}
-use Rattle.stored.specs.Elements.{over_zero}
-use Rattle.stored.specs.ParseLaws.{Shaped}
 use Rattle.verifier.specs.Verified.{Asked, Lent, rootless, tests, fronts, laid, verified}
 use Rattle.verifier.specs.Companions.{in_mode}
 use Rattle.verifier.specs.Gates.{root_gate, Opened, Gated}
@@ -24,32 +19,6 @@ use Rattle.verifier.specs.Gates.{root_gate, Opened, Gated}
 pub and_right : (b : Bool) → (b && false) ≡ false
 and_right true = refl
 and_right false = refl
-
-module _ (modes : Verifying) (bs : List ℕ) (n : ℕ) (o : Outline) (s : Shaped bs o) where
-  -- passed where one of its parts is not met
-  pub not_live : modes.live ≡ false → Ok o ≡ root_gate modes bs n o
-  not_live h = rw h
-
-  pub no_rounds : n ≡ 0 → Ok o ≡ root_gate modes bs n o
-  no_rounds h = rw (eq-eqb n 0 h, and_right modes.live)
-
-  module _ (h0 : n ≡ 0 → ⊥) (h1 : modes.live ≡ true) where
-    pub other_layers : (o.layers ≡ n → ⊥) → Ok o ≡ root_gate modes bs n o
-    other_layers h = rw (ne_eqb n 0 h0, h1, ne_eqb _ n (λ e. h (s.layers ∙ e)))
-
-    module _ (h2 : o.layers ≡ n) where
-      pub other_entries : (k : ℕ) → k ≡ n - 1 → (o.entries ≡ k → ⊥) → Ok o ≡ root_gate modes bs n o
-      other_entries k e h = rw (ne_eqb n 0 h0, h1, eq-eqb _ n (sym s.layers ∙ h2), ne_eqb _ (n - 1) (λ q. h (s.entries ∙ q ∙ sym e)))
-
-      module _ (k : ℕ) (e : k ≡ n - 1) (h3 : o.entries ≡ k) (z : Bool) (ze : z ≡ over_zero bs) where
-        tested : root_gate modes bs n o ≡ cond z (Err ZeroRoot) (Ok o)
-        tested = rw (ne_eqb n 0 h0, h1, eq-eqb _ n (sym s.layers ∙ h2), eq-eqb _ (n - 1) (sym s.entries ∙ h3 ∙ e), sym ze)
-
-        pub root_shut : z ≡ true → Err ZeroRoot ≡ root_gate modes bs n o
-        root_shut h = sym (tested ∙ ap (λ b. cond b (Err ZeroRoot) (Ok o)) h)
-
-        pub root_open : z ≡ false → Ok o ≡ root_gate modes bs n o
-        root_open h = sym (tested ∙ ap (λ b. cond b (Err ZeroRoot) (Ok o)) h)
 
 -- THE ORDER
 

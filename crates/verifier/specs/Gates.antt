@@ -6,11 +6,10 @@ use Rattle.field.specs.Extension.{Extension}
 use Rattle.field.specs.Cells.{Clean}
 use Rattle.gkr.specs.Transcripts.{Source, empty}
 use Rattle.gkr.specs.Gkr as Gkr
-use Rattle.transcript.specs.declared.Pos.{Pos}
+use Rattle.shake.specs.Drawn.{Holds}
 use Rattle.transcript.specs.declared.Used.{Used}
-use Rattle.transcript.specs.Log.{Drawing}
+use Rattle.transcript.specs.Log.{Drawing, State}
 use Rattle.transcript.specs.Bound.{bound}
-use Rattle.transcript.specs.Used.{used_at}
 use Rattle.refusal.specs.Limits.{max_rounds}
 use Rattle.refusal.specs.declared.Verifying.{Verifying}
 use Rattle.refusal.specs.declared.Refusal.{Refusal}
@@ -24,8 +23,6 @@ use Rattle.stored.specs.Layout.{proof_words}
 use Rattle.stored.specs.Parse.{sized, proof_of}
 use Rattle.stored.specs.ParseLaws.{Shaped}
 use Rattle.stored.specs.Elements.{decoded}
-use Rattle.verifier_round.specs.declared.Layer.{Layer}
-use Rattle.verifier_round.specs.declared.Stopped.{Stopped}
 use Rattle.verifier_round.specs.declared.Claims.{Claims}
 use Rattle.verifier_round.specs.Verdicts.{Model}
 use Rattle.verifier_rounds.specs.Runs.{Ends}
@@ -58,17 +55,17 @@ abbrev pub Gated : (a : Asked) (points logs : ℕ) → Result Outline Refusal �
 Gated a points logs (Ok o) = Opened a points logs o
 Gated a points logs (Err e) = first_of (tests a points logs) ≡ refused e
 
--- what the run asks
-pub record Ready (bs pt lg ch : List ℕ) (drawn : Bool) (n : ℕ) (o : Outline) : Type 0 where
+-- what the run asks, from a state of the transcript
+pub record Ready (bs pt : List ℕ) (t : State) (n : ℕ) (o : Outline) : Type 0 where
   pub some : 1 ≤ n
   pub few : n ≤ max_rounds
   pub shaped : Shaped bs o
   pub canon : all_canonical (proof_words (proof_of bs)) ≡ true
   pub room : 4 * n ≤ length pt
-  pub log_room_fits : log_room true (sized bs) n ≤ length lg
-  pub chals : needed_words drawn n ≤ length ch
+  pub log_room_fits : log_room true (sized bs) n ≤ length t.buffer
+  pub chals : needed_words t.drawn n ≤ length t.challenges
   pub points : Clean pt
-  pub clean : Clean ch
+  pub clean : Clean t.challenges
 
 -- what no rounds ask
 pub record ReadyEmpty (bs : List ℕ) (o : Outline) : Type 0 where
@@ -76,28 +73,24 @@ pub record ReadyEmpty (bs : List ℕ) (o : Outline) : Type 0 where
   pub canon : all_canonical (proof_words (proof_of bs)) ≡ true
 
 -- nothing is written or used yet, and nothing taken in
-pub record Starts (pos : Pos) : Type 0 where
-  pub put : pos.put ≡ 0
-  pub used : pos.used ≡ 0
-  pub blocks : pos.blocks ≡ 0
+pub record Starts (t : State) : Type 0 where
+  pub put : t.put ≡ 0
+  pub used : t.used ≡ 0
+  pub holds : (m : List ℕ) → Holds t.sponge m
 
 -- the model's verifier over the proof that stands in the bytes
 abbrev pub verdict : (bs : List ℕ) (n : ℕ) (ch : Source E.Ext) → Model ch
 verdict bs n ch = Gkr.verify_gkr Extension (Drawing ch) n (decoded (proof_of bs)) (bound (sized bs) n empty)
 
--- the run from a position ends as the model's does
-abbrev pub Counted : (bs pt' lg lg' : List ℕ) (ch : Source E.Ext) (n : ℕ) (pos : Pos) → Result Layer Stopped → Type 0
-Counted bs pt' lg lg' ch n pos r = Ends lg lg' pt' ch pos n (verdict bs n ch) r
+-- the run from a state ends as the model's does
+abbrev pub Counted : (bs pt' : List ℕ) (t t' : State) (ch : Source E.Ext) (n : ℕ) → Result Claims Refusal → Type 0
+Counted bs pt' t t' ch n r = Ends t t' pt' ch n (verdict bs n ch) r
 
--- what a run's end leaves of the point found, n words of it or none
-abbrev pub point_left : Result Layer Stopped → (n : ℕ) (found point : List ℕ) → List ℕ
+-- what a run leaves of the point found, n words of it or none
+abbrev pub point_left : Result Claims Refusal → (n : ℕ) (found point : List ℕ) → List ℕ
 point_left (Ok s) n found point = take n found ++ drop n point
 point_left (Err e) n found point = point
 
--- and how it ends
+-- how a call ends
 abbrev pub ending : Result Claims Refusal → Used → Ending
 ending verdict used = record { verdict = verdict; used = used }
-
-abbrev pub answered : Result Layer Stopped → Ending
-answered (Ok s) = ending (Ok (record { numer = s.numer; denom = s.denom })) (used_at s.pos)
-answered (Err e) = ending (Err e.refusal) (used_at e.pos)

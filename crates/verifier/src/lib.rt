@@ -3,14 +3,14 @@
 
 ghost use Rattle.std.specs.Prelude.{◌≡◌, not, ◌&&◌, eqb, length};
 ghost use Rattle.stored.specs.ParseLaws.{Shaped};
-ghost use Rattle.transcript.specs.Source.{source};
+ghost use Rattle.transcript.specs.Log.{source_of, state};
 ghost use Rattle.verifier.specs.Verified.{asked, lent, outcome, verified};
 ghost use Rattle.verifier.specs.Gates.{words_gate, root_gate, unrooted, sandbox, Gated, Opened, Ready, Starts, Counted};
 
 use refusal::{Refusal, Verifying, Words};
 use stored::Outline;
-use transcript::{Pos, Used};
-use verifier_round::{Advance, Stopped, Verdict};
+use transcript::{Transcript, Used};
+use verifier_round::Verdict;
 
 mod empty; // no rounds, where that is valid
 pub mod end; // how a run ends
@@ -122,12 +122,12 @@ fn verify_counted(
     rounds: usize,
     outline: Outline,
     xi: &mut [u32],
-    log: &mut [u32],
-    challenges: &[u32],
-    pos: Pos,
-) -> Advance
-    requires { Ready proof.now xi.old log.old challenges.now pos.drawn rounds outline × Starts pos }
-    ensures { Counted proof.now xi.new log.old log.new (source pos.drawn challenges.now) rounds pos result }
+    transcript: &mut Transcript<'_>,
+) -> Verdict
+    requires ready { Ready proof.now xi.old (state transcript.old) rounds outline }
+    requires begun { Starts (state transcript.old) }
+    ensures same { transcript.new.log.ghost_name ≡ transcript.old.log.ghost_name }
+    ensures counted { Counted proof.now xi.new (state transcript.old) (state transcript.new) (source_of (state transcript.old)) rounds result }
 {
     let Outline {
         layers,
@@ -135,27 +135,20 @@ fn verify_counted(
         polys,
     } = outline;
     if layers != rounds {
-        return Err(Stopped {
-            refusal: Refusal::IncorrectLayerCount {
-                expected: rounds,
-                actual: layers,
-            },
-            pos,
+        return Err(Refusal::IncorrectLayerCount {
+            expected: rounds,
+            actual: layers,
         });
     }
     let expected = rounds - 1;
     if entries != expected {
-        return Err(Stopped {
-            refusal: Refusal::IncorrectSumcheckPolyCount {
-                expected,
-                actual: entries,
-            },
-            pos,
+        return Err(Refusal::IncorrectSumcheckPolyCount {
+            expected,
+            actual: entries,
         });
     }
-    let start = transcript::observe_size(log, pos, stored::is_sized(proof), rounds);
-    let mut lanes = [0u64; 25]; // of a sponge that has taken in nothing
-    verifier_rounds::verify_all(proof, polys, rounds, xi, log, &mut lanes, challenges, start)
+    transcript.observe_size(stored::is_sized(proof), rounds);
+    verifier_rounds::verify_all(proof, polys, rounds, xi, transcript)
 }
 
 // The run, once nothing is refused before it.
@@ -172,20 +165,15 @@ fn run(
     ensures { outcome result.verdict result.used point.new log.new
         ≡ verified (asked proof.now rounds (sandbox drawn) challenges.now) (lent point.old log.old) }
 {
-    let pos = transcript::start(drawn);
     let needs = sizes::needed_words(drawn, rounds);
+    let mut transcript = Transcript::new(log, &challenges[..needs], drawn);
     let mut xi = [0u32; 4 * refusal::MAX_ROUNDS];
-    let end = verify_counted(
-        proof,
-        rounds,
-        outline,
-        &mut xi,
-        log,
-        &challenges[..needs],
-        pos,
-    );
-    end::leave_point(end, &xi, point, 4 * rounds);
-    end::answer(end)
+    let verdict = verify_counted(proof, rounds, outline, &mut xi, &mut transcript);
+    end::leave_point(verdict, &xi, point, 4 * rounds);
+    Ending {
+        verdict,
+        used: transcript.used_up(),
+    }
 }
 
 // What is not refused before: no rounds, or the run.

@@ -73,6 +73,7 @@ stops_there ch v u e a h q x y z =
       point = ap (point_of ch) q ∙ y;
       more = omega (arith, a.put);
       room = h;
+      kept = a.room;
       drawn = a.drawn;
       challenges = a.challenges;
       log = a.log ∙ sym z ∙ ap (left_by ch) (sym q);

@@ -1,4 +1,4 @@
--- No second answer and no second log fit the end of a layer, but for the sponge. Of the point only the coordinates so far are said: it is an array of the caller's own. A lent slice keeps its length.
+-- No second answer and no second log fit the end of a layer, but for the sponge. Of the point only the coordinates so far are said: it is an array of the caller's own.
 -- Assumes nothing.
 use Rattle.std.specs.Prelude.{◌≡◌, Result, Ok, Err, refl, ℕ, length, drop}
 use Rattle.std.proofs.Common.{sym, ◌∙◌, ap, ap₂, arith, take-append-drop, length-take-le}
@@ -32,19 +32,19 @@ accepted_parts ch e = (cc, cc, cc)
 pub accepted_or_refused : {a : Claimed} {e : Refusal} → ◌≡◌ {A = Result Claimed Refusal} (Ok a) (Err e) → ⊥
 accepted_or_refused h = let z : ◌≡◌ {A = ℕ} 0 1 = cc in omega arith
 
-pub stops_put : {t t' : State} {ch : Source E.Ext} {w : Model ch} {e : Refusal} → length t'.buffer ≡ length t.buffer → Stops t t' ch w e → t'.put ≡ length (logged_by ch w)
-stops_put {t' = t'} q h = sym (length-take-le t'.put t'.buffer (omega (arith, h.room, q))) ∙ ap (λ (u : Words). length u.log) h.log
+pub stops_put : {t t' : State} {ch : Source E.Ext} {w : Model ch} {e : Refusal} → Stops t t' ch w e → t'.put ≡ length (logged_by ch w)
+stops_put {t' = t'} h = sym (length-take-le t'.put t'.buffer (omega (arith, h.room, h.kept))) ∙ ap (λ (u : Words). length u.log) h.log
 
-pub stops_buffer : {t t' : State} {ch : Source E.Ext} {w : Model ch} {e : Refusal} → length t'.buffer ≡ length t.buffer → Stops t t' ch w e → t'.buffer ≡ logged_by ch w ++ drop (length (logged_by ch w)) t.buffer
-stops_buffer {t} {t'} q h =
-    sym (take-append-drop t'.put t'.buffer) ∙ ap₂ ◌++◌ (ap (λ (u : Words). u.log) h.log) (h.rest ∙ ap (λ (a : ℕ). drop a t.buffer) (stops_put q h))
+pub stops_buffer : {t t' : State} {ch : Source E.Ext} {w : Model ch} {e : Refusal} → Stops t t' ch w e → t'.buffer ≡ logged_by ch w ++ drop (length (logged_by ch w)) t.buffer
+stops_buffer {t} {t'} h =
+    sym (take-append-drop t'.put t'.buffer) ∙ ap₂ ◌++◌ (ap (λ (u : Words). u.log) h.log) (h.rest ∙ ap (λ (a : ℕ). drop a t.buffer) (stops_put h))
 
-pub stops_unique : {t t' t'' : State} {ch : Source E.Ext} {w : Model ch} {e e' : Refusal} → length t'.buffer ≡ length t.buffer → length t''.buffer ≡ length t.buffer → Stops t t' ch w e → Stops t t'' ch w e'
+pub stops_unique : {t t' t'' : State} {ch : Source E.Ext} {w : Model ch} {e e' : Refusal} → Stops t t' ch w e → Stops t t'' ch w e'
     → (e ≡ e') × SameState t' t''
-stops_unique {t} {t'} {t''} {e = e} {e' = e'} q q' h k =
+stops_unique {t} {t'} {t''} {e = e} {e' = e'} h k =
     let r : ◌≡◌ {A = Result Claimed Refusal} (Err e) (Err e') = sym h.answer ∙ k.answer in
     let a : e ≡ e' = cc in
-    let p : t'.put ≡ t''.put = stops_put q h ∙ sym (stops_put q' k) in (
+    let p : t'.put ≡ t''.put = stops_put h ∙ sym (stops_put k) in (
       a,
       record {
         buffer = buffer_unique t.buffer t' t'' p (h.log ∙ sym k.log) h.rest k.rest;
@@ -80,8 +80,8 @@ module _ (t : State) (ch : Source E.Ext) (k n m : ℕ) (v : List (List (Cubic E.
   one_way : {p : List ℕ} {t' t'' : State} {a : Claimed} {e : Refusal} → Goes t t' p ch k n m v a → Stops t t'' ch (v [] []) e → ⊥
   one_way h s = accepted_or_refused (ap (answer_of ch) (sym (ends_in h)) ∙ s.answer)
 
-  pub advances_unique : (pt' pt'' : List ℕ) (t' t'' : State) (r s : Result Claimed Refusal) → length t'.buffer ≡ length t.buffer → length t''.buffer ≡ length t.buffer → Advances t t' pt' ch k n m v r → Advances t t'' pt'' ch k n m v s → (r ≡ s) × SameState t' t''
-  advances_unique pt' pt'' t' t'' (Ok a) (Ok b) q q' h h' = let e = goes_unique h h' in (λ i. Ok (e.0 i), e.2)
-  advances_unique pt' pt'' t' t'' (Ok a) (Err e) q q' h h' = absurd (one_way h (h' [] []))
-  advances_unique pt' pt'' t' t'' (Err e) (Ok b) q q' h h' = absurd (one_way h' (h [] []))
-  advances_unique pt' pt'' t' t'' (Err e) (Err f) q q' h h' = let u = stops_unique q q' (h [] []) (h' [] []) in (λ i. Err (u.0 i), u.1)
+  pub advances_unique : (pt' pt'' : List ℕ) (t' t'' : State) (r s : Result Claimed Refusal) → Advances t t' pt' ch k n m v r → Advances t t'' pt'' ch k n m v s → (r ≡ s) × SameState t' t''
+  advances_unique pt' pt'' t' t'' (Ok a) (Ok b) h h' = let e = goes_unique h h' in (λ i. Ok (e.0 i), e.2)
+  advances_unique pt' pt'' t' t'' (Ok a) (Err e) h h' = absurd (one_way h (h' [] []))
+  advances_unique pt' pt'' t' t'' (Err e) (Ok b) h h' = absurd (one_way h' (h [] []))
+  advances_unique pt' pt'' t' t'' (Err e) (Err f) h h' = let u = stops_unique (h [] []) (h' [] []) in (λ i. Err (u.0 i), u.1)

@@ -65,6 +65,7 @@ pub record Stops (t t' : State) (ch : Source E.Ext) (v : Model ch) (e : Refusal)
   pub point : point_of ch v ≡ []
   pub more : t.put ≤ t'.put
   pub room : t'.put ≤ length t.buffer
+  pub kept : length t'.buffer ≡ length t.buffer
   pub drawn : t'.drawn ≡ t.drawn
   pub challenges : t'.challenges ≡ t.challenges
   pub log : log_of t' ≡ left_by ch v

@@ -2,17 +2,24 @@ use Rattle.std.proofs.Common.{◌∙◌, ◌*◌, ◌/◌, length, sym, ap, arit
 use Rattle.field.specs.Element.{dec}
 use Rattle.columns.specs.Powers.{variables_of}
 use Rattle.columns.specs.Passes.{claims}
+use Rattle.columns.proofs.Summands.{room_less}
 use Rattle.poly.specs.Checks.{count}
 use Rattle.poly.proofs.Gates.{round_open}
 use Rattle.poly.proofs.Answers.{eighth}
 use Rattle.poly.proofs.Rounds.{constant_round, sums_round}
 use Rattle.poly.proofs.round.sumcheck_round_poly_evals.Goals as goal
 
-pub invariant_of-columns : goal.invariant_of-columns
-invariant_of-columns c = let a = c.args in record { room = (round_open a.eq.now a.p0.now a.q0.now a.p1.now a.q1.now a.lambda (sym c.in_ok-round_refusal.ensures)).columns }
+pub constant-requires-clause-room : goal.constant-requires-clause-room
+constant-requires-clause-room c =
+    let a = c.args in
+    let g = round_open a.eq.now a.p0.now a.q0.now a.p1.now a.q1.now a.lambda (sym c.in_ok-round_refusal.ensures) in
+    room_less 4 (length a.eq.now) (omega arith) g.columns
 
-pub invariant_of-columns-2 : goal.invariant_of-columns-2
-invariant_of-columns-2 c = let a = c.args in record { room = (round_open a.eq.now a.p0.now a.q0.now a.p1.now a.q1.now a.lambda (sym c.in_ok-round_refusal.ensures)).columns }
+pub sums-requires-clause-room : goal.sums-requires-clause-room
+sums-requires-clause-room c =
+    let a = c.args in
+    let g = round_open a.eq.now a.p0.now a.q0.now a.p1.now a.q1.now a.lambda (sym c.in_ok-round_refusal.ensures) in
+    room_less (8 * (length a.eq.now / 8)) (length a.eq.now) (omega arith) g.columns
 
 pub constant-requires-clause-canon : goal.constant-requires-clause-canon
 constant-requires-clause-canon c = let a = c.args in (round_open a.eq.now a.p0.now a.q0.now a.p1.now a.q1.now a.lambda (sym c.in_ok-round_refusal.ensures)).lambda
