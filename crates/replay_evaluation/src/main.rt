@@ -5,8 +5,7 @@ use cases::print;
 use cases::read::{next_number, next_words};
 
 fn call(rows: &[u32], point: &[u32]) {
-    let answer = evaluation::evaluate(rows, point);
-    print::report(evaluation::number_and_values(answer));
+    print::report(evaluation::number_and_values(evaluation::evaluate(rows, point)));
     print::end();
 }
 
@@ -17,15 +16,13 @@ fn answer(text: &[u8], at: usize) -> usize {
     let code = next_number(text, at);
     let first = next_words(text, code.at, &mut rows);
     let second = next_words(text, first.at, &mut point);
-    let n = first.count;
-    let k = second.count;
-    call(&rows[..n], &point[..k]);
+    call(&rows[..first.count], &point[..second.count]);
     second.at
 }
 
 fn replay(text: &[u8]) {
     let mut at = 0;
-    for turn in 0..text.len() {
+    for _ in 0..text.len() {
         if text.len() <= at {
             return;
         }

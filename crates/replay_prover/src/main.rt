@@ -3,6 +3,7 @@
 
 use cases::print;
 use cases::read::{fill_bytes, fill_words, next_number, next_word, next_words};
+use prover::Ending;
 use refusal::Proving;
 
 // The modes, and the place where the rows begin.
@@ -63,9 +64,9 @@ fn call(
     log: &mut [u32],
     work: &mut [u32],
 ) {
-    let ending = prover::fractional_sumcheck(rows, modes, challenges, proof, point, log, work);
-    let answer = ending.answer;
-    let used = ending.used;
+    let Ending { answer, used } = prover::fractional_sumcheck(
+        rows, modes, challenges, proof, point, log, work,
+    );
     print::report(prover::number_and_values(answer));
     print::next(used.challenges as u64);
     print::next(used.words as u64);
@@ -105,15 +106,13 @@ fn answer(text: &[u8], at: usize) -> usize {
     let r = next_words(text, asked.at, &mut rows);
     let c = next_words(text, r.at, &mut challenges);
     let rooms = next_rooms(text, c.at);
-    let m = r.count;
-    let n = c.count;
-    call_filled(&rows[..m], asked.modes, &challenges[..n], rooms);
+    call_filled(&rows[..r.count], asked.modes, &challenges[..c.count], rooms);
     rooms.at
 }
 
 fn replay(text: &[u8]) {
     let mut at = 0;
-    for turn in 0..text.len() {
+    for _ in 0..text.len() {
         if text.len() <= at {
             return;
         }
