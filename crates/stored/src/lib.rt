@@ -127,6 +127,7 @@ fn first_bad_in_entries(proof: &[u8], from: usize, count: usize) -> Option<usize
 {
     let mut passed = 0;
     let mut at = from;
+    // Stays: an entry's count tells where the next begins, so that no iterator gives their places more plainly.
     for k in 0..count {
         let words = 12 * usize::from(proof[at]);
         if let Some(place) = wire::first_bad_stored(proof, at + 1, words) {
