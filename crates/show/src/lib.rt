@@ -4,6 +4,7 @@
 use agreement::Joint;
 use answers::counting::count_up;
 use answers::{Accepted, Proved, say};
+use prover::Done;
 use refusal::{Proving, Refusal, Report, Verifying};
 use step::Frac;
 use verifier_round::{Claims, Verdict};
@@ -28,7 +29,7 @@ fn say_verdict(rt: &impl Print, verdict: Verdict, point: &[u32], rounds: usize) 
 }
 
 // Proves the rows and verifies the proof, whose point is left. The rooms are those of 64 rows: six rounds.
-fn prove(rows: &[u32], work: &mut [u32], point_again: &mut [u32; 24]) -> Joint {
+fn prove(rows: &[u32], work: &mut [u32], point_again: &mut [u32; 24]) -> Result<Joint, Refusal> {
     let modes = Proving {
         live: false,
         assert_zero: true,
@@ -60,34 +61,33 @@ fn prove(rows: &[u32], work: &mut [u32], point_again: &mut [u32; 24]) -> Joint {
     )
 }
 
-fn show_rows(rt: &impl Print, rows: &[u32], work: &mut [u32]) {
+// What was proved and the verdict on it, or why there is no proof.
+fn show_rows(
+    rt: &impl Print,
+    sheet: &[u8],
+    rows: &mut [u32],
+    work: &mut [u32],
+) -> Result<(), Refusal> {
+    let count = stored_sheet::read_sheet(sheet, rows)?;
     let mut point = [0u32; 24];
-    match prove(rows, work, &mut point) {
-        Joint::Proved {
+    let joint = prove(&rows[..8 * count], work, &mut point)?;
+    let Done { rounds, sum } = joint.done;
+    say(
+        rt,
+        Proved {
+            rows: count,
             rounds,
             sum,
-            used: _,
-            verified,
-        } => {
-            say(
-                rt,
-                Proved {
-                    rows: rows.len() / 8,
-                    rounds,
-                    sum,
-                },
-            );
-            say_verdict(rt, verified.verdict, &point, rounds);
-        }
-        Joint::Refused(refusal) => say_refusal(rt, refusal),
-    }
+        },
+    );
+    say_verdict(rt, joint.verified.verdict, &point, rounds);
+    Ok(())
 }
 
 // A sheet of at most 64 rows, read into lent words and proved in a lent workspace.
 pub fn show_sheet(rt: &impl Print, sheet: &[u8], rows: &mut [u32], work: &mut [u32]) {
-    match stored_sheet::read_sheet(sheet, rows) {
-        Ok(count) => show_rows(rt, &rows[..8 * count], work),
-        Err(refusal) => say_refusal(rt, refusal),
+    if let Err(refusal) = show_rows(rt, sheet, rows, work) {
+        say_refusal(rt, refusal);
     }
 }
 
