@@ -1,6 +1,6 @@
 -- No second start and no second log fit: the same events lead from one start to one buffer and one position, but for the sponge, of which any that holds will do.
 -- Assumes nothing.
-use Rattle.std.specs.Prelude.{◌≡◌, List, ◌++◌, ℕ, drop}
+use Rattle.std.specs.Prelude.{◌≡◌, Bool, List, ◌++◌, ℕ, drop}
 use Rattle.std.proofs.Common.{sym, ◌∙◌, ap, ap₂, take-append-drop}
 use Rattle.field.specs.Ext as E
 use Rattle.field.specs.Element.{Is}
@@ -16,6 +16,11 @@ pub record SameState (s s' : State) : Type 0 where
   pub used : s.used ≡ s'.used
   pub drawn : s.drawn ≡ s'.drawn
   pub challenges : s.challenges ≡ s'.challenges
+
+-- no second start fits
+pub begun_unique : {ws ch : List ℕ} {d : Bool} {s s' : State} → (s.buffer ≡ ws) × (s.challenges ≡ ch) × (s.drawn ≡ d) → (s.put ≡ 0) × (s.used ≡ 0) → (s'.buffer ≡ ws) × (s'.challenges ≡ ch) × (s'.drawn ≡ d) → (s'.put ≡ 0) × (s'.used ≡ 0)
+    → SameState s s'
+begun_unique b n b' n' = record { buffer = b.0 ∙ sym b'.0; put = n.0 ∙ sym n'.0; used = n.1 ∙ sym n'.1; drawn = b.2 ∙ sym b'.2; challenges = b.1 ∙ sym b'.1 }
 
 -- a buffer is its log, and past it what it held
 pub buffer_unique : (ws : List ℕ) (s s' : State) → s.put ≡ s'.put → log_of s ≡ log_of s' → drop s.put s.buffer ≡ drop s.put ws → drop s'.put s'.buffer ≡ drop s'.put ws → s.buffer ≡ s'.buffer
