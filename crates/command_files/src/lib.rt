@@ -80,10 +80,8 @@ fn put_new(rt: &impl Files, path: &[u8], name: &mut [u8], bytes: &[u8]) -> Resul
 
 fn replace_file(rt: &impl Files, path: &[u8], bytes: &[u8]) -> Result<(), Error> {
     let mut name = [0u8; 4096];
-    match temporary_name(path, &mut name) {
-        Some(n) => put_new(rt, path, &mut name[..n], bytes),
-        None => Err(invalid()),
-    }
+    let n = temporary_name(path, &mut name).ok_or_else(invalid)?;
+    put_new(rt, path, &mut name[..n], bytes)
 }
 
 // The bytes go to a new file of the same folder, which then takes the name: a file that had it is as it was until then.

@@ -18,10 +18,8 @@ const NO_TEXT: i32 = 84;
 
 // The system's words for an error, without their number.
 fn words(said: &str) -> &str {
-    match said.rsplit_once(" (os error ") {
-        Some((words, _)) => words,
-        None => said,
-    }
+    said.rsplit_once(" (os error ")
+        .map_or(said, |(words, _)| words)
 }
 
 // Tells on standard error what failed at a name.
@@ -44,10 +42,7 @@ fn as_text(path: &[u8]) -> Result<&str, Error> {
     if path.contains(&0) {
         return Err(invalid());
     }
-    match str::from_utf8(path) {
-        Ok(text) => Ok(text),
-        Err(_) => Err(Error::from_raw_os_error(NO_TEXT)),
-    }
+    str::from_utf8(path).map_err(|_| Error::from_raw_os_error(NO_TEXT))
 }
 
 // The file, to be read from its start.
