@@ -5,7 +5,7 @@ use mathlib.Core.Bool.{Bool, true, false, not, ◌&&◌, cond}
 use mathlib.Core.List.{List, [], ◌++◌, append-nil}
 use Prim.Native.Nat.{ℕ, suc, ◌≤◌}
 use native.Mathlib.Omega.{arith}
-use borrow.Author.Tests.{not-true, not-false, eq-eqb, ne_eqb}
+use borrow.Author.Tests.{not-true, not-false, eq-eqb}
 use lib.ListN.{length, drop, replicate, length-replicate}
 use Rattle.field.specs.Base as B
 use Rattle.field.specs.Ext as E
@@ -27,7 +27,7 @@ use Rattle.step.specs.Values.{IsFrac}
 use Rattle.prover_tree.specs.Nodes.{node}
 use Rattle.prover_rounds.specs.Layers.{Levels}
 use Rattle.refusal.specs.declared.Proving.{Proving}
-use Rattle.refusal.specs.declared.Refusal.TheVariants.{NonZeroRootSum, SingleRow}
+use Rattle.refusal.specs.declared.Refusal.TheVariants.{NonZeroRootSum}
 use Rattle.refusal.specs.declared.Refusal.{Refusal}
 use Rattle.refusal.specs.Tests.{Tested, passed, refused}
 use Rattle.refusal.specs.Fronts.{over}
@@ -38,7 +38,7 @@ use Rattle.stored.specs.Layout.{layout}
 use Rattle.stored_writer.specs.Messages.{no_rows}
 use Rattle.prover.specs.declared.Ending.{Ending}
 use Rattle.std.specs.Prelude.{Result, Ok, Err}
-use Rattle.prover.specs.Proved.{Buffers, Outcome, lent, outcome, laid, enc_frac, after, one_row, modelled, ran, entered, fronts, proved, rooms_of, summed}
+use Rattle.prover.specs.Proved.{Buffers, Outcome, lent, outcome, laid, enc_frac, after, modelled, ran, entered, fronts, proved, rooms_of, summed}
 use Rattle.prover.specs.Inner.{ending, run_of, Written, Opens}
 use Rattle.prover.proofs.Writing.{drop_all, whole_proof}
 use Rattle.prover.proofs.Opening.{gate_opens}
@@ -108,12 +108,6 @@ module _ (rows : List ℕ) (ch : Source E.Ext) (pf pt lg ws : List ℕ) (asserte
 
 -- NO ROUNDS
 
-pub one_refused : (rows : List ℕ) (asserted : Bool) (f : FracW) {t : Bool} → IsFrac f (node rows 0) → t ≡ (asserted && not (E.same (dec f.p) E.nil)) → t ≡ true → NonZeroRootSum ≡ one_row rows asserted
-one_refused rows asserted f h te e = ap (λ b. cond b NonZeroRootSum SingleRow) (sym e ∙ te ∙ ap (λ x. asserted && not (E.same x E.nil)) h.p.value)
-
-pub one_single : (rows : List ℕ) (asserted : Bool) (f : FracW) {t : Bool} → IsFrac f (node rows 0) → t ≡ (asserted && not (E.same (dec f.p) E.nil)) → t ≡ false → SingleRow ≡ one_row rows asserted
-one_single rows asserted f h te e = ap (λ b. cond b NonZeroRootSum SingleRow) (sym e ∙ te ∙ ap (λ x. asserted && not (E.same x E.nil)) h.p.value)
-
 zero_words : enc E.nil ≡ record { c0 = 0; c1 = 0; c2 = 0; c3 = 0 }
 unfolding E.nil E.emb B.nil B.of
 zero_words = refl
@@ -129,11 +123,6 @@ none_done rows pf pf' modes q h l k e pt lg ws =
     let P = whole_proof pf pf' (layout modes.sized no_rows) 23 l k e in
     (λ i. outcome (summed 0 (record { p = sym zero_words i; q = sym one_words i })) (q i) (P i) pt lg ws)
     ∙ sym (rw (eq-eqb (row_count rows) 0 h))
-
-pub one_done : (rows pf : List ℕ) (modes : Proving) {e : Refusal} {r : Ending} → (row_count rows ≡ 0 → ⊥) → e ≡ one_row rows modes.assert_zero → r ≡ ending (Err e) unused → (pt lg ws : List ℕ)
-    → outcome r.answer r.used pf pt lg ws ≡ laid (ran rows modes [] 0) (lent pf pt lg ws)
-one_done rows pf modes h k q pt lg ws =
-    (λ i. outcome (q i).answer (q i).used pf pt lg ws) ∙ ap (λ e. outcome (Err e) unused pf pt lg ws) k ∙ sym (rw (ne_eqb (row_count rows) 0 h))
 
 -- THE WHOLE CALL
 

@@ -75,10 +75,6 @@ used_needed m =
     let h : used_up_to (suc m) ≡ 2 * suc m - 1 + suc m * m / 2 + 1 = omega (arith, used_sum (suc m)) in
     h ∙ ap (λ k. 2 * suc m - 1 + suc m * k / 2 + 1) e
 
-pub work_enough : {n w : ℕ} → 1 ≤ n → w ≡ work_room n → 18 * 2 ^ n ≤ w
-work_enough {n = zero} l e = absurd (omega arith)
-work_enough {n = suc m} l e = omega (arith, e)
-
 -- over the needed parts of challenges, point and workspace
 module _ (rows : List ℕ) (modes : Proving) (ch : List ℕ) (r : Rooms) where
   pub run_room : (n need w : ℕ) {c p x l k : ℕ} → Opens rows modes ch r n → (n ≡ 0 → ⊥) → need ≡ needed_words modes.drawn n → w ≡ work_room n

@@ -30,10 +30,10 @@ fn next_modes(text: &[u8], at: usize) -> Modes {
     let asserted = next_number(text, word.at);
     Modes {
         modes: Proving {
-            live: word.value % 2 == 1,
+            live: word.value & 1 != 0,
             assert_zero: asserted.value != 0,
-            drawn: word.value / 4 % 2 == 1,
-            sized: word.value / 8 % 2 == 1,
+            drawn: word.value & 4 != 0,
+            sized: word.value & 8 != 0,
         },
         at: asserted.at,
     }
