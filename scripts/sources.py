@@ -39,6 +39,7 @@ class Given(Function):
     def __init__(self, crate, path, lines, start, end, name, comment, given, said):
         self.crate, self.path, self.name, self.comment = crate, path, name, comment
         self.full, self.lines, self.inner = crate + "::" + name, lines[start : end + 1], False
+        said = re.sub(r"(?<![\w'.])%s(?![\w'])" % re.escape(given[-1]), "result", said)
         self.contract, self.said, self.given, self.lent, self.returns = ["ensures { %s }" % said], [said], given, [], True
 
 

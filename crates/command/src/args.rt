@@ -9,24 +9,29 @@ use refusal::{Proving, Verifying};
 use sheet_text::scan::number_at;
 use std::rt::Files;
 
-// What the arguments ask for: the names, and the options after them.
+// What the arguments ask for: names, where an empty one is not given, and modes.
 #[derive(Clone, Copy)]
 enum Command<'a> {
     Prove {
         sheet: &'a [u8],
         proof: &'a [u8],
-        options: Options,
+        challenges: &'a [u8],
+        modes: Proving,
+        log: &'a [u8],
     },
     Verify {
         proof: &'a [u8],
         rounds: usize,
-        options: Options,
+        modes: Verifying,
+        challenges: &'a [u8],
+        sheet: &'a [u8],
+        log: &'a [u8],
     },
     Replay {
         proof: &'a [u8],
         rounds: usize,
+        modes: Verifying,
         log: &'a [u8],
-        options: Options,
     },
     Show {
         sheet: &'a [u8],
@@ -63,60 +68,6 @@ fn number(word: &[u8]) -> Option<usize> {
     Some(n.value as usize)
 }
 
-fn read_prove(args: &[u8], n: usize) -> Option<Command<'_>> {
-    let options = Options::read(args, 3, n);
-    if n < 3 || !options.fit_prove() {
-        return None;
-    }
-    Some(Command::Prove {
-        sheet: argument(args, 1),
-        proof: argument(args, 2),
-        options,
-    })
-}
-
-fn read_verify(args: &[u8], n: usize) -> Option<Command<'_>> {
-    let options = Options::read(args, 3, n);
-    if n < 3 || !options.fit_verify() {
-        return None;
-    }
-    Some(Command::Verify {
-        proof: argument(args, 1),
-        rounds: number(argument(args, 2))?,
-        options,
-    })
-}
-
-fn read_replay(args: &[u8], n: usize) -> Option<Command<'_>> {
-    let options = Options::read(args, 4, n);
-    if n < 4 || !options.fit_replay() {
-        return None;
-    }
-    Some(Command::Replay {
-        proof: argument(args, 1),
-        rounds: number(argument(args, 2))?,
-        log: argument(args, 3),
-        options,
-    })
-}
-
-fn read_command(args: &[u8]) -> Option<Command<'_>> {
-    let n = count(args);
-    match argument(args, 0) {
-        b"prove" => read_prove(args, n),
-        b"verify" => read_verify(args, n),
-        b"replay" => read_replay(args, n),
-        b"show" if n == 2 => Some(Command::Show {
-            sheet: argument(args, 1),
-        }),
-        b"make" if n == 3 => Some(Command::Make {
-            text: argument(args, 1),
-            sheet: argument(args, 2),
-        }),
-        _ => None,
-    }
-}
-
 impl Options {
     fn proving(self) -> Proving {
         Proving {
@@ -144,6 +95,65 @@ fn named(args: &[u8], name: Option<usize>) -> &[u8] {
     }
 }
 
+fn read_prove(args: &[u8], n: usize) -> Option<Command<'_>> {
+    let options = Options::read(args, 3, n);
+    if n < 3 || !options.fit_prove() {
+        return None;
+    }
+    Some(Command::Prove {
+        sheet: argument(args, 1),
+        proof: argument(args, 2),
+        challenges: named(args, options.names.challenges),
+        modes: options.proving(),
+        log: named(args, options.names.log),
+    })
+}
+
+fn read_verify(args: &[u8], n: usize) -> Option<Command<'_>> {
+    let options = Options::read(args, 3, n);
+    if n < 3 || !options.fit_verify() {
+        return None;
+    }
+    Some(Command::Verify {
+        proof: argument(args, 1),
+        rounds: number(argument(args, 2))?,
+        modes: options.verifying(),
+        challenges: named(args, options.names.challenges),
+        sheet: named(args, options.names.sheet),
+        log: named(args, options.names.log),
+    })
+}
+
+fn read_replay(args: &[u8], n: usize) -> Option<Command<'_>> {
+    let options = Options::read(args, 4, n);
+    if n < 4 || !options.fit_replay() {
+        return None;
+    }
+    Some(Command::Replay {
+        proof: argument(args, 1),
+        rounds: number(argument(args, 2))?,
+        modes: options.verifying(),
+        log: argument(args, 3),
+    })
+}
+
+fn read_command(args: &[u8]) -> Option<Command<'_>> {
+    let n = count(args);
+    match argument(args, 0) {
+        b"prove" => read_prove(args, n),
+        b"verify" => read_verify(args, n),
+        b"replay" => read_replay(args, n),
+        b"show" if n == 2 => Some(Command::Show {
+            sheet: argument(args, 1),
+        }),
+        b"make" if n == 3 => Some(Command::Make {
+            text: argument(args, 1),
+            sheet: argument(args, 2),
+        }),
+        _ => None,
+    }
+}
+
 // Does what the arguments ask for, each ended by a byte 0, or says how they are used.
 pub fn run(rt: &(impl Files + Print), args: &[u8]) {
     let Some(command) = read_command(args) else {
@@ -153,34 +163,24 @@ pub fn run(rt: &(impl Files + Print), args: &[u8]) {
         Command::Prove {
             sheet,
             proof,
-            options,
-        } => prove(
-            rt,
-            sheet,
-            proof,
-            named(args, options.names.challenges),
-            options.proving(),
-            named(args, options.names.log),
-        ),
+            challenges,
+            modes,
+            log,
+        } => prove(rt, sheet, proof, challenges, modes, log),
         Command::Verify {
             proof,
             rounds,
-            options,
-        } => verify(
-            rt,
-            proof,
-            rounds,
-            options.verifying(),
-            named(args, options.names.challenges),
-            named(args, options.names.sheet),
-            named(args, options.names.log),
-        ),
+            modes,
+            challenges,
+            sheet,
+            log,
+        } => verify(rt, proof, rounds, modes, challenges, sheet, log),
         Command::Replay {
             proof,
             rounds,
+            modes,
             log,
-            options,
-        } => replay(rt, proof, rounds, options.verifying(), log),
+        } => replay(rt, proof, rounds, modes, log),
         Command::Show { sheet } => show(rt, sheet),
         Command::Make { text, sheet } => make(rt, text, sheet),
     }

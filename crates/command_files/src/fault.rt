@@ -32,7 +32,7 @@ pub enum Fault<'a> {
     },
 }
 
-// A refusal stops a command as it is.
+// A refusal is a fault.
 impl From<Refusal> for Fault<'_> {
     ghost from_gives = { λ refusal fault. fault ≡ Fault.Refused refusal };
 

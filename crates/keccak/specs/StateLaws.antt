@@ -1,8 +1,9 @@
--- The lanes' list tells the state: no second one has it.
+-- The lanes' list tells the state: no second one has it. A state read from a list is the one that has its values, and the one whose list it is.
 -- Assumes nothing.
-use Rattle.std.specs.Prelude.{◌≡◌, List, ℕ, get_or}
+use Rattle.std.specs.Prelude.{◌≡◌, refl, List, ℕ, get_or}
 use Rattle.std.proofs.Common.{sym, ◌∙◌}
-use Rattle.keccak.specs.State.{as_list}
+use Rattle.keccak.specs.Values.{values}
+use Rattle.keccak.specs.State.{as_list, lanes_of}
 use Rattle.keccak.specs.declared.Lanes.{Lanes}
 
 pub lanes_unique : {s t : Lanes} {l : List ℕ} → as_list s ≡ l → as_list t ≡ l → s ≡ t
@@ -36,3 +37,9 @@ lanes_unique {s} {t} e f =
       a23 = get_or (p i) 23 0;
       a24 = get_or (p i) 24 0;
     }
+
+pub lanes_read : {s : Lanes} (ls : List ℕ) → as_list s ≡ values (λ i. get_or ls i 0) 0 25 → s ≡ lanes_of ls
+lanes_read ls e = lanes_unique e refl
+
+pub lanes_of_list : (s : Lanes) → lanes_of (as_list s) ≡ s
+lanes_of_list s = refl

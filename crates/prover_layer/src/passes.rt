@@ -13,8 +13,8 @@ ghost use Rattle.prover_layer.specs.Passes.{CanonPair, IsPair, dec_pair, side, s
 
 use crate::message::message;
 use crate::{Pair, Turn};
-use field::{Ext, Field};
 use field::sums::sum_of_products;
+use field::{Ext, Field};
 use step::{Frac, Three};
 
 // Entry i of the claims.

@@ -122,9 +122,9 @@ pub fn hash(label: &[u8], words: &[u32], out: &mut [u8])
 {
     let mut s = finish(start(), Message { label, words });
     let mut b = squeezed_lanes(s);
-    for i in 0..out.len() {
+    for (i, byte) in out.iter_mut().enumerate() {
         let at = i % 168;
-        out[i] = b[at / 8].to_le_bytes()[at % 8];
+        *byte = b[at / 8].to_le_bytes()[at % 8];
         if at == 167 {
             s = permute(s);
             b = squeezed_lanes(s);

@@ -41,16 +41,16 @@ fn lane_of_words(words: &[u32], j: usize) -> u64
 
 impl<'a> Message<'a> {
     // How many bytes it has.
-    pub fn size(self) -> usize
-        ensures { result ≡ length self.entry.label.now + 4 * length self.entry.words.now }
+    pub fn size(&self) -> usize
+        ensures { result ≡ length self.now.label.now + 4 * length self.now.words.now }
     {
         self.label.len() + 4 * self.words.len()
     }
 
     // Byte i of the padded message.
-    fn byte(self, i: usize) -> u64
-        requires { i < (length self.label.now + 4 * length self.words.now) / 168 * 168 + 168 }
-        ensures { (result ≡ get_or (padded (message self.entry.label.now self.entry.words.now)) i 0) × (result < 256) }
+    fn byte(&self, i: usize) -> u64
+        requires { i < (length self.now.label.now + 4 * length self.now.words.now) / 168 * 168 + 168 }
+        ensures { (result ≡ get_or (padded (message self.now.label.now self.now.words.now)) i 0) × (result < 256) }
     {
         let size = self.size();
         let last = size / 168 * 168 + 167;
@@ -69,9 +69,9 @@ impl<'a> Message<'a> {
     }
 
     // Four bytes of the padded message, one by one.
-    fn quad_by_bytes(self, i: usize) -> u64
-        requires { i + 3 < (length self.label.now + 4 * length self.words.now) / 168 * 168 + 168 }
-        ensures { (result ≡ quad_at (padded (message self.entry.label.now self.entry.words.now)) i) × (result < 2 ^ 32) }
+    fn quad_by_bytes(&self, i: usize) -> u64
+        requires { i + 3 < (length self.now.label.now + 4 * length self.now.words.now) / 168 * 168 + 168 }
+        ensures { (result ≡ quad_at (padded (message self.now.label.now self.now.words.now)) i) × (result < 2 ^ 32) }
     {
         self.byte(i)
             + self.byte(i + 1) * 0x100
@@ -80,9 +80,9 @@ impl<'a> Message<'a> {
     }
 
     // Four bytes of the padded message: at once where they all lie in the words or in the padding's zeros.
-    fn quad(self, i: usize) -> u64
-        requires { i + 3 < (length self.label.now + 4 * length self.words.now) / 168 * 168 + 168 }
-        ensures { (result ≡ quad_at (padded (message self.entry.label.now self.entry.words.now)) i) × (result < 2 ^ 32) }
+    fn quad(&self, i: usize) -> u64
+        requires { i + 3 < (length self.now.label.now + 4 * length self.now.words.now) / 168 * 168 + 168 }
+        ensures { (result ≡ quad_at (padded (message self.now.label.now self.now.words.now)) i) × (result < 2 ^ 32) }
     {
         let size = self.size();
         if i >= self.label.len() && i + 4 < size {
@@ -95,21 +95,22 @@ impl<'a> Message<'a> {
     }
 
     // Lane i of the padded message, by its halves.
-    fn lane_by_quads(self, i: usize) -> u64
-        requires { i < (length self.label.now + 4 * length self.words.now) / 168 * 21 + 21 }
-        ensures { result ≡ lane_at (padded (message self.entry.label.now self.entry.words.now)) i }
+    fn lane_by_quads(&self, i: usize) -> u64
+        requires { i < (length self.now.label.now + 4 * length self.now.words.now) / 168 * 21 + 21 }
+        ensures { result ≡ lane_at (padded (message self.now.label.now self.now.words.now)) i }
     {
         self.quad(8 * i) + self.quad(8 * i + 4) * 0x1_0000_0000
     }
 
     // Lane i of the padded message: at once where it lies in the words or after the byte 1f, as nearly all do.
-    fn lane(self, i: usize) -> u64
-        requires { i < (length self.label.now + 4 * length self.words.now) / 168 * 21 + 21 }
-        ensures { result ≡ lane_at (padded (message self.entry.label.now self.entry.words.now)) i }
+    fn lane(&self, i: usize) -> u64
+        requires { i < (length self.now.label.now + 4 * length self.now.words.now) / 168 * 21 + 21 }
+        ensures { result ≡ lane_at (padded (message self.now.label.now self.now.words.now)) i }
     {
         let size = self.size();
         let at = 8 * i;
-        if at >= self.label.len() && at + 8 < size {
+        // two tests that compile to two branches: with `at + 8 < size` both are asked in each lane, and a block takes longer
+        if at >= self.label.len() && at - self.label.len() + 8 < 4 * self.words.len() {
             lane_of_words(self.words, at - self.label.len())
         } else if at <= size {
             self.lane_by_quads(i)
@@ -121,14 +122,14 @@ impl<'a> Message<'a> {
     }
 
     // The 21 lanes of block k of the padded message.
-    pub fn block(self, k: usize) -> [u64; 21]
-        requires { k ≤ (length self.label.now + 4 * length self.words.now) / 168 }
-        ensures { result ≡ block_at (padded (message self.entry.label.now self.entry.words.now)) k }
+    pub fn block(&self, k: usize) -> [u64; 21]
+        requires { k ≤ (length self.now.label.now + 4 * length self.now.words.now) / 168 }
+        ensures { result ≡ block_at (padded (message self.now.label.now self.now.words.now)) k }
     {
-        let mut b = [0u64; 21];
-        for n in 0..21 {
-            b[n] = self.lane(21 * k + n);
+        let mut lanes = [0u64; 21];
+        for (n, lane) in lanes.iter_mut().enumerate() {
+            *lane = self.lane(21 * k + n);
         }
-        b
+        lanes
     }
 }

@@ -18,11 +18,11 @@ fn first(text: &[u8], b: u8) -> Option<usize>
 }
 
 // The place of the next byte b from `at` on, or the length.
-// Stays: the length where none follows, as its contract and the definition `length_to` have it; `first` answers whether there is one.
 pub fn find(text: &[u8], at: usize, b: u8) -> usize
     requires { at ≤ length text.now }
     ensures { (result ≡ at + length_to b (drop at text.now)) × (result ≤ length text.now) }
 {
+    // Stays: the length where none follows, as its contract and the definition `length_to` have it; `first` answers whether there is one.
     match first(&text[at..], b) {
         Some(n) => at + n,
         None => text.len(),

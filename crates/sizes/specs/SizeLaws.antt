@@ -1,4 +1,4 @@
--- Rounds are never more than the limit, and 2 ^ n rows take n of them.
+-- Rounds are never more than the limit, 2 ^ n rows take n of them, and no second size fits.
 -- Assumes nothing.
 use Rattle.std.specs.Prelude.{◌≡◌, refl, Bool, true, false, cond, ◌||◌, List, ℕ, zero, suc, ◌+◌, ◌*◌, ◌%◌, ◌^◌, ◌<◌, ◌≤◌, eqb, leb, length}
 use Rattle.std.proofs.Common.{sym, ◌∙◌, ap, ⊎_elim, eq-or-lt_of_le, arith, le-leb, eq-eqb, ne_eqb, eqb-true}
@@ -68,3 +68,8 @@ module _ (rows : List ℕ) (n : ℕ) (h : length rows ≡ 8 * 2 ^ n) where
 
   pub counted : row_count rows ≡ 2 ^ n
   counted = omega arith
+
+-- NO SECOND SIZE
+
+pub size_unique : (count : ℕ) {n m rows more : ℕ} → (n ≡ rounds_of count) × (rows ≡ 2 ^ n) × (n ≤ max_rounds) → (m ≡ rounds_of count) × (more ≡ 2 ^ m) × (m ≤ max_rounds) → (n ≡ m) × (rows ≡ more)
+size_unique count h k = let e = h.0 ∙ sym k.0 in (e, h.1 ∙ ap (λ n. 2 ^ n) e ∙ sym k.1)

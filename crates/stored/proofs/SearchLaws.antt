@@ -1,17 +1,18 @@
 -- The search for a bad word through the polynomial entries, and through the whole proof.
 -- Assumes nothing.
-use mathlib.Core.Path.{◌≡◌, sym, ◌∙◌, ap, ap₂}
+use mathlib.Core.Path.{◌≡◌, sym, ◌∙◌, ap, ap₂, subst}
 use mathlib.Core.Bool.{true}
-use mathlib.Core.List.{List, ◌++◌}
+use mathlib.Core.List.{List, ◌++◌, append_assoc}
 use Prim.Native.Nat.{ℕ, suc, ◌+◌, ◌*◌, ◌-◌, ◌/◌, ◌<◌, ◌≤◌}
 use native.Mathlib.Omega.{arith}
 use lib.ListN.{length, length-append, get_or, drop}
+use lib.Seq.{drop-drop}
 use Rattle.std.specs.Prelude.{Some, None}
 use Rattle.wire.specs.Bytes.{words_from}
 use Rattle.wire.specs.Words.{first_bad, bad_place}
 use Rattle.wire.specs.WordLaws.{bad_past}
 use Rattle.wire.specs.PlaceLaws.{place_at, place_past, past_place, at_place, place_here, place_later, place_nowhere}
-use Rattle.wire.proofs.ByteLaws.{elem_words, words_length}
+use Rattle.wire.proofs.ByteLaws.{elem_words, words_add, words_length}
 use Rattle.stored.specs.declared.Outline.{Outline}
 use Rattle.stored.specs.Layout.{polys_words, proof_words}
 use Rattle.stored.specs.Parse.{entries_from, entries_fit, count_of_layers, proof_of}
@@ -38,61 +39,97 @@ module _ (bs W : List ℕ) (n : ℕ) where
       let e : n - 0 ≡ n = omega arith in
       record { upto = omega arith; within = l; small = omega arith; fit = rw e h; left = ap first_bad w ∙ rw e (omega arith); long = ap length w ∙ rw e (omega arith) }
 
-  -- entry k has c sub-rounds
-  module _ (passed at k : ℕ) (i : Passed passed at k) (h : k < n) where
+  -- in entry k, with q sub-rounds of it left
+  abbrev pub words_ahead : (at k q : ℕ) → List ℕ
+  words_ahead at k q = words_from (12 * q) (drop at bs) ++ words_left (at + 48 * q) (k + 1)
+
+  pub record Inner (passed at k q : ℕ) : Type 0 where
+    pub more : k < n
+    pub within : at + 48 * q ≤ length bs
+    pub small : 4 * passed ≤ at
+    pub fit : entries_fit (n - (k + 1)) (drop (at + 48 * q) bs) ≡ true
+    pub left : first_bad W ≡ passed + first_bad (words_ahead at k q)
+    pub long : length W ≡ passed + length (words_ahead at k q)
+
+  module _ (passed at k : ℕ) (o : Passed passed at k) (h : k < n) where
     left_one : n - k ≡ suc (n - (k + 1))
     left_one = omega arith
 
     entry : Entry (n - (k + 1)) at bs
-    entry = entry_fits (n - (k + 1)) at bs i.within (rw left_one at i.fit)
+    entry = entry_fits (n - (k + 1)) at bs o.within (rw left_one at o.fit)
 
     pub here : at < length bs
     here = omega (arith, entry.room)
 
-    module _ (c : ℕ) (d : c ≡ get_or bs at 0) where
-      pub room : at + 1 + 4 * (12 * c) ≤ length bs
-      room = omega (arith, entry.room, d)
+    pub enter : (c : ℕ) → c ≡ get_or bs at 0 → Inner passed (at + 1) k c
+    enter c d =
+        let e : words_left at k ≡ words_ahead (at + 1) k c = ap (λ m. polys_words (entries_from m (drop at bs))) left_one ∙ entries_words (n - (k + 1)) at bs ∙ ap (λ m. words_ahead (at + 1) k m) (sym d) in
+        record {
+          more = h;
+          within = omega (arith, entry.room, d);
+          small = omega (arith, o.small);
+          fit = rw d entry.fit;
+          left = o.left ∙ ap (λ l. passed + first_bad l) e;
+          long = o.long ∙ ap (λ l. passed + length l) e;
+        }
 
-      abbrev after : ℕ
-      after = at + (1 + 4 * (12 * c))
+  module _ (passed at k q : ℕ) (i : Inner passed at k (suc q)) where
+    abbrev now : List ℕ
+    now = words_from 12 (drop at bs)
 
-      abbrev words : List ℕ
-      words = words_from (12 * c) (drop (at + 1) bs)
+    abbrev then : List ℕ
+    then = words_from (12 * q) (drop (at + 48) bs) ++ words_left (at + 48 * suc q) (k + 1)
 
-      after_is : at + 1 + 48 * get_or bs at 0 ≡ after
-      after_is = omega (arith, d)
+    opened : words_ahead at k (suc q) ≡ now ++ then
+    opened =
+        let f : 12 * suc q ≡ 12 + 12 * q = omega arith in
+        let a : words_from (12 * suc q) (drop at bs) ≡ now ++ words_from (12 * q) (drop (at + 48) bs) =
+        ap (λ m. words_from m (drop at bs)) f ∙ words_add 12 (12 * q) (drop at bs) ∙ ap (λ l. now ++ words_from (12 * q) l) (drop-drop 48 at bs) in
+        ap (λ l. l ++ words_left (at + 48 * suc q) (k + 1)) a ∙ append_assoc now (words_from (12 * q) (drop (at + 48) bs)) (words_left (at + 48 * suc q) (k + 1))
 
-      split : words_left at k ≡ words ++ words_left after (k + 1)
-      split =
-          ap (λ m. polys_words (entries_from m (drop at bs))) left_one
-          ∙ entries_words (n - (k + 1)) at bs
-          ∙ ap₂ (λ m a. words_from (12 * m) (drop (at + 1) bs) ++ polys_words (entries_from (n - (k + 1)) (drop a bs))) (sym d) after_is
+    go : None ≡ bad_place now → Inner (passed + 12) (at + 48) k q
+    go e =
+        let l = words_length 12 (drop at bs) in
+        let p = bad_past now then (past_place now e) in
+        let f = ap first_bad opened in
+        let g = ap length opened ∙ length-append now then in
+        let z : at + 48 * suc q ≡ at + 48 + 48 * q = omega arith in
+        let t : first_bad W ≡ passed + 12 + first_bad then = omega (arith, i.left, f, p, l) in
+        let u : length W ≡ passed + 12 + length then = omega (arith, i.long, g, l) in
+        record { more = i.more; within = omega (arith, i.within); small = omega (arith, i.small); fit = rw z at i.fit; left = rw z at t; long = rw z at u }
 
-      pub turn : None ≡ bad_place words → Passed (passed + 12 * c) after (k + 1)
-      turn e =
-          let l = words_length (12 * c) (drop (at + 1) bs) in
-          let p = bad_past words (words_left after (k + 1)) (past_place words e) in
-          let f = ap first_bad split in
-          let g = ap length split ∙ length-append words (words_left after (k + 1)) in
-          record {
-            upto = omega arith;
-            within = omega (arith, room);
-            small = omega (arith, i.small);
-            fit = ap (λ a. entries_fit (n - (k + 1)) (drop a bs)) (sym after_is) ∙ entry.fit;
-            left = omega (arith, i.left, f, p, l);
-            long = omega (arith, i.long, g, l);
-          }
+    stop : (b : ℕ) → Some b ≡ bad_place now → Some (passed + b) ≡ bad_place W
+    stop b e =
+        let t = at_place (words_ahead at k (suc q)) b (place_here now then b e ∙ ap bad_place (sym opened)) in
+        let g : passed + b ≡ first_bad W = omega (arith, i.left, t.0) in
+        ap Some g ∙ sym (place_at W (omega (arith, i.long, t.0, t.1)))
 
-      pub hit : (b : ℕ) → Some b ≡ bad_place words → Some (passed + b) ≡ bad_place W
-      hit b e =
-          let t = at_place (words_left at k) b (place_here words (words_left after (k + 1)) b e ∙ ap bad_place (sym split)) in
-          let g : passed + b ≡ first_bad W = omega (arith, i.left, t.0) in
-          ap Some g ∙ sym (place_at W (omega (arith, i.long, t.0, t.1)))
+    stop_small : (b : ℕ) → Some b ≡ bad_place now → passed + b ≤ length bs
+    stop_small b e = let t = at_place now b e in omega (arith, t.0, t.1, words_length 12 (drop at bs), i.small, i.within)
 
-      pub hit_small : (b : ℕ) → Some b ≡ bad_place words → passed + b ≤ length bs
-      hit_small b e =
-          let t = at_place words b e in
-          omega (arith, t.0, t.1, words_length (12 * c) (drop (at + 1) bs), i.small, room)
+  -- the same where j of c sub-rounds are passed
+  module _ (passed at k c j : ℕ) (h : j < c) (i : Inner passed at k (c - j)) where
+    inner : Inner passed at k (suc (c - (j + 1)))
+    inner = let z : c - j ≡ suc (c - (j + 1)) = omega arith in subst (Inner passed at k) z i
+
+    pub room : at + 48 ≤ length bs
+    room = omega (arith, inner.within)
+
+    pub turn : None ≡ bad_place (words_from 12 (drop at bs)) → Inner (passed + 12) (at + 48) k (c - (j + 1))
+    turn e = go passed at k (c - (j + 1)) inner e
+
+    pub hit : (b : ℕ) → Some b ≡ bad_place (words_from 12 (drop at bs)) → Some (passed + b) ≡ bad_place W
+    hit b e = stop passed at k (c - (j + 1)) inner b e
+
+    pub hit_small : (b : ℕ) → Some b ≡ bad_place (words_from 12 (drop at bs)) → passed + b ≤ length bs
+    hit_small b e = stop_small passed at k (c - (j + 1)) inner b e
+
+  pub leave : (passed at k q : ℕ) → q ≡ 0 → Inner passed at k q → Passed passed at (k + 1)
+  unfolding words_from
+  leave passed at k q e i₀ =
+      let i = subst (Inner passed at k) e i₀ in
+      let z : at + 48 * 0 ≡ at = omega arith in
+      record { upto = omega (arith, i.more); within = omega (arith, i.within); small = i.small; fit = rw z at i.fit; left = rw z at i.left; long = rw z at i.long }
 
   pub finish : (passed at k : ℕ) → Passed passed at k → n ≤ k → None ≡ bad_place W
   unfolding entries_from polys_words first_bad

@@ -120,22 +120,28 @@ pub fn read_subround(proof: &[u8], at: usize) -> SubroundEvals
     }
 }
 
-// The place of the first bad word among the polynomial entries from a place on, if there is one.
+// The place of the first bad word among the polynomial entries from a place on, if there is one: left by the label at that word's sub-round.
 fn first_bad_in_entries(proof: &[u8], from: usize, count: usize) -> Option<usize>
     requires { (from ≤ length proof.now) × (entries_fit count (drop from proof.now) ≡ true) }
     ensures { result ≡ bad_place (polys_words (entries_from count (drop from proof.now))) }
 {
     let mut passed = 0;
     let mut at = from;
-    for k in 0..count {
-        let words = 12 * usize::from(proof[at]);
-        if let Some(place) = wire::first_bad_stored(proof, at + 1, words) {
-            return Some(passed + place);
+    let mut found = None;
+    // Stays: document 01 has nested loops here that are left by a label.
+    'entries: for k in 0..count {
+        let subrounds = usize::from(proof[at]);
+        at += 1;
+        for j in 0..subrounds {
+            if let Some(place) = wire::first_bad_stored(proof, at, 12) {
+                found = Some(passed + place);
+                break 'entries;
+            }
+            passed += 12;
+            at += 48;
         }
-        passed += words;
-        at += 1 + 4 * words;
     }
-    None
+    found
 }
 
 // The place of the first bad word of a proof, counted over the words of its elements, if there is one.

@@ -25,7 +25,6 @@ use Rattle.stored.specs.Elements.{decoded}
 use Rattle.verifier.specs.Verified.{Asked, Lent, Outcome, source_of, verified}
 use Rattle.sizes.specs.Sizes.{row_count}
 use Rattle.prover_tree.specs.Nodes.{node}
-use Rattle.evaluation.specs.declared.Evaluation.TheVariants.{Done}
 use Rattle.evaluation.specs.Evaluated.{evaluated}
 
 -- the proof that stands in the bytes
@@ -77,7 +76,7 @@ pub record Checked (a : Asked) (b : Lent) (rows : List ℕ) : Type 0 where
   pub numer : Ext
   pub denom : Ext
   pub accepted : (verified a b).answer ≡ Ok (record { numer = numer; denom = denom })
-  pub valued : evaluated rows (take (point_words a.rounds) (verified a b).buffers.point) ≡ Done a.rounds numer denom
+  pub valued : evaluated rows (take (point_words a.rounds) (verified a b).buffers.point) ≡ Ok (record { rounds = a.rounds; numer = numer; denom = denom })
 
 -- then there are 2 ^ rounds rows, and the claims are their values
 abbrev pub SheetMatches : Type 0

@@ -118,6 +118,7 @@ pub fn verify_rounds(
     let mut s = first;
     let mut c = claims;
     let mut p = polys;
+    // Stays: the entries grow with their round, so that their places are no chunks of one size.
     for round in 1..rounds {
         s = verify_round(proof, c, p, round, point, transcript, s)?;
         c += 64;

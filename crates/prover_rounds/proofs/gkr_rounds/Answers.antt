@@ -43,8 +43,8 @@ loop-round-preserved c =
     let h = pow_next l.size l.round l.invariant.2 in
     let g = c.gkr_round.ensures in
     let n =
-        midway_next _ l.work _ _ l.xi _ (source_of (state c.args.transcript.now)) c.args.eq c.args.n l.round l.size
-        l.invariant.2 c.loop-round-test.true c.requires.layer.1 m (rw (same_source m.steps) at g.layer) in
+    midway_next _ l.work _ _ l.xi _ (source_of (state c.args.transcript.now)) c.args.eq c.args.n l.round l.size
+    l.invariant.2 c.loop-round-test.true c.requires.layer.1 m (rw (same_source m.steps) at g.layer) in
     (g.same ∙ l.invariant.0, g.length ∙ l.invariant.1, omega (arith, h), n)
 
 pub returns-clause-run : goal.returns-clause-run

@@ -31,8 +31,8 @@ loop-j-preserved c =
     let h = half_down l.half m (l.invariant.1 ∙ ap (λ n. 2 ^ n / 2) e) in
     let s = rw (same_source g.steps) at c.sub_round-rho.ensures.sent in
     let n =
-        going_next _ l.work _ _ l.xi _ (source_of (state a.transcript.now)) a.eq a.pq l.j m a.round l.half (l.half / 2) a.size a.first l.t _ _ _
-        (omega (arith, c.loop-j-test.true)) h c.requires.layer.0 l.invariant.2 (rw e at g) s c.load-x.ensures c.sub_round-rho.ensures.rho c.next_turn-t.ensures in
+    going_next _ l.work _ _ l.xi _ (source_of (state a.transcript.now)) a.eq a.pq l.j m a.round l.half (l.half / 2) a.size a.first l.t _ _ _
+    (omega (arith, c.loop-j-test.true)) h c.requires.layer.0 l.invariant.2 (rw e at g) s c.load-x.ensures c.sub_round-rho.ensures.rho c.next_turn-t.ensures in
     (c.sub_round-rho.ensures.same ∙ l.invariant.0, ap (λ n. n / 2) h, omega (arith, l.invariant.2), n)
 
 pub returns-clause-sent : goal.returns-clause-sent
