@@ -1,4 +1,6 @@
 // `verify PROOF ROUNDS`: the verdict, the two claims and the point are told, and whether the claims are a sheet's; the run's log goes to a file where one is named.
+ghost use Rattle.std.specs.Prelude.{◌≤◌, length, IfOk};
+
 use crate::challenges::{are_counted, lend_challenges};
 use crate::compare::compare_sheet;
 use crate::verdict::{say_bad, say_good};
@@ -69,7 +71,9 @@ pub fn read_proof<'a, 'b>(
     rt: &impl Files,
     path: &'a [u8],
     bytes: &'b mut [u8],
-) -> Result<&'b [u8], Fault<'a>> {
+) -> Result<&'b [u8], Fault<'a>>
+    ensures { IfOk result (λ proof. length proof.now ≤ length bytes.old) }
+{
     match read(rt, path, bytes)? {
         Input::Whole(proof) => Ok(proof),
         Input::Front(_) => Err(Fault::TooLong {
