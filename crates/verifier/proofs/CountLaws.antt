@@ -146,13 +146,7 @@ module _ {bs pt : List ℕ} {t : State} {n : ℕ} {o : Outline} (r : Ready bs pt
   k_is : n ≡ suc k
   k_is = omega (arith, r.some)
 
-  -- the log has room for the size
-  pub ready_size : {size : Bool} → Starts t → size ≡ sized bs → t.put + cond size 4 0 ≤ length t.buffer
-  ready_size st z =
-      let e : log_room true (sized bs) n ≡ log_room true (sized bs) (suc k) = ap (log_room true (sized bs)) k_is in
-      subst (λ s. t.put + cond s 4 0 ≤ length t.buffer) (sym z) (omega (arith, e, r.log_room_fits, st.put))
-
-  -- and after it for the run
+  -- the log has room for the run after the size
   pub ready_room : {t₁ : State} {size : Bool} → Starts t → size ≡ sized bs → Begins t t₁ size n → t₁.put + 24 + layers_cost 4 4 k 1 ≤ length t₁.buffer
   unfolding run_cost
   ready_room {size = size} st z s =
