@@ -1,32 +1,18 @@
 // The command that the arguments ask for.
 use crate::options::Options;
 use crate::words::{argument, count};
-use command_proofs::prove::prove;
 use command_proofs::replay::replay;
-use command_proofs::verify::verify;
+use command_proofs::{prove, verify};
 use command_sheets::{make, show};
 use refusal::{Proving, Verifying};
 use sheet_text::scan::number_at;
 use std::rt::Files;
 
-// What the arguments ask for: names, where an empty one is not given, and modes.
+// What the arguments ask for.
 #[derive(Clone, Copy)]
 enum Command<'a> {
-    Prove {
-        sheet: &'a [u8],
-        proof: &'a [u8],
-        challenges: &'a [u8],
-        modes: Proving,
-        log: &'a [u8],
-    },
-    Verify {
-        proof: &'a [u8],
-        rounds: usize,
-        modes: Verifying,
-        challenges: &'a [u8],
-        sheet: &'a [u8],
-        log: &'a [u8],
-    },
+    Prove(prove::Asked<'a>),
+    Verify(verify::Asked<'a>),
     Replay {
         proof: &'a [u8],
         rounds: usize,
@@ -100,13 +86,13 @@ fn read_prove(args: &[u8], n: usize) -> Option<Command<'_>> {
     if n < 3 || !options.fit_prove() {
         return None;
     }
-    Some(Command::Prove {
+    Some(Command::Prove(prove::Asked {
         sheet: argument(args, 1),
         proof: argument(args, 2),
         challenges: named(args, options.names.challenges),
         modes: options.proving(),
         log: named(args, options.names.log),
-    })
+    }))
 }
 
 fn read_verify(args: &[u8], n: usize) -> Option<Command<'_>> {
@@ -114,14 +100,14 @@ fn read_verify(args: &[u8], n: usize) -> Option<Command<'_>> {
     if n < 3 || !options.fit_verify() {
         return None;
     }
-    Some(Command::Verify {
+    Some(Command::Verify(verify::Asked {
         proof: argument(args, 1),
         rounds: number(argument(args, 2))?,
         modes: options.verifying(),
         challenges: named(args, options.names.challenges),
         sheet: named(args, options.names.sheet),
         log: named(args, options.names.log),
-    })
+    }))
 }
 
 fn read_replay(args: &[u8], n: usize) -> Option<Command<'_>> {
@@ -160,21 +146,8 @@ pub fn run(rt: &(impl Files + Print), args: &[u8]) {
         return usage();
     };
     match command {
-        Command::Prove {
-            sheet,
-            proof,
-            challenges,
-            modes,
-            log,
-        } => prove(rt, sheet, proof, challenges, modes, log),
-        Command::Verify {
-            proof,
-            rounds,
-            modes,
-            challenges,
-            sheet,
-            log,
-        } => verify(rt, proof, rounds, modes, challenges, sheet, log),
+        Command::Prove(asked) => prove::prove(rt, asked),
+        Command::Verify(asked) => verify::verify(rt, asked),
         Command::Replay {
             proof,
             rounds,

@@ -19,14 +19,16 @@ fn proof_length(rounds: usize) -> usize {
     sizes::proof_bytes(rounds)
 }
 
-// What `prove` is asked: the names of its files and the modes.
+// What `prove` is asked: the names of the sheet, of the proof, of a text of challenges, and of a file for the log, and the modes. An empty name stands for counted
+// challenges, and for no log. Where challenges are drawn none are read.
+// Stays: an empty name and no Option, since `read_challenges` promises what it does with one.
 #[derive(Clone, Copy)]
-struct Asked<'a> {
-    sheet: &'a [u8],
-    proof: &'a [u8],
-    challenges: &'a [u8],
-    modes: Proving,
-    log: &'a [u8],
+pub struct Asked<'a> {
+    pub sheet: &'a [u8],
+    pub proof: &'a [u8],
+    pub challenges: &'a [u8],
+    pub modes: Proving,
+    pub log: &'a [u8],
 }
 
 impl<'a> Asked<'a> {
@@ -72,23 +74,8 @@ impl<'a> Asked<'a> {
     }
 }
 
-// The names of the sheet, of the proof, of a text of challenges, and of a file for the log; an empty one stands for counted challenges, and for no log. Where challenges are
-// drawn none are read.
-pub fn prove(
-    rt: &(impl Files + Print),
-    sheet: &[u8],
-    proof: &[u8],
-    challenges: &[u8],
-    modes: Proving,
-    log: &[u8],
-) {
-    let asked = Asked {
-        sheet,
-        proof,
-        challenges,
-        modes,
-        log,
-    };
+// Proves, and says what stops it.
+pub fn prove(rt: &(impl Files + Print), asked: Asked<'_>) {
     if let Err(fault) = asked.read_and_run(rt) {
         fault.tell(rt);
     }

@@ -13,15 +13,16 @@ use std::rt::Files;
 use step::Frac;
 use verifier_round::Claims;
 
-// What `verify` is asked: the names of its files, the rounds and the modes.
+// What `verify` is asked: the names of the proof, of a text of challenges, of a sheet, and of a file for the log, the rounds and the modes. An empty name stands for counted
+// challenges, for no sheet, and for no log. Where challenges are drawn none are read.
 #[derive(Clone, Copy)]
-struct Asked<'a> {
-    proof: &'a [u8],
-    rounds: usize,
-    modes: Verifying,
-    challenges: &'a [u8],
-    sheet: &'a [u8],
-    log: &'a [u8],
+pub struct Asked<'a> {
+    pub proof: &'a [u8],
+    pub rounds: usize,
+    pub modes: Verifying,
+    pub challenges: &'a [u8],
+    pub sheet: &'a [u8],
+    pub log: &'a [u8],
 }
 
 impl<'a> Asked<'a> {
@@ -83,25 +84,8 @@ pub fn read_proof<'a, 'b>(
     }
 }
 
-// The names of the proof, of a text of challenges, of a sheet, and of a file for the log; an empty one stands for counted challenges, for no sheet, and for no log. Where
-// challenges are drawn none are read.
-pub fn verify(
-    rt: &(impl Files + Print),
-    proof: &[u8],
-    rounds: usize,
-    modes: Verifying,
-    challenges: &[u8],
-    sheet: &[u8],
-    log: &[u8],
-) {
-    let asked = Asked {
-        proof,
-        rounds,
-        modes,
-        challenges,
-        sheet,
-        log,
-    };
+// Verifies, and says what stops it.
+pub fn verify(rt: &(impl Files + Print), asked: Asked<'_>) {
     if let Err(fault) = asked.read_and_run(rt) {
         fault.tell(rt);
     }
