@@ -1,8 +1,8 @@
 // Replays recorded cases of the field's operations: a case a line on standard input, its answer a line on standard output.
 #![tactic(auto)]
 
-use cases::print;
-use cases::read::{next_ext, next_word};
+use cases::replay::replay_input;
+use cases::{Cases, print};
 use field::{Base, Ext, Field};
 
 fn print_element(e: Ext) {
@@ -13,7 +13,7 @@ fn print_element(e: Ext) {
 
 fn print_word(b: Base) {
     print::first(0);
-    print::next(b.value as u64);
+    print::next(u64::from(b.value));
     print::end();
 }
 
@@ -35,54 +35,23 @@ fn of_two<F: Field>(code: u32, x: F, y: F) -> F {
     }
 }
 
-// Prints the answer of a case, and says where the next one begins.
-fn answer(text: &[u8], at: usize) -> usize {
-    let c = next_word(text, at);
-    match c.value {
-        code @ (1 | 2 | 5) => {
-            let x = next_ext(text, c.at);
-            let y = next_ext(text, x.at);
-            print_element(of_two(code, x.value, y.value));
-            y.at
-        }
-        code @ (3 | 4 | 6 | 7) => {
-            let x = next_ext(text, c.at);
-            print_element(of_one(code, x.value));
-            x.at
-        }
-        8 => {
-            let x = next_ext(text, c.at);
-            let w = next_word(text, x.at);
-            print_element(x.value * Base { value: w.value });
-            w.at
-        }
-        code @ (11 | 12 | 15) => {
-            let x = next_word(text, c.at);
-            let y = next_word(text, x.at);
-            print_word(of_two(code, Base { value: x.value }, Base { value: y.value }));
-            y.at
-        }
-        code => {
-            let x = next_word(text, c.at);
-            print_word(of_one(code, Base { value: x.value }));
-            x.at
-        }
+fn next_base(cases: &mut Cases) -> Base {
+    Base {
+        value: cases.word(),
     }
 }
 
-// Stays: that a case takes a byte is not promised by what reads it, so the turns are counted, and a `while` on the place is not proved to end.
-fn replay(text: &[u8]) {
-    let mut at = 0;
-    for _ in 0..text.len() {
-        if text.len() <= at {
-            return;
-        }
-        at = answer(text, at);
+// Answers the next case.
+fn answer(cases: &mut Cases) {
+    match cases.word() {
+        code @ (1 | 2 | 5) => print_element(of_two(code, cases.element(), cases.element())),
+        code @ (3 | 4 | 6 | 7) => print_element(of_one(code, cases.element())),
+        8 => print_element(cases.element() * next_base(cases)),
+        code @ (11 | 12 | 15) => print_word(of_two(code, next_base(cases), next_base(cases))),
+        code => print_word(of_one(code, next_base(cases))),
     }
 }
 
 fn main() {
-    let mut text = [0u8; 524288];
-    let n = io::read_full(0, &mut text);
-    replay(&text[..n]);
+    replay_input::<524288, _>(answer);
 }

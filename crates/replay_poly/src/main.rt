@@ -1,8 +1,8 @@
 // Replays recorded cases of the functions on polynomials: a case a line on standard input, its answer a line on standard output.
 #![tactic(auto)]
 
-use cases::print;
-use cases::read::{next_ext, next_word};
+use cases::replay::replay_input;
+use cases::{Cases, print};
 use field::{Ext, Field};
 use poly::eq::{eval_eq_mle, evals_eq_hypercube, evals_eq_hypercube_serial};
 use poly::eval::{eval_mle_evals_at_point, eval_mle_evals_by_halves};
@@ -27,77 +27,58 @@ fn print_evaluated(evaluated: Result<Ext, Refusal>) {
     print::ext(r.left);
 }
 
-// The next N elements of the text, and where it goes on.
-fn next_elements<const N: usize>(text: &[u8], mut at: usize) -> ([Ext; N], usize) {
+// The next N elements of the text.
+fn next_elements<const N: usize>(cases: &mut Cases) -> [Ext; N] {
     let mut elements = [Ext::ZERO; N];
-    for element in elements.iter_mut() {
-        let read = next_ext(text, at);
-        *element = read.value;
-        at = read.at;
+    for element in &mut elements {
+        *element = cases.element();
     }
-    (elements, at)
+    elements
 }
 
-// The interpolations. Each function from here on answers where the next case begins.
+// The interpolations.
 // Stays: one function over a closure of N elements gets no proof, since its bound names a const parameter.
-fn linear(text: &[u8], at: usize) -> usize {
-    let ([e0, e1, x], at) = next_elements::<3>(text, at);
+fn linear(cases: &mut Cases) {
+    let [e0, e1, x] = next_elements::<3>(cases);
     print_evaluated(Ok(interpolate_linear_at_01(e0, e1, x)));
     print::end();
-    at
 }
 
-fn quadratic(text: &[u8], at: usize) -> usize {
-    let ([e0, e1, e2, x], at) = next_elements::<4>(text, at);
+fn quadratic(cases: &mut Cases) {
+    let [e0, e1, e2, x] = next_elements::<4>(cases);
     print_evaluated(Ok(interpolate_quadratic_at_012(e0, e1, e2, x)));
     print::end();
-    at
 }
 
-fn cubic(text: &[u8], at: usize) -> usize {
-    let ([e0, e1, e2, e3, x], at) = next_elements::<5>(text, at);
+fn cubic(cases: &mut Cases) {
+    let [e0, e1, e2, e3, x] = next_elements::<5>(cases);
     print_evaluated(Ok(interpolate_cubic_at_0123(e0, e1, e2, e3, x)));
     print::end();
-    at
 }
 
-fn answer(text: &[u8], at: usize) -> usize {
-    let code = next_word(text, at);
-    let at = code.at;
-    match code.value {
-        20 => linear(text, at),
-        21 => quadratic(text, at),
-        22 => cubic(text, at),
-        23 => lists::two_lists(text, at, |x, y| print_evaluated(eval_eq_mle(x, y))),
-        24 => lists::two_lists(text, at, |table, x| {
+// Answers the next case.
+fn answer(cases: &mut Cases) {
+    match cases.word() {
+        20 => linear(cases),
+        21 => quadratic(cases),
+        22 => cubic(cases),
+        23 => lists::two_lists(cases, |x, y| print_evaluated(eval_eq_mle(x, y))),
+        24 => lists::two_lists(cases, |table, x| {
             print_evaluated(eval_mle_evals_at_point(table, x));
-            print::words(table);
+            print::list(table);
         }),
-        25 => lists::two_lists(text, at, |table, x| {
+        25 => lists::two_lists(cases, |table, x| {
             print_evaluated(eval_mle_evals_by_halves(table, x));
         }),
-        26 => lists::list_and_target(text, at, evals_eq_hypercube),
-        27 => lists::list_and_target(text, at, evals_eq_hypercube_serial),
-        28 => lists::list_and_element(text, at, horner_eval),
-        29 => lists::list_and_element(text, at, horner_eval_base),
-        30 => lists::folded(text, at),
-        _ => round::round_evals(text, at),
-    }
-}
-
-fn replay(text: &[u8]) {
-    let mut at = 0;
-    // Stays: a `while` would have to prove that each case moves on in the text, and the readers of `cases` promise no such thing.
-    for _ in 0..text.len() {
-        if text.len() <= at {
-            return;
-        }
-        at = answer(text, at);
+        26 => lists::list_and_target(cases, evals_eq_hypercube),
+        27 => lists::list_and_target(cases, evals_eq_hypercube_serial),
+        28 => lists::list_and_element(cases, horner_eval),
+        29 => lists::list_and_element(cases, horner_eval_base),
+        30 => lists::folded(cases),
+        _ => round::round_evals(cases),
     }
 }
 
 fn main() {
-    let mut text = [0u8; 524288];
-    let n = io::read_full(0, &mut text);
-    replay(&text[..n]);
+    replay_input::<524288, _>(answer);
 }
