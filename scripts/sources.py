@@ -16,42 +16,75 @@ def text_of(path):
 
 
 class Function:
+    """A public function, a method of a public trait, or an implementation of a library's trait, whose ghost member `.._gives` is the contract."""
+
     def __init__(self, crate, path, lines, start, head_end, end, name, comment):
         self.crate, self.path, self.name, self.comment = crate, path, name, comment
         self.full = crate + "::" + name
         self.lines = lines[start : end + 1]
         clauses = [" ".join(c.split()) for c in re.split(r"\n(?=\s*(?:requires|ensures)\b)", "\n".join(lines[start : head_end + 1]).removesuffix("\n" + lines[head_end]))]
-        self.contract = [c for c in clauses if c.startswith("ensures")]
+        self.contract = [c.removesuffix(";") for c in clauses if c.startswith("ensures")]
         self.inner = any(c.startswith("requires") for c in clauses)
         head = re.split(r"\n\s*(?:requires|ensures)\b", "\n".join(lines[start : head_end + 1]))[0]
         self.given = re.findall(r"(\w+): ", head)
-        self.lent = re.findall(r"(\w+): &(?:'\w+ )?mut ", head)
+        self.lent = re.findall(r"(\w+): &(?:'\w+ )?mut ", head) + ["self"] * ("&mut self" in head)
         self.returns = "->" in head
         # What each clause says, without its name.
         self.said = [re.sub(r"^ensures\*?(?: \w+)? \{ (.*) \}$", r"\1", c) for c in self.contract]
 
 
+class Given(Function):
+    """What an implementation of a library's trait gives, by its ghost member."""
+
+    def __init__(self, crate, path, lines, start, end, name, comment, given, said):
+        self.crate, self.path, self.name, self.comment = crate, path, name, comment
+        self.full, self.lines, self.inner = crate + "::" + name, lines[start : end + 1], False
+        said = re.sub(r"(?<![\w'.])%s(?![\w'])" % re.escape(given[-1]), "result", said)
+        self.contract, self.said, self.given, self.lent, self.returns = ["ensures { %s }" % said], [said], given, [], True
+
+
+# The comment above a line, without attributes and derives between them.
+def comment_above(lines, i, pad):
+    above, j = [], i - 1
+    while lines[j].startswith(pad + "#["):
+        j -= 1
+    while j >= 0 and lines[j].startswith(pad + "//"):
+        if not lines[j].strip().startswith("// Stays: "):
+            above.insert(0, lines[j].strip()[2:].strip())
+        j -= 1
+    return " ".join(above)
+
+
+# Implementations of traits of the library that give something: operators and conversions.
+def implementations(crate, path):
+    lines = text_of(path).split("\n")
+    for i, line in enumerate(lines):
+        m = re.match(r"^impl(?:<[^>]*>)? (?:\w+::)*(\w+(?:<[^ ]*>)?) for (\w+)", line)
+        if m:
+            end = lines.index("}", i)
+            said = re.search(r"(?s)ghost \w+_gives = \{ λ ([^.]*)\. (.*?) \};", "\n".join(lines[i : end + 1]))
+            if said:
+                yield Given(crate, path, lines, i, end, "%s for %s" % m.groups(), comment_above(lines, i, ""), said.group(1).split(), " ".join(said.group(2).split()))
+
+
 # The public functions of a file, with the comment above each.
 def functions(crate, path):
     lines = text_of(path).split("\n")
-    owner = ""
+    owner, trait = "", False
     for i, line in enumerate(lines):
-        if re.match(r"^impl (\w+)", line):
-            owner = re.match(r"^impl (\w+)", line).group(1) + "::"
-        m = re.match(r"^(\s*)pub (?:extern \"C\" )?fn (\w+)", line)
+        block = re.match(r"^(?:pub )?(?:impl|(trait))(?:<[^>]*>)? (?:\S+ for )?(\w+)", line)
+        if block:
+            owner, trait = block.group(2) + "::", bool(block.group(1))
+        m = re.match(r"^(\s*)pub (?:const )?(?:extern \"C\" )?fn (\w+)", line) or trait and re.match(r"^(    )(?:final )?fn (\w+)", line)
         if not m:
             continue
         pad, k = m.group(1), i
-        while lines[k] != pad + "{" and not lines[k].endswith(" {"):
+        while lines[k] != pad + "{" and not lines[k].endswith(" {") and not (trait and lines[k].endswith(";")):
             k += 1
-        end = lines.index(pad + "}", k)
-        above, j = [], i - 1
-        while lines[j].startswith(pad + "#["):
-            j -= 1
-        while j >= 0 and lines[j].startswith(pad + "//"):
-            above.insert(0, lines[j].strip()[2:].strip())
-            j -= 1
-        yield Function(crate, path, lines, i, k, end, (owner if pad else "") + m.group(2), " ".join(above))
+        end = k if lines[k].endswith(";") else lines.index(pad + "}", k)
+        head_end = k + 1 if lines[k].endswith(";") else k
+        yield Function(crate, path, lines, i, head_end, end, (owner if pad else "") + m.group(2), comment_above(lines, i, pad))
+    yield from implementations(crate, path)
 
 
 # The names that a source or a file of laws brings in from specs, with the crate and the module of each.

@@ -1,4 +1,3 @@
 -- The laws that the proofs share.
 pub mod ModeLaws
 pub mod RoomLaws
-pub mod Telling

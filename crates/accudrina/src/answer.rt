@@ -12,34 +12,27 @@ fn field_word(x: usize) -> u32
 }
 
 // Every word of the answer is written; the number comes back.
+#[tactic(auto, unfolding(crate::specs::Answer::answer_words))]
 pub fn tell(report: Report, used: Used, answer: &mut [u32; 16]) -> u32
     ensures { record { number = result; words = answer.new } ≡ tells report used }
 {
-    let number = report.number;
-    let first = field_word(report.first);
-    let second = field_word(report.second);
-    let third = field_word(report.third);
-    let challenges = field_word(used.challenges);
-    let words = field_word(used.words);
-    let left = report.left;
-    let right = report.right;
     *answer = [
         report.number,
-        first,
-        second,
-        third,
-        left.c0,
-        left.c1,
-        left.c2,
-        left.c3,
-        right.c0,
-        right.c1,
-        right.c2,
-        right.c3,
-        challenges,
-        words,
+        field_word(report.first),
+        field_word(report.second),
+        field_word(report.third),
+        report.left.c0,
+        report.left.c1,
+        report.left.c2,
+        report.left.c3,
+        report.right.c0,
+        report.right.c1,
+        report.right.c2,
+        report.right.c3,
+        field_word(used.challenges),
+        field_word(used.words),
         0,
         0,
     ];
-    number
+    report.number
 }

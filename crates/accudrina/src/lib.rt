@@ -12,6 +12,7 @@ ghost use Rattle.accudrina.specs.Modes.{unknown_mode};
 ghost use Rattle.accudrina.specs.Calls.{reading, proving, proving_taken, verifying, verifying_taken, replaying, replaying_taken, evaluating};
 
 use refusal::{Proving, Verifying};
+use transcript::Used;
 
 mod answer; // the sixteen words
 mod modes; // the bits of a word
@@ -28,16 +29,18 @@ pub extern "C" fn accudrina_read_sheet(
         ≡ reading sheet.now rows.old }
 {
     let read = stored_sheet::read_sheet(sheet, rows);
-    let report = stored_sheet::number_and_values(read);
-    answer::tell(report, transcript::unused(), answer)
+    answer::tell(
+        stored_sheet::number_and_values(read),
+        Used::nothing(),
+        answer,
+    )
 }
 
 // The number 28, with the bits of the modes that are not taken.
 fn refuse_modes(bits: u32, answer: &mut [u32; 16]) -> u32
     ensures { record { number = result; words = answer.new } ≡ tells (unknown_mode bits) unused }
 {
-    let report = modes::unknown_mode(bits);
-    answer::tell(report, transcript::unused(), answer)
+    answer::tell(modes::unknown_mode(bits), Used::nothing(), answer)
 }
 
 // A sheet's proof, point and log, in modes that are taken.
@@ -56,10 +59,11 @@ fn prove_taken(
         (lent proof.old point.old log.old work.old) }
 {
     let proved = prover::fractional_sumcheck(rows, modes, challenges, proof, point, log, work);
-    let found = proved.answer;
-    let report = prover::number_and_values(found);
-    let used = proved.used;
-    answer::tell(report, used, answer)
+    answer::tell(
+        prover::number_and_values(proved.answer),
+        proved.used,
+        answer,
+    )
 }
 
 // A sheet's proof, point and log: the number 0, the rounds and the sum, or the refusal with its fields; first of all 28, the bits of the modes that are not taken.
@@ -82,8 +86,16 @@ pub extern "C" fn accudrina_prove(
     if untaken != 0 {
         return refuse_modes(untaken, answer);
     }
-    let proving = modes::proving(modes);
-    prove_taken(rows, proving, challenges, proof, point, log, work, answer)
+    prove_taken(
+        rows,
+        modes::proving(modes),
+        challenges,
+        proof,
+        point,
+        log,
+        work,
+        answer,
+    )
 }
 
 // What the verifier says of a proof, in modes that are taken.
@@ -100,10 +112,11 @@ fn verify_taken(
         ≡ verifying_taken (asked proof.now rounds modes challenges.now) (again point.old log.old) }
 {
     let verified = verifier::verify_gkr(proof, rounds, modes, challenges, point, log);
-    let verdict = verified.verdict;
-    let report = verifier_round::number_and_values(verdict);
-    let used = verified.used;
-    answer::tell(report, used, answer)
+    answer::tell(
+        verifier_round::number_and_values(verified.verdict),
+        verified.used,
+        answer,
+    )
 }
 
 // What the verifier says of a proof: the number 0 and both claims at the point written, or the refusal with its fields; first of all 28, the bits of the modes that are not taken.
@@ -124,8 +137,15 @@ pub extern "C" fn accudrina_verify(
     if unknown != 0 {
         return refuse_modes(unknown, answer);
     }
-    let verifying = modes::verifying(modes);
-    verify_taken(proof, rounds, verifying, challenges, point, log, answer)
+    verify_taken(
+        proof,
+        rounds,
+        modes::verifying(modes),
+        challenges,
+        point,
+        log,
+        answer,
+    )
 }
 
 // What a replay of a proof from a log says, in modes that are taken.
@@ -141,10 +161,11 @@ fn replay_taken(
         ≡ replaying_taken (kept proof.now rounds modes log.now) point.old }
 {
     let replayed = log_replay::replay(proof, rounds, modes, log, point);
-    let verdict = replayed.verdict;
-    let report = verifier_round::number_and_values(verdict);
-    let used = replayed.used;
-    answer::tell(report, used, answer)
+    answer::tell(
+        verifier_round::number_and_values(replayed.verdict),
+        replayed.used,
+        answer,
+    )
 }
 
 // The verdict of a proof from a stored log alone, which is only read: as the verifier's on the log's challenges, or the place where the log is not the one that it leaves;
@@ -165,8 +186,7 @@ pub extern "C" fn accudrina_replay(
     if spare != 0 {
         return refuse_modes(spare, answer);
     }
-    let verifying = modes::verifying(modes);
-    replay_taken(proof, rounds, verifying, log, point, answer)
+    replay_taken(proof, rounds, modes::verifying(modes), log, point, answer)
 }
 
 // The values of both columns of a sheet at a point: the number 0, the rounds and both values, or the refusal; it only reads.
@@ -175,6 +195,9 @@ pub extern "C" fn accudrina_evaluate(rows: &[u32], point: &[u32], answer: &mut [
     ensures { record { number = result; words = answer.new } ≡ evaluating rows.now point.now }
 {
     let value = evaluation::evaluate(rows, point);
-    let report = evaluation::number_and_values(value);
-    answer::tell(report, transcript::unused(), answer)
+    answer::tell(
+        evaluation::number_and_values(value),
+        Used::nothing(),
+        answer,
+    )
 }

@@ -2,7 +2,7 @@
 ghost use Rattle.std.specs.Prelude.{◌≡◌, ◌≤◌};
 ghost use Rattle.accudrina.specs.Modes as Modes;
 
-use field::Ext;
+use field::{Ext, Field};
 use refusal::{Proving, Report, Verifying};
 
 // A row over zero is refused by the prover, a root over zero by the verifier.
@@ -21,6 +21,8 @@ pub const SIZED: u32 = 8;
 pub const EMPTY: u32 = 16;
 
 // Whether a bit is set: 1, 2, 4, ..
+// Stays: the clause holds at every number from 1 on, where `modes & bit` would say so of powers of two alone.
+#[tactic(auto, unfolding(crate::specs::Modes::has))]
 pub fn has(modes: u32, bit: u32) -> bool
     requires { 1 ≤ bit }
     ensures { result ≡ Modes.has bit modes }
@@ -29,14 +31,12 @@ pub fn has(modes: u32, bit: u32) -> bool
 }
 
 // The word with that bit not set.
+#[tactic(auto, using(crate::proofs::ModeLaws::set_within), unfolding(crate::specs::Modes::without))]
 pub fn without(modes: u32, bit: u32) -> u32
     requires { 1 ≤ bit }
     ensures { result ≡ Modes.without bit modes }
 {
-    if has(modes, bit) {
-        return modes - bit;
-    }
-    modes
+    if has(modes, bit) { modes - bit } else { modes }
 }
 
 // The bits of a word that the prover does not take.
@@ -85,10 +85,6 @@ pub fn unknown_mode(bits: u32) -> Report
 {
     Report {
         number: 28,
-        first: bits as usize,
-        second: 0,
-        third: 0,
-        left: Ext::ZERO,
-        right: Ext::ZERO,
+        ..refusal::done(bits as usize, Ext::ZERO, Ext::ZERO)
     }
 }

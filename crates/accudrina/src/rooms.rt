@@ -11,9 +11,10 @@ pub extern "C" fn accudrina_proof_bytes(rounds: usize) -> usize
     ensures { result ≡ Rooms.bytes_of_proof rounds }
 {
     if rounds > MAX_ROUNDS {
-        return 0;
+        0
+    } else {
+        sizes::proof_bytes(rounds)
     }
-    sizes::proof_bytes(rounds)
 }
 
 // The words of the point: four a round.
@@ -21,10 +22,7 @@ pub extern "C" fn accudrina_proof_bytes(rounds: usize) -> usize
 pub extern "C" fn accudrina_point_words(rounds: usize) -> usize
     ensures { result ≡ Rooms.words_of_point rounds }
 {
-    if rounds > MAX_ROUNDS {
-        return 0;
-    }
-    4 * rounds
+    if rounds > MAX_ROUNDS { 0 } else { 4 * rounds }
 }
 
 // The words of the log in these modes: four more where the sum is observed, since zero is not asserted, and four more where the size is; other bits are not looked at.
@@ -33,9 +31,10 @@ pub extern "C" fn accudrina_log_words(rounds: usize, modes: u32) -> usize
     ensures { result ≡ Rooms.words_of_log rounds modes }
 {
     if rounds > MAX_ROUNDS {
-        return 0;
+        0
+    } else {
+        sizes::log_words(has(modes, ASSERT_ZERO), has(modes, SIZED), rounds)
     }
-    sizes::log_words(has(modes, ASSERT_ZERO), has(modes, SIZED), rounds)
 }
 
 // The words of the prover's workspace.
@@ -44,9 +43,10 @@ pub extern "C" fn accudrina_workspace_words(rounds: usize) -> usize
     ensures { result ≡ Rooms.words_of_workspace rounds }
 {
     if rounds > MAX_ROUNDS {
-        return 0;
+        0
+    } else {
+        sizes::work_words(rounds)
     }
-    sizes::work_words(rounds, 1 << rounds)
 }
 
 // The words of the challenges that a run takes.
@@ -55,9 +55,10 @@ pub extern "C" fn accudrina_challenge_words(rounds: usize) -> usize
     ensures { result ≡ Rooms.challenge_words rounds }
 {
     if rounds > MAX_ROUNDS {
-        return 0;
+        0
+    } else {
+        sizes::challenge_words(rounds)
     }
-    sizes::challenge_words(rounds)
 }
 
 // The rounds of so many rows: 0 for no rows and for one, one more than are taken for a number of rows that is refused.
@@ -66,7 +67,8 @@ pub extern "C" fn accudrina_rounds(rows: usize) -> usize
     ensures { result ≡ Rooms.rounds rows }
 {
     if sizes::is_size(rows) {
-        return sizes::least_size(rows).n;
+        sizes::rounds_of(rows)
+    } else {
+        MAX_ROUNDS + 1
     }
-    MAX_ROUNDS + 1
 }

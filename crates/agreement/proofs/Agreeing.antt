@@ -3,7 +3,7 @@
 use mathlib.Core.Path.{◌≡◌, refl, sym, ◌∙◌, ap, ap₂, subst}
 use mathlib.Core.Bool.{Bool, true, false, not, ◌&&◌, and-eq-true_iff}
 use mathlib.Core.List.{List}
-use Prim.Native.Nat.{ℕ, zero, suc, ◌+◌, ◌*◌, ◌^◌, ◌<◌, ◌≤◌}
+use Prim.Native.Nat.{ℕ, zero, suc, ◌+◌, ◌≤◌}
 use native.Mathlib.Omega.{arith}
 use borrow.Author.Tests.{ne_eqb}
 use lib.Dec.{eqb}
@@ -14,7 +14,7 @@ use Rattle.field.specs.ExtRing.{ExtRing, same_true}
 use Rattle.field.specs.Extension.{Extension}
 use Rattle.field.specs.Element.{words}
 use Rattle.field.specs.ElementLaws.{dec_enc}
-use Rattle.gkr.specs.Run.{Transcript, Frac, Proof}
+use Rattle.gkr.specs.Run.{Transcript, Frac}
 use Rattle.gkr.specs.Transcripts.{Words, empty, Source}
 use Rattle.gkr.specs.Sizes.{proof_bytes, log_words}
 use Rattle.gkr.specs.Tests.{fail}
@@ -34,13 +34,12 @@ use Rattle.stored.specs.ParseLaws.{Answered, parse_reads}
 use Rattle.stored.proofs.RoundTrip.{write_read}
 use Rattle.stored.specs.Elements.{encoded, decoded, over_zero}
 use Rattle.prover_tree.specs.Nodes.{node}
-use Rattle.sizes.specs.Sizes.{row_count, rounds_of, needed_words, log_room}
+use Rattle.sizes.specs.Sizes.{needed_words, log_room}
 use Rattle.refusal.specs.declared.Verifying.{Verifying}
 use Rattle.refusal.specs.Tests.{passed, first_of}
 use Rattle.prover_gate.specs.Refusals.{Call}
 use Rattle.prover.specs.Proved as Prover
 use Rattle.prover.specs.Companions.{in_mode, Sound}
-use Rattle.prover.specs.declared.Answer.TheVariants.{Done}
 use Rattle.verifier.specs.Verified as Verifier
 use Rattle.verifier.specs.Verified.{Lent}
 use Rattle.verifier.proofs.GateLaws.{opens_all}
@@ -139,7 +138,7 @@ module _ (c : Call) (live : Bool) (m : ℕ) (b : Prover.Buffers) (v : Lent) (h :
     pub verdict_run : verdict c how (suc m) (Prover.proved c b) v ≡ ended v (Gkr.verify_gkr Extension S (suc m) run.proof begin)
     verdict_run = ap (λ bs. Verifier.verified (Verifier.asked bs (suc m) how c.challenges) v) front ∙ verified_run
 
-    pub sum_run : (Prover.proved c b).answer ≡ Done (suc m) (Prover.enc_frac (root c (suc m)))
+    pub sum_run : (Prover.proved c b).answer ≡ Prover.summed (suc m) (Prover.enc_frac (root c (suc m)))
     unfolding Gkr.run
     sum_run = ap (λ o. o.answer) proved_run
 
@@ -232,4 +231,4 @@ other_sum c how (suc m) b v h d a z r sound =
 -- PROVED LIVE
 
 pub proved_live : ProvedLive
-proved_live c b n s h d = (live_root c b n s (subst (λ l. (Prover.proved (in_mode l c) b).answer ≡ Done n s) h d)).0
+proved_live c b n s h d = (live_root c b n s (subst (λ l. (Prover.proved (in_mode l c) b).answer ≡ Prover.summed n s) h d)).0

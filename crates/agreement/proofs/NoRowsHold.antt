@@ -34,7 +34,7 @@ use Rattle.stored.specs.Parse.{known, claims_from, entries_from, entries_fit, fi
 use Rattle.stored.specs.Elements.{encoded}
 use Rattle.prover_gate.specs.Refusals.{Call, call, short_room, lowest, tests, first_refusal}
 use Rattle.prover.specs.Proved as Prover
-use Rattle.verifier_round.specs.declared.Verdict.TheVariants.{Accepted}
+use Rattle.std.specs.Prelude.{Ok}
 use Rattle.verifier.specs.Verified as Verifier
 use Rattle.verifier.specs.Verified.{Lent}
 use Rattle.agreement.specs.Companions.{AgreedOnNone, NoRows}
@@ -110,7 +110,7 @@ module _ (sized : Bool) (how : Verifying) (challenges : List ℕ) (v : Lent) (h 
       (both (ap (λ k. not (all_canonical (take k challenges))) (no_need how.drawn))
       (both (never how.live) tt)))))))))
 
-  accepts : Verifier.verified given v ≡ Verifier.outcome (Accepted (enc E.nil) (enc E.one)) unused v.point v.log
+  accepts : Verifier.verified given v ≡ Verifier.outcome (Ok (record { numer = enc E.nil; denom = enc E.one })) unused v.point v.log
   unfolding Verifier.verified first_of model arithmetic layout bytes_of word claims_words polys_words entries_bytes
   accepts = ap (λ t. Verifier.laid (Verifier.fronts given t) v) passes
 

@@ -4,9 +4,9 @@ use mathlib.Core.Path.{◌≡◌, sym, ◌∙◌, ap, subst}
 use mathlib.Core.Bool.{true, false, false≢true}
 use mathlib.Core.List.{map}
 use mathlib.Core.Logic.{⊎_elim}
-use Prim.Native.Nat.{ℕ, zero, suc, ◌*◌}
+use Prim.Native.Nat.{ℕ, zero, suc}
 use native.Mathlib.Omega.{arith}
-use lib.ListN.{length, take, length-map}
+use lib.ListN.{length, length-map}
 use Rattle.field.specs.Ext as E
 use Rattle.field.specs.Element.{enc}
 use Rattle.field.specs.ElementLaws.{dec_enc}
@@ -31,7 +31,7 @@ use Rattle.prover.specs.Proved as Prover
 use Rattle.prover.specs.Companions.{Sound, Lowest}
 use Rattle.roots.specs.Roots.{OverZero}
 use Rattle.roots.proofs.Rows.{lowest_or_sound, lowest_sum}
-use Rattle.verifier_round.specs.declared.Verdict.TheVariants.{Refused as TurnedAway}
+use Rattle.std.specs.Prelude.{Err}
 use Rattle.verifier.specs.Verified as Verifier
 use Rattle.verifier.specs.Verified.{Lent}
 use Rattle.verifier.specs.Companions.{ZeroRooted}
@@ -70,7 +70,7 @@ module _ (c : Call) (m : ℕ) (b : Prover.Buffers) (v : Lent) (h : Taken c (suc 
           q0 = ap (λ p. (decoded p).q0) is ∙ dec_enc (root c (suc m)).q ∙ over;
         }
 
-    pub refused_live : (how : Verifying) → how.live ≡ true → how.drawn ≡ c.modes.drawn → OverZero c.rows (suc m) → (verdict c how (suc m) (Prover.proved c b) v).answer ≡ TurnedAway ZeroRoot
+    pub refused_live : (how : Verifying) → how.live ≡ true → how.drawn ≡ c.modes.drawn → OverZero c.rows (suc m) → (verdict c how (suc m) (Prover.proved c b) v).answer ≡ Err ZeroRoot
     refused_live how l d over =
         ap (λ o. o.answer) (alike c how m (Prover.proved c b) v d)
         ∙ ap (λ x. (verdict c (like c x) (suc m) (Prover.proved c b) v).answer) l

@@ -1,6 +1,6 @@
 -- Demand 3: what has to hold of a sheet, its challenges and the buffers, and how prover and verifier then agree, in every mode of both and for both versions of a proof.
 -- Assumes nothing.
-use Rattle.std.specs.Prelude.{◌≡◌, Bool, true, false, List, ℕ, ◌*◌, ◌^◌, ◌≤◌, length, take}
+use Rattle.std.specs.Prelude.{◌≡◌, Bool, true, false, List, ℕ, ◌*◌, ◌^◌, ◌≤◌, length, take, Ok}
 use Rattle.field.specs.Ext as E
 use Rattle.field.specs.ExtRing.{ExtRing}
 use Rattle.field.specs.Element.{enc, words_of_point}
@@ -16,10 +16,8 @@ use Rattle.prover_tree.specs.Nodes.{node}
 use Rattle.prover_gate.specs.Refusals.{Call, short_room}
 use Rattle.prover.specs.Proved as Prover
 use Rattle.prover.specs.Companions.{Sound}
-use Rattle.prover.specs.declared.Answer.TheVariants.{Done}
 use Rattle.verifier.specs.Verified as Verifier
 use Rattle.verifier.specs.Verified.{Lent}
-use Rattle.verifier_round.specs.declared.Verdict.TheVariants.{Accepted}
 
 -- a sheet that both take: 2 ^ n rows and, where they are not drawn, enough challenges, all valid words, n from 1 to the limit, and in live mode the row check passed
 pub record Taken (c : Call) (n : ℕ) : Type 0 where
@@ -50,9 +48,9 @@ pub record Agreed (c : Call) (n : ℕ) (b : Prover.Buffers) (v : Lent) (P : Prov
   pub point : List E.Ext
   pub logged : List ℕ
   -- the prover is done, with n and the sum of all rows
-  pub done : P.answer ≡ Done n (Prover.enc_frac (root c n))
+  pub done : P.answer ≡ Prover.summed n (Prover.enc_frac (root c n))
   -- the verifier accepts; its claims are the values of both columns at the point, the plain sums over all rows
-  pub accepted : Q.answer ≡ (let claims = Tree.value ExtRing (node c.rows) point in Accepted (enc claims.p) (enc claims.q))
+  pub accepted : Q.answer ≡ (let claims = Tree.value ExtRing (node c.rows) point in Ok (record { numer = enc claims.p; denom = enc claims.q }))
   -- the point is one, and so is the log
   pub coordinates : length point ≡ n
   pub proved_point : P.buffers.point ≡ over (words_of_point point) b.point

@@ -1,6 +1,6 @@
 -- Document 01's worked examples K1 to K10 as one table: what is asked of the definitions that the contracts cite, and what is to come out.
 -- Assumes nothing.
-use Rattle.std.specs.Prelude.{◌≡◌, Bool, true, false, List, [], ◌∷◌, ◌++◌, ℕ, take, drop, replicate}
+use Rattle.std.specs.Prelude.{◌≡◌, Bool, true, false, List, [], ◌∷◌, ◌++◌, ℕ, take, drop, replicate, Result, Ok, Err}
 use Rattle.field.specs.Ext as E
 use Rattle.field.specs.Ext.{ext}
 use Rattle.field.specs.Extension.{Extension}
@@ -10,6 +10,7 @@ use Rattle.gkr.specs.Run.{Frac, Proof}
 use Rattle.gkr.specs.Compute.{el, minus, frac, claims, cubic}
 use Rattle.gkr.specs.Sizes.{proof_bytes, point_words, log_words, workspace_words}
 use Rattle.refusal.specs.declared.Verifying.{Verifying}
+use Rattle.refusal.specs.declared.Refusal.{Refusal}
 use Rattle.refusal.specs.declared.Refusal.TheVariants.{ZeroDenominator, NonZeroRootSum, SingleRow, ZeroCheckFailed, RootConsistencyCheckFailed, ZeroRoot}
 use Rattle.transcript.specs.Used.{unused}
 use Rattle.wire.specs.Bytes.{bytes_of}
@@ -17,13 +18,10 @@ use Rattle.stored.specs.Layout.{layout}
 use Rattle.stored.specs.Elements.{encoded}
 use Rattle.prover_gate.specs.Refusals.{Call}
 use Rattle.prover.specs.Proved as Prover
-use Rattle.prover.specs.declared.Answer.{Answer}
-use Rattle.prover.specs.declared.Answer.TheVariants.{Done, Refused}
+use Rattle.prover.specs.declared.Done.{Done}
 use Rattle.verifier.specs.Verified as Verifier
 use Rattle.verifier.specs.Verified.{Lent}
-use Rattle.verifier_round.specs.declared.Verdict.{Verdict}
-use Rattle.verifier_round.specs.declared.Verdict.TheVariants.{Accepted}
-use Rattle.verifier_round.specs.declared.Verdict.TheVariants.{Refused as TurnedAway}
+use Rattle.verifier_round.specs.declared.Claims.{Claims}
 use Rattle.agreement.specs.Demand3.{verdict}
 
 -- what is asked, and what is to come out
@@ -53,7 +51,7 @@ abbrev pub room_again : ℕ → Lent
 room_again n = record { point = replicate (point_words n) 0; log = replicate (log_words true n) 0 }
 
 -- the prover's answer; its proof's bytes and its point; the verifier's answer to these bytes
-abbrev pub answer : Call → ℕ → Answer
+abbrev pub answer : Call → ℕ → Result Done Refusal
 answer c n = (Prover.proved c (room n)).answer
 
 abbrev pub bytes : Call → ℕ → List ℕ
@@ -65,23 +63,23 @@ point c n = (Prover.proved c (room n)).buffers.point
 abbrev pub in_sandbox : Verifying
 in_sandbox = record { live = false; drawn = false; empty = false }
 
-abbrev pub verdict_of : Verifying → Call → ℕ → Verdict
+abbrev pub verdict_of : Verifying → Call → ℕ → Result Claims Refusal
 verdict_of how c n = (verdict c how n (Prover.proved c (room n)) (room_again n)).answer
 
-abbrev pub summed : ℕ → (p q : E.Ext) → Answer
-summed n p q = Done n (Prover.enc_frac (frac p q))
+abbrev pub summed : ℕ → (p q : E.Ext) → Result Done Refusal
+summed n p q = Prover.summed n (Prover.enc_frac (frac p q))
 
-abbrev pub accepts : (p q : E.Ext) → Verdict
-accepts p q = Accepted (enc p) (enc q)
+abbrev pub accepts : (p q : E.Ext) → Result Claims Refusal
+accepts p q = Ok (record { numer = enc p; denom = enc q })
 
-abbrev pub proves : Call → ℕ → Answer → Case
-proves c n a = record { Answers = Answer; asked = answer c n; expected = a }
+abbrev pub proves : Call → ℕ → Result Done Refusal → Case
+proves c n a = record { Answers = Result Done Refusal; asked = answer c n; expected = a }
 
-abbrev pub verifies : Call → ℕ → Verdict → Case
-verifies c n a = record { Answers = Verdict; asked = verdict_of in_sandbox c n; expected = a }
+abbrev pub verifies : Call → ℕ → Result Claims Refusal → Case
+verifies c n a = record { Answers = Result Claims Refusal; asked = verdict_of in_sandbox c n; expected = a }
 
-abbrev pub verifies_live : Call → ℕ → Verdict → Case
-verifies_live c n a = record { Answers = Verdict; asked = verdict_of (record { live = true; drawn = false; empty = false }) c n; expected = a }
+abbrev pub verifies_live : Call → ℕ → Result Claims Refusal → Case
+verifies_live c n a = record { Answers = Result Claims Refusal; asked = verdict_of (record { live = true; drawn = false; empty = false }) c n; expected = a }
 
 abbrev pub ends_at : Call → ℕ → List E.Ext → Case
 ends_at c n z = record { Answers = List ℕ; asked = point c n; expected = words_of_point z }
@@ -155,17 +153,17 @@ k1_to_k10 =
     ∷ proves K4 1 (summed 1 (el 0) (el 0))
     ∷ verifies K4 1 (accepts (el 0) (el 0))
     ∷ verifies_live K2 1 (accepts (minus 9) (el 2))
-    ∷ verifies_live K4 1 (TurnedAway ZeroRoot)
-    ∷ proves (one_row true (el 1)) 0 (Refused NonZeroRootSum)
-    ∷ proves (one_row false (el 1)) 0 (Refused SingleRow)
-    ∷ proves (one_row true (el 0)) 0 (Refused SingleRow)
-    ∷ proves (K6 true) 1 (Refused NonZeroRootSum)
+    ∷ verifies_live K4 1 (Err ZeroRoot)
+    ∷ proves (one_row true (el 1)) 0 (Err NonZeroRootSum)
+    ∷ proves (one_row false (el 1)) 0 (Err SingleRow)
+    ∷ proves (one_row true (el 0)) 0 (Err SingleRow)
+    ∷ proves (K6 true) 1 (Err NonZeroRootSum)
     ∷ proves (K6 false) 1 (summed 1 (el 2) (el 1))
-    ∷ verifies (K6 false) 1 (TurnedAway (ZeroCheckFailed (enc (el 2))))
-    ∷ proves (live (el 1)) 1 (Refused (ZeroDenominator 0))
-    ∷ proves (live (el 0)) 1 (Refused (ZeroDenominator 0))
+    ∷ verifies (K6 false) 1 (Err (ZeroCheckFailed (enc (el 2))))
+    ∷ proves (live (el 1)) 1 (Err (ZeroDenominator 0))
+    ∷ proves (live (el 0)) 1 (Err (ZeroDenominator 0))
     ∷ equals (E.mul x² x²) (el 11)
     ∷ equals (E.mul x³ x³) (ext 0 0 11 0)
     ∷ equals (Interpolate.cubic Extension (el 0) (el 1) (el 8) (el 27) (el 4)) (el 64)
-    ∷ record { Answers = Verdict; asked = (Verifier.verified (Verifier.asked K10 1 in_sandbox (words_of_point (el 5 ∷ []))) (room_again 1)).answer; expected = TurnedAway (RootConsistencyCheckFailed (enc (el 5)) (enc (el 4))) }
+    ∷ record { Answers = Result Claims Refusal; asked = (Verifier.verified (Verifier.asked K10 1 in_sandbox (words_of_point (el 5 ∷ []))) (room_again 1)).answer; expected = Err (RootConsistencyCheckFailed (enc (el 5)) (enc (el 4))) }
     ∷ []

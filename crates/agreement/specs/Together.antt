@@ -1,17 +1,15 @@
 -- Prover and verifier one after the other: what both leave, and when they agree.
 -- Assumes nothing.
-use Rattle.std.specs.Prelude.{ℕ}
+use Rattle.std.specs.Prelude.{ℕ, Result, Ok, Err}
+use Rattle.refusal.specs.declared.Refusal.{Refusal}
 use Rattle.refusal.specs.declared.Verifying.{Verifying}
 use Rattle.transcript.specs.Used.{unused}
 use Rattle.prover_gate.specs.Refusals.{Call}
 use Rattle.prover.specs.Proved as Prover
-use Rattle.prover.specs.declared.Answer.{Answer}
-use Rattle.prover.specs.declared.Answer.TheVariants.{Done}
-use Rattle.prover.specs.declared.Answer.TheVariants.{Refused as Denied}
+use Rattle.prover.specs.declared.Done.{Done}
 use Rattle.verifier.specs.Verified as Verifier
 use Rattle.verifier.specs.Verified.{Lent}
 use Rattle.agreement.specs.declared.Joint.{Joint}
-use Rattle.agreement.specs.declared.Joint.TheVariants.{Proved, Refused}
 use Rattle.agreement.specs.Demand3.{verdict, Agreed}
 
 -- a prover that refuses leaves the verifier's buffers as they were
@@ -20,17 +18,17 @@ pub data Joined : Type 0 where
   through : Prover.Outcome → Verifier.Outcome → Joined
 
 -- where the prover is done, the verifier gets the proof's bytes, n and the same challenges
-abbrev pub follow : (c : Call) (how : Verifying) (v : Lent) (P : Prover.Outcome) → Answer → Joined
-follow c how v P (Done n s) = through P (verdict c how n P v)
-follow c how v P (Denied e) = stopped P v
+abbrev pub follow : (c : Call) (how : Verifying) (v : Lent) (P : Prover.Outcome) → Result Done Refusal → Joined
+follow c how v P (Ok d) = through P (verdict c how d.rounds P v)
+follow c how v P (Err e) = stopped P v
 
 unfoldable pub together : (c : Call) (how : Verifying) (b : Prover.Buffers) (v : Lent) → Joined
 together c how b v = follow c how v (Prover.proved c b) (Prover.proved c b).answer
 
 -- an answer and the buffers after it; a prover that refuses has used up nothing
-abbrev pub joined : Joint → Prover.Buffers → Lent → Joined
-joined (Proved n s u w) b v = through (record { answer = Done n s; used = u; buffers = b }) (record { answer = w.verdict; used = w.used; buffers = v })
-joined (Refused e) b v = stopped (record { answer = Denied e; used = unused; buffers = b }) v
+abbrev pub joined : Result Joint Refusal → Prover.Buffers → Lent → Joined
+joined (Ok j) b v = through (record { answer = Ok j.done; used = j.used; buffers = b }) (record { answer = j.verified.verdict; used = j.verified.used; buffers = v })
+joined (Err e) b v = stopped (record { answer = Err e; used = unused; buffers = b }) v
 
 abbrev pub Agrees : (c : Call) (n : ℕ) (b : Prover.Buffers) (v : Lent) → Joined → Type 0
 Agrees c n b v (through P Q) = Agreed c n b v P Q

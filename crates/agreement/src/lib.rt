@@ -11,23 +11,18 @@ ghost use Rattle.agreement.specs.Demand3.{Taken, root, Room};
 ghost use Rattle.agreement.specs.Report.{joint_report};
 ghost use Rattle.agreement.specs.Together.{joined, together, Agrees};
 
-use field::Ext;
-use prover::Answer;
+use field::{Ext, Field};
+use prover::Done;
 use refusal::{Proving, Refusal, Report, Verifying};
-use step::Frac;
 use transcript::Used;
 use verifier::Ending;
 
-// What the prover is done with and has used up, and how the verifier ends with its proof; or the prover's refusal.
+// What the prover is done with and has used up, and how the verifier ends with its proof.
 #[derive(Clone, Copy)]
-pub enum Joint {
-    Proved {
-        rounds: usize,
-        sum: Frac,
-        used: Used,
-        verified: Ending,
-    },
-    Refused(Refusal),
+pub struct Joint {
+    pub done: Done,
+    pub used: Used,
+    pub verified: Ending,
 }
 
 // The prover's number and values, and the verifier's, all zero where the prover refuses.
@@ -38,30 +33,22 @@ pub struct JointReport {
 }
 
 // Both answers as document 01 has them.
-pub fn number_and_values(joint: Joint) -> JointReport
+pub fn number_and_values(joint: Result<Joint, Refusal>) -> JointReport
     ensures { result ≡ joint_report joint }
 {
     match joint {
-        Joint::Proved {
-            rounds,
-            sum,
-            used,
-            verified,
-        } => {
-            let verdict = verified.verdict;
-            JointReport {
-                proving: prover::number_and_values(Answer::Done { rounds, sum }),
-                verifying: verifier_round::number_and_values(verdict),
-            }
-        }
-        Joint::Refused(refusal) => JointReport {
-            proving: prover::number_and_values(Answer::Refused(refusal)),
+        Ok(Joint { done, verified, .. }) => JointReport {
+            proving: prover::number_and_values(Ok(done)),
+            verifying: verifier_round::number_and_values(verified.verdict),
+        },
+        Err(refusal) => JointReport {
+            proving: Report::from(refusal),
             verifying: refusal::done(0, Ext::ZERO, Ext::ZERO),
         },
     }
 }
 
-// Proves a sheet, and hands the proof's bytes, n and the same challenges to the verifier, which has its own modes, point and log.
+// Proves a sheet, and hands the proof's bytes, n and the same challenges to the verifier, which has its own modes, point and log; or the prover's refusal.
 pub fn prove_and_verify(
     rows: &[u32],
     modes: Proving,
@@ -73,7 +60,7 @@ pub fn prove_and_verify(
     work: &mut [u32],
     point_again: &mut [u32],
     log_again: &mut [u32],
-) -> Joint
+) -> Result<Joint, Refusal>
     ensures both { joined result (lent proof.new point.new log.new work.new) (again point_again.new log_again.new)
         ≡ together (call rows.now modes challenges.now) how
         (lent proof.old point.old log.old work.old) (again point_again.old log_again.old) }
@@ -86,26 +73,19 @@ pub fn prove_and_verify(
         (joined result (lent proof.new point.new log.new work.new) (again point_again.new log_again.new)) }
 {
     let proved = prover::fractional_sumcheck(rows, modes, challenges, proof, point, log, work);
-    let used = proved.used;
-    let answer = proved.answer;
-    match answer {
-        Answer::Done { rounds, sum } => {
-            let size = sizes::proof_bytes(rounds);
-            let verified = verifier::verify_gkr(
-                &proof[..size],
-                rounds,
-                how,
-                challenges,
-                point_again,
-                log_again,
-            );
-            Joint::Proved {
-                rounds,
-                sum,
-                used,
-                verified,
-            }
-        }
-        Answer::Refused(refusal) => Joint::Refused(refusal),
-    }
+    let done = proved.answer?;
+    let size = sizes::proof_bytes(done.rounds);
+    let verified = verifier::verify_gkr(
+        &proof[..size],
+        done.rounds,
+        how,
+        challenges,
+        point_again,
+        log_again,
+    );
+    Ok(Joint {
+        done,
+        used: proved.used,
+        verified,
+    })
 }

@@ -2,67 +2,62 @@
 #![tactic(auto)]
 
 use field::Ext;
+use std::fmt;
+use std::fmt::Display;
 use step::Frac;
 
 pub mod counting; // the challenges of a run to which none are given
 
-// A name and a number, on a line.
-pub fn print_number(name: &[u8], n: u64) {
-    io::write_all(1, name);
-    io::print_decimal(1, n);
-    io::write_all(1, b"\n");
-}
+// An element, by its four words.
+#[derive(Clone, Copy)]
+struct Whole(Ext);
 
-fn print_ext(e: Ext) {
-    io::write_all(1, b" ");
-    io::print_decimal(1, e.c0 as u64);
-    io::write_all(1, b",");
-    io::print_decimal(1, e.c1 as u64);
-    io::write_all(1, b",");
-    io::print_decimal(1, e.c2 as u64);
-    io::write_all(1, b",");
-    io::print_decimal(1, e.c3 as u64);
-}
-
-fn print_named(name: &[u8], e: Ext) {
-    io::write_all(1, name);
-    print_ext(e);
-    io::write_all(1, b"\n");
-}
-
-// The numerator and the denominator of the sum, on a line.
-pub fn print_sum(sum: Frac) {
-    io::write_all(1, b"sum");
-    print_ext(sum.p);
-    print_ext(sum.q);
-    io::write_all(1, b"\n");
-}
-
-// Coordinate i of the point, as far as it goes.
-fn print_coordinate(point: &[u32], i: usize) {
-    if i < point.len() / 4 {
-        let k = 4 * i;
-        print_ext(Ext {
-            c0: point[k],
-            c1: point[k + 1],
-            c2: point[k + 2],
-            c3: point[k + 3],
-        });
+impl Display for Whole {
+    fn fmt<W: fmt::Write>(&self, f: &mut fmt::Formatter<W>) -> fmt::Result {
+        let Ext { c0, c1, c2, c3 } = self.0;
+        write!(f, "{c0},{c1},{c2},{c3}")
     }
 }
 
-fn print_point(point: &[u32], n: usize) {
-    io::write_all(1, b"point");
-    for i in 0..n {
-        print_coordinate(point, i);
-    }
-    io::write_all(1, b"\n");
+// What was proved: the rows, the rounds, and the numerator and the denominator of the sum, on a line each.
+#[derive(Clone, Copy)]
+pub struct Proved {
+    pub rows: usize,
+    pub rounds: usize,
+    pub sum: Frac,
 }
 
-// Verdict 0, the two claims, and the first n coordinates of the point.
-pub fn print_accepted(numer: Ext, denom: Ext, point: &[u32], n: usize) {
-    print_number(b"verdict ", 0);
-    print_named(b"numer", numer);
-    print_named(b"denom", denom);
-    print_point(point, n);
+impl Display for Proved {
+    fn fmt<W: fmt::Write>(&self, f: &mut fmt::Formatter<W>) -> fmt::Result {
+        writeln!(f, "rows {}", self.rows)?;
+        writeln!(f, "rounds {}", self.rounds)?;
+        write!(f, "sum {} {}", Whole(self.sum.p), Whole(self.sum.q))
+    }
+}
+
+// What was verified: verdict 0, the two claims, and the first coordinates of the point, one for each round.
+#[derive(Clone, Copy)]
+pub struct Accepted<'a> {
+    pub stated: Frac,
+    pub point: &'a [u32],
+    pub rounds: usize,
+}
+
+impl Display for Accepted<'_> {
+    fn fmt<W: fmt::Write>(&self, f: &mut fmt::Formatter<W>) -> fmt::Result {
+        writeln!(f, "verdict 0")?;
+        writeln!(f, "numer {}", Whole(self.stated.p))?;
+        writeln!(f, "denom {}", Whole(self.stated.q))?;
+        write!(f, "point")?;
+        let (coordinates, _) = self.point.as_chunks::<4>();
+        for &[c0, c1, c2, c3] in coordinates.iter().take(self.rounds) {
+            write!(f, " {}", Whole(Ext { c0, c1, c2, c3 }))?;
+        }
+        Ok(())
+    }
+}
+
+// A line, to standard output. Where that fails nothing is told, and the work goes on.
+pub fn say(rt: &impl Print, line: impl Display + Drop) {
+    let _ = rt.println(line);
 }

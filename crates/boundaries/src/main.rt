@@ -1,7 +1,6 @@
 // Calls at the limits of document 01, and the number that each answers: rows, rounds, words.
 #![tactic(auto)]
 
-use prover::Answer;
 use refusal::{Proving, Verifying};
 
 fn print_answer(name: &[u8], number: u32) {
@@ -29,8 +28,7 @@ fn prove(name: &[u8], rows: &[u32], challenges: &[u32], proof: &mut [u8]) {
         &mut log,
         &mut work,
     );
-    let answer = proved.answer;
-    print_answer(name, prover::number_and_values(answer).number);
+    print_answer(name, prover::number_and_values(proved.answer).number);
 }
 
 fn verify(name: &[u8], proof: &[u8], rounds: usize, challenges: &[u32]) {
@@ -48,8 +46,10 @@ fn verify(name: &[u8], proof: &[u8], rounds: usize, challenges: &[u32]) {
         &mut point,
         &mut log,
     );
-    let verdict = verified.verdict;
-    print_answer(name, verifier_round::number_and_values(verdict).number);
+    print_answer(
+        name,
+        verifier_round::number_and_values(verified.verdict).number,
+    );
 }
 
 fn main() {

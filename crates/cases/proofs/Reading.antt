@@ -1,11 +1,8 @@
 -- The turns of the loops that read a number and a list.
 -- Assumes nothing.
-use Rattle.std.proofs.Common.{◌≡◌, ℕ, suc, ◌+◌, ◌-◌, ◌<◌, ◌≤◌, min, List, ◌∷◌, ◌++◌, length, get_or, drop, set, replicate, sym, add-one, arith, drop_of_length-le, length-take-le, drop-cons, le-ltb, lt-ltb}
-use borrow.Author.Fill.{fill_more}
-use Rattle.io.specs.Counts.{IsPrefixLen}
-use Rattle.cases.specs.declared.Number.{Number}
-use Rattle.cases.specs.declared.Word.{Word}
-use Rattle.cases.specs.Text.{digit_of, grown, number_from, number_at, word_at, element_of, element_at, listed, ListAt, Filled}
+use Rattle.std.proofs.Common.{◌≡◌, ℕ, zero, suc, ◌+◌, ◌-◌, ◌<◌, ◌≤◌, min, List, [], ◌∷◌, ◌++◌, length, get_or, drop, set, replicate, refl, ap, sym, add-one, arith, drop_of_length-le, length-take-le, drop-cons, le-ltb, lt-ltb}
+use Rattle.std.proofs.Math.Nat.{not-suc-le-zero, le_of_suc-le-suc}
+use Rattle.cases.specs.Text.{Read, digit_of, grown, number_from, number_at, word_at, element_of, element_at, IsFront, listed, ListAt}
 
 module _ (text : List ℕ) (v i : ℕ) where
   next : i < length text → drop i text ≡ get_or text i 0 ∷ drop (i + 1) text
@@ -24,45 +21,46 @@ module _ (text : List ℕ) (v i : ℕ) where
   text_ends h = rw (drop_of_length-le text h)
 
 -- Four words are an element.
-pub element_of_is : (text : List ℕ) (at : ℕ) (a b c d : Word) → a ≡ word_at text at → b ≡ word_at text a.at → c ≡ word_at text b.at → d ≡ word_at text c.at → element_of a b c d ≡ element_at text at
+pub element_of_is : (text t u w : List ℕ) (at : ℕ) (a b c d : Read ℕ) → t ≡ text → u ≡ t → w ≡ u
+    → a ≡ word_at text at → b ≡ word_at t a.at → c ≡ word_at u b.at → d ≡ word_at w c.at → element_of a b c d ≡ element_at text at
 unfolding element_at
-element_of_is text at a b c d ea eb ec ed = rw (ed, ec, eb, ea)
+element_of_is text t u w at a b c d ht hu hw ea eb ec ed = rw (ed, ec, eb, ea, hw, hu, ht)
 
 -- What is at most the length of words counts some of them, after a change that keeps the length.
-pub counts_least : (v r : ℕ) (ws ws' : List ℕ) → length ws' ≡ length ws → r ≡ min v (length ws) → IsPrefixLen r ws'
+pub counts_least : {A : Type 0} (v r : ℕ) (ws ws' : List A) → length ws' ≡ length ws → r ≡ min v (length ws) → IsFront r ws'
 counts_least v r ws ws' same e =
     let l : r ≤ length ws' = omega arith in
     (l, sym (length-take-le r ws' l))
 
-module _ (f : ℕ → ℕ) (text : List ℕ) (count i at : ℕ) where
-  pub list_starts : (ws : List ℕ) → listed f text at ws i (count - 0) ≡ listed f text at ws i count
+module _ {A : Type 0} (f : ℕ → A) (text : List ℕ) (count i at : ℕ) where
+  pub list_starts : (ws : List A) → listed f text at ws i (count - 0) ≡ listed f text at ws i count
   list_starts ws =
       let q : count - 0 ≡ count = omega arith in
       rw q
 
-  pub list_more : (ws : List ℕ) → i < count → (w : Number) (x : ℕ) → w ≡ number_at text at → x ≡ f w.value → listed f text w.at (set ws i x) (i + 1) (count - (i + 1)) ≡ listed f text at ws i (count - i)
+  pub list_more : (ws : List A) → i < count → (t : List ℕ) (w : Read ℕ) (x : A) → t ≡ text → w ≡ number_at t at → x ≡ f w.value → listed f text w.at (set ws i x) (i + 1) (count - (i + 1)) ≡ listed f text at ws i (count - i)
   unfolding listed
-  list_more ws h w x e g =
+  list_more ws h t w x s e g =
       let q : count - i ≡ suc (count - (i + 1)) = omega arith in
-      rw (q, g, e)
+      rw (q, g, e, s)
 
-  pub list_ends : (ws ws' : List ℕ) (at₀ : ℕ) (n : Number) → n ≡ number_at text at₀ → count ≡ min n.value (length ws) → count ≤ i
-      → (i ≤ count) × (length ws' ≡ length ws) × (listed f text at ws' i (count - i) ≡ listed f text n.at ws 0 count)
+  pub list_ends : (ws ws' : List A) (at₀ : ℕ) (n : Read ℕ) → n ≡ number_at text at₀ → count ≡ min n.value (length ws) → count ≤ i
+      → (length ws' ≡ length ws) × (listed f text at ws' i (count - i) ≡ listed f text n.at ws 0 count)
       → ListAt f text at₀ ws ws' (record { count = count; at = at })
   unfolding listed
-  list_ends ws ws' at₀ n e m h inv =
-      let q : count - i ≡ 0 = omega arith in
+  list_ends ws ws' at₀ n e m l inv =
+      let q : count - i ≡ 0 = omega (arith, l) in
       record {
-        fits = counts_least _ _ ws ws' inv.1 m;
+        fits = counts_least _ _ ws ws' inv.0 m;
         count = rw (← e) m;
-        placed = rw (← e) (rw q at inv.2);
+        placed = rw (← e) (rw q at inv.1);
       }
 
--- One word more is filled, and the end.
-pub fill_turn : (i v : ℕ) (ws ws' : List ℕ) → i < length ws → ws' ≡ replicate i v ++ drop i ws → set ws' i v ≡ replicate (i + 1) v ++ drop (i + 1) ws
-fill_turn i v ws ws' h e = rw e (fill_more i v ws h)
+-- One place more is filled.
+fill_more : {A : Type 0} (i : ℕ) (v : A) (ws : List A) → i < length ws → set (replicate i v ++ drop i ws) i v ≡ replicate (suc i) v ++ drop (suc i) ws
+fill_more i v [] h = absurd (not-suc-le-zero h)
+fill_more zero v (x ∷ ws) h = refl
+fill_more (suc i) v (x ∷ ws) h = ap (λ (t : List _). v ∷ t) (fill_more i v ws (le_of_suc-le-suc h))
 
-pub fill_ends : (i v n r : ℕ) (ws ws' : List ℕ) → r ≡ min n (length ws) → r ≤ i → (i ≤ r) × (length ws' ≡ length ws) × (ws' ≡ replicate i v ++ drop i ws) → Filled v n ws ws' r
-fill_ends i v n r ws ws' e h inv =
-    let q : i ≡ r = omega arith in
-    record { fits = counts_least _ _ ws ws' inv.1 e; count = e; filled = rw q at inv.2 }
+pub fill_turn : {A : Type 0} (i : ℕ) (v : A) (ws ws' : List A) → i < length ws → ws' ≡ replicate i v ++ drop i ws → set ws' i v ≡ replicate (i + 1) v ++ drop (i + 1) ws
+fill_turn i v ws ws' h e = rw (e, fill_more i v ws h, add-one)

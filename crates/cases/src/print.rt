@@ -20,15 +20,15 @@ pub fn end() {
 
 // The four words of an element.
 pub fn ext(e: Ext) {
-    next(e.c0 as u64);
-    next(e.c1 as u64);
-    next(e.c2 as u64);
-    next(e.c3 as u64);
+    next(u64::from(e.c0));
+    next(u64::from(e.c1));
+    next(u64::from(e.c2));
+    next(u64::from(e.c3));
 }
 
 // The number of an answer and its eleven fields.
 pub fn report(r: Report) {
-    first(r.number as u64);
+    first(u64::from(r.number));
     next(r.first as u64);
     next(r.second as u64);
     next(r.third as u64);
@@ -36,18 +36,10 @@ pub fn report(r: Report) {
     ext(r.right);
 }
 
-// A list: its length, then its numbers.
-pub fn words(s: &[u32]) {
+// A list of words or bytes: its length, then its numbers.
+pub fn list<T: Copy + Into<u64>>(s: &[T]) {
     next(s.len() as u64);
-    for i in 0..s.len() {
-        next(s[i] as u64);
-    }
-}
-
-// The same of bytes.
-pub fn bytes(s: &[u8]) {
-    next(s.len() as u64);
-    for i in 0..s.len() {
-        next(s[i] as u64);
+    for &n in s {
+        next(n.into());
     }
 }

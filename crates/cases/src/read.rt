@@ -1,147 +1,111 @@
 // Numbers, elements and lists out of a text, by a place in it that goes on; and buffers filled before a call.
-ghost use Rattle.std.specs.Prelude.{◌≡◌, min};
+ghost use Rattle.std.specs.Prelude.{◌≡◌, ℕ, min};
 ghost use Rattle.cases.specs.Text.{digit_of, grown, number_at, word_of, byte_of, word_at, element_at, ListAt, Filled};
 
-use crate::{Element, Listed, Number, Word};
+use crate::Cases;
 use field::Ext;
+
+// What a number of a text becomes in a list: its remainder, as far as the type goes.
+pub trait Cut: Copy {
+    ghost cut: { ℕ → Self };
+
+    // The number's remainder.
+    fn cut(v: u64) -> Self
+        ensures { result ≡ cut v };
+}
+
+impl Cut for u32 {
+    ghost cut = { word_of };
+
+    fn cut(v: u64) -> u32 {
+        (v % 4294967296) as u32
+    }
+}
+
+impl Cut for u8 {
+    ghost cut = { byte_of };
+
+    fn cut(v: u64) -> u8 {
+        (v % 256) as u8
+    }
+}
 
 fn digit(b: u8) -> u64
     ensures { result ≡ digit_of b }
 {
-    std::num::wrapping_sub_u8(b, 48) as u64
+    u64::from(b.wrapping_sub(48))
 }
 
 fn grow(v: u64, d: u64) -> u64
     ensures { result ≡ grown v d }
 {
-    let most = 18446744073709551615;
-    if v <= (most - d) / 10 {
-        10 * v + d
-    } else {
-        most
-    }
-}
-
-// The number whose digits stand from a place on, at most 2^64 - 1, and the place after the byte that ends it.
-pub fn next_number(text: &[u8], at: usize) -> Number
-    ensures { result ≡ number_at text.now at }
-{
-    let mut value: u64 = 0;
-    let mut i = at;
-    while i < text.len() {
-        let d = digit(text[i]);
-        i += 1;
-        if 9 < d {
-            return Number { value, at: i };
-        }
-        value = grow(value, d);
-    }
-    Number { value, at: i }
+    v.saturating_mul(10).saturating_add(d)
 }
 
 fn least(v: u64, most: usize) -> usize
     ensures { result ≡ min v most }
 {
-    let n = v as usize;
-    if n < most { n } else { most }
+    most.min(v as usize)
 }
 
-fn word(v: u64) -> u32
-    ensures { result ≡ word_of v }
-{
-    (v % 4294967296) as u32
-}
+impl Cases<'_> {
+    // The number whose digits stand at the place, at most 2^64 - 1; the text goes on after the byte that ends it.
+    pub fn number(&mut self) -> u64
+        ensures same { self.new.text.now ≡ self.old.text.now }
+        ensures value { record { value = result; at = self.new.at } ≡ number_at self.old.text.now self.old.at }
+    {
+        let mut value = 0;
+        while self.at < self.text.len() {
+            let d = digit(self.text[self.at]);
+            self.at += 1;
+            if 9 < d {
+                return value;
+            }
+            value = grow(value, d);
+        }
+        value
+    }
 
-fn byte(v: u64) -> u8
-    ensures { result ≡ byte_of v }
-{
-    (v % 256) as u8
-}
+    // The same, its remainder modulo 2^32.
+    pub fn word(&mut self) -> u32
+        ensures same { self.new.text.now ≡ self.old.text.now }
+        ensures value { record { value = result; at = self.new.at } ≡ word_at self.old.text.now self.old.at }
+    {
+        u32::cut(self.number())
+    }
 
-// The same, its remainder modulo 2^32.
-pub fn next_word(text: &[u8], at: usize) -> Word
-    ensures { result ≡ word_at text.now at }
-{
-    let n = next_number(text, at);
-    Word {
-        value: word(n.value),
-        at: n.at,
+    // Four words one after the other: an element.
+    pub fn element(&mut self) -> Ext
+        ensures same { self.new.text.now ≡ self.old.text.now }
+        ensures value { record { value = result; at = self.new.at } ≡ element_at self.old.text.now self.old.at }
+    {
+        let c0 = self.word();
+        let c1 = self.word();
+        let c2 = self.word();
+        let c3 = self.word();
+        Ext { c0, c1, c2, c3 }
+    }
+
+    // A list of words or bytes into the front of the target, and how many: of a longer one what goes into it.
+    pub fn list<T: Cut>(&mut self, target: &mut [T]) -> usize
+        ensures same { self.new.text.now ≡ self.old.text.now }
+        ensures listed { ListAt T.cut self.old.text.now self.old.at target.old target.new (record { count = result; at = self.new.at }) }
+    {
+        let count = least(self.number(), target.len());
+        for i in 0..count {
+            target[i] = T::cut(self.number());
+        }
+        count
     }
 }
 
-// Four words one after the other: an element.
-pub fn next_ext(text: &[u8], at: usize) -> Element
-    ensures { result ≡ element_at text.now at }
-{
-    let a = next_word(text, at);
-    let b = next_word(text, a.at);
-    let c = next_word(text, b.at);
-    let d = next_word(text, c.at);
-    let value = Ext {
-        c0: a.value,
-        c1: b.value,
-        c2: c.value,
-        c3: d.value,
-    };
-    Element { value, at: d.at }
-}
-
-// A list of words into the front of the target: of a longer one what goes into it.
-pub fn next_words(text: &[u8], at: usize, target: &mut [u32]) -> Listed
-    ensures { ListAt word_of text.now at target.old target.new result }
-{
-    let n = next_number(text, at);
-    let count = least(n.value, target.len());
-    let mut at = n.at;
-    let mut i = 0;
-    while i < count {
-        let w = next_number(text, at);
-        target[i] = word(w.value);
-        at = w.at;
-        i += 1;
-    }
-    Listed { count, at }
-}
-
-// A list of bytes, likewise.
-pub fn next_bytes(text: &[u8], at: usize, target: &mut [u8]) -> Listed
-    ensures { ListAt byte_of text.now at target.old target.new result }
-{
-    let n = next_number(text, at);
-    let count = least(n.value, target.len());
-    let mut at = n.at;
-    let mut i = 0;
-    while i < count {
-        let w = next_number(text, at);
-        target[i] = byte(w.value);
-        at = w.at;
-        i += 1;
-    }
-    Listed { count, at }
-}
-
-// Fills the front of the target, as far as it goes, and answers how many words that is.
-pub fn fill_words(target: &mut [u32], count: u64, v: u32) -> usize
+// Fills the front of the target, as far as it goes, and answers how many that is.
+pub fn fill<T: Copy>(target: &mut [T], count: u64, v: T) -> usize
     ensures { Filled v count target.old target.new result }
 {
     let n = least(count, target.len());
-    let mut i = 0;
-    while i < n {
-        target[i] = v;
-        i += 1;
-    }
-    n
-}
-
-// The same of bytes.
-pub fn fill_bytes(target: &mut [u8], count: u64, v: u8) -> usize
-    ensures { Filled v count target.old target.new result }
-{
-    let n = least(count, target.len());
-    let mut i = 0;
-    while i < n {
-        target[i] = v;
-        i += 1;
+    for slot in &mut target[..n] {
+        *slot = v;
     }
     n
 }

@@ -1,55 +1,25 @@
 -- The table of weights, built by doubling.
 -- Assumes nothing.
-use mathlib.Core.Path.{◌≡◌, refl, sym, ◌∙◌, ap, subst}
+use mathlib.Core.Path.{◌≡◌, sym, ◌∙◌, ap, subst}
 use mathlib.Core.Bool.{Bool, true, false, not}
 use mathlib.Core.List.{List, [], ◌∷◌, ◌++◌}
 use Prim.Native.Nat.{ℕ, ◌+◌, ◌*◌, ◌-◌, ◌^◌, ◌<◌, ◌≤◌}
-use native.Mathlib.Nat.{not-suc-le-zero, pow-le-pow_right, pow-succ'}
+use native.Mathlib.Nat.{pow-le-pow_right, pow-succ'}
 use native.Mathlib.Bridge.{le_by_compare, IsLe}
 use native.Mathlib.Numerals.{add-one}
 use native.Mathlib.Omega.{arith}
-use borrow.Author.Count.{below_more}
 use lib.Dec.{T, ltb, ltb→lt, nltb→le}
 use lib.ListN.{length}
 use Rattle.field.specs.Ext as E
 use Rattle.field.specs.ExtRing.{ExtRing}
-use Rattle.field.specs.Cells.{cell, Clean, Stored, cells}
+use Rattle.field.specs.Cells.{cell, Clean, cells}
 use Rattle.field.specs.Column.{flat}
 use Rattle.field.proofs.ColumnLaws.{flat_cells, flat_cong}
 use Rattle.field.proofs.PointLaws.{cells_length, point_snoc}
 use Rattle.multilinear.specs.Table as Table
 use Rattle.multilinear.proofs.TableLaws as TableLaws
 use Rattle.step.specs.Values.{minus}
-use Rattle.columns.specs.Passes.{GrownEntry, Grown}
-
-pub grown_entry : (ws ws₁ ws₂ : List ℕ) (size i : ℕ) (x t h d : E.Ext) → i < size → t ≡ cell ws i → h ≡ E.mul t x → d ≡ E.mul t (minus E.one x)
-    → Stored ws ws₁ (size + i) h → Stored ws₁ ws₂ i d → GrownEntry ws ws₂ size i x
-grown_entry ws ws₁ ws₂ size i x t h d l et eh ed a b = record {
-  clean = b.clean;
-  low = b.here ∙ ed ∙ ap (λ y. E.mul y (minus E.one x)) et;
-  high = b.rest (size + i) (λ q. omega arith) ∙ a.here ∙ eh ∙ ap (λ y. E.mul y x) et;
-  rest = λ j p q. b.rest j p ∙ a.rest j q;
-}
-
-pub grow_none : (ws : List ℕ) (size : ℕ) (x : E.Ext) → Clean ws → Grown ws ws size 0 x
-grow_none ws size x h = record {
-  clean = h;
-  low = λ i l. absurd (not-suc-le-zero l);
-  high = λ i l. absurd (not-suc-le-zero l);
-  between = λ j l u. refl;
-}
-
-pub grow_next : (ws₀ ws ws' : List ℕ) (size n : ℕ) (x : E.Ext) → n < size → Grown ws₀ ws size n x → GrownEntry ws ws' size n x → Grown ws₀ ws' size (n + 1) x
-grow_next ws₀ ws ws' size n x u g s =
-    let e : cell ws n ≡ cell ws₀ n = g.between n (omega arith) u in
-    record {
-      clean = s.clean;
-      low = below_more (λ i. cell ws' i ≡ E.mul (cell ws₀ i) (minus E.one x)) n
-          (λ i l. s.rest i (λ q. omega arith) (λ q. omega arith) ∙ g.low i l) (s.low ∙ ap (λ t. E.mul t (minus E.one x)) e);
-      high = below_more (λ i. cell ws' (size + i) ≡ E.mul (cell ws₀ i) x) n
-          (λ i l. s.rest (size + i) (λ q. omega arith) (λ q. omega arith) ∙ g.high i l) (s.high ∙ ap (λ t. E.mul t x) e);
-      between = λ j l h. s.rest j (λ q. omega arith) (λ q. omega arith) ∙ g.between j (omega arith) h;
-    }
+use Rattle.columns.specs.Passes.{Grown}
 
 -- what the table holds
 abbrev pub Weighs : List ℕ → ℕ → List E.Ext → Type 0
@@ -61,7 +31,7 @@ weights_start ws e i l = let z : i ≡ 0 = omega arith in ap (cell ws) z ∙ e
 
 -- a whole table of weights, doubled
 weights_next : (ws ws' : List ℕ) (size : ℕ) (zs : List E.Ext) (x : E.Ext) → size ≡ 2 ^ length zs
-    → Weighs ws size zs → Grown ws ws' size size x → Weighs ws' (2 * size) (zs ++ (x ∷ []))
+    → Weighs ws size zs → Grown ws ws' size size x → Weighs ws' (size * 2) (zs ++ (x ∷ []))
 weights_next ws ws' size zs x e f g i l = go (ltb i size) (ltb→lt i size) (nltb→le i size)
   where
     all : ℕ → E.Ext
@@ -90,14 +60,14 @@ unfolding IsLe
 double_le j k h = omega (arith, pow-le-pow_right (le_by_compare 1 2 tt) h)
 
 pub weights_turn : (ws ws' z : List ℕ) (size j : ℕ) (x : E.Ext) → size ≡ 2 ^ j → x ≡ cell z j
-    → Weighs ws size (cells z 0 j) → Grown ws ws' size size x → Weighs ws' (2 * size) (cells z 0 (j + 1))
+    → Weighs ws size (cells z 0 j) → Grown ws ws' size size x → Weighs ws' (size * 2) (cells z 0 (j + 1))
 weights_turn ws ws' z size j x e d f g =
-    subst (Weighs ws' (2 * size))
+    subst (Weighs ws' (size * 2))
     (ap (λ x. cells z 0 j ++ (x ∷ [])) d ∙ sym (point_snoc z j) ∙ ap (cells z 0) (sym (add-one j)))
     (weights_next ws ws' size (cells z 0 j) x (e ∙ ap (λ k. 2 ^ k) (sym (cells_length z 0 j))) f g)
 
-pub power_turn : (n j : ℕ) → n ≡ 2 ^ j → 2 * n ≡ 2 ^ (j + 1)
-power_turn n j e = ap (λ m. 2 * m) e ∙ sym (pow-succ' 2 j) ∙ ap (λ k. 2 ^ k) (sym (add-one j))
+pub power_turn : (n j : ℕ) → n ≡ 2 ^ j → n * 2 ≡ 2 ^ (j + 1)
+power_turn n j e = let d : n * 2 ≡ 2 * 2 ^ j = omega arith in d ∙ sym (pow-succ' 2 j) ∙ ap (λ k. 2 ^ k) (sym (add-one j))
 
 -- the list is the column of the weights
 pub weights_all : (n : ℕ) {l : List ℕ} (zs : List E.Ext) → Clean l → length l ≡ 4 * 2 ^ n → Weighs l (2 ^ n) zs → l ≡ flat (Table.weight ExtRing zs) (2 ^ n)

@@ -5,8 +5,7 @@ use mathlib.Core.List.{List}
 use Prim.Native.Nat.{ℕ, zero, suc, ◌+◌, ◌-◌, ◌*◌, ◌^◌, ◌/◌, ◌<◌}
 use native.Mathlib.Nat.{two-pow-succ}
 use native.Mathlib.Omega.{arith}
-use lib.ListN.{length, take, drop, length-drop}
-use lib.Seq.{take_all}
+use lib.ListN.{length, take, drop}
 use Rattle.field.specs.Ext as E
 use Rattle.field.specs.ExtRing.{ExtRing}
 use Rattle.field.specs.Cells.{cell, cells}
@@ -44,15 +43,13 @@ module _ (k : ℕ) (t x : List ℕ) (len : length t ≡ 4 * 2 ^ suc k) where
   join = ap₂ (line (cell x k)) low high ∙ sym (TableLaws.value_halves ExtRing (cell t) (cells x 0 k) (cell x k)) ∙ ap (Table.value ExtRing (cell t)) (sym (point_snoc x k))
 
 -- both halves are known
-pub value_step : (n : ℕ) (t x : List ℕ) {a b r : E.Ext} → (n ≡ 0 → ⊥) → length t ≡ 4 * 2 ^ n
-    → a ≡ Table.value ExtRing (cell (take (length t / 2) t)) (cells x 0 (n - 1))
-    → b ≡ Table.value ExtRing (cell (take (length t - length t / 2) (drop (length t / 2) t))) (cells x 0 (n - 1))
+pub value_step : (n : ℕ) (t x l h : List ℕ) {a b r : E.Ext} → (n ≡ 0 → ⊥) → length t ≡ 4 * 2 ^ n → l ≡ take (length t / 2) t → h ≡ drop (length t / 2) t
+    → a ≡ Table.value ExtRing (cell l) (cells x 0 (n - 1)) → b ≡ Table.value ExtRing (cell h) (cells x 0 (n - 1))
     → r ≡ line (cell x (n - 1)) a b → r ≡ Table.value ExtRing (cell t) (cells x 0 n)
-value_step zero t x z len ha hb hr = absurd (z refl)
-value_step (suc k) t x {a} {b} z len ha hb hr =
+value_step zero t x l h z len el eh ha hb hr = absurd (z refl)
+value_step (suc k) t x l h {a} {b} z len el eh ha hb hr =
     let q : suc k - 1 ≡ k = omega arith in
-    let h : length t / 2 ≡ 4 * 2 ^ k = (half (suc k) (length t) z len).0 ∙ ap (λ j. 4 * 2 ^ j) q in
-    let d : take (length t - length t / 2) (drop (length t / 2) t) ≡ drop (length t / 2) t = take_all (length t - length t / 2) (drop (length t / 2) t) (omega (arith, length-drop (length t / 2) t)) in
-    let a' : a ≡ Table.value ExtRing (cell (take (4 * 2 ^ k) t)) (cells x 0 k) = rw (q, h) at ha in
-    let b' : b ≡ Table.value ExtRing (cell (drop (4 * 2 ^ k) t)) (cells x 0 k) = rw (d, q, h) at hb in
+    let m : length t / 2 ≡ 4 * 2 ^ k = (half (suc k) (length t) z len).0 ∙ ap (λ j. 4 * 2 ^ j) q in
+    let a' : a ≡ Table.value ExtRing (cell (take (4 * 2 ^ k) t)) (cells x 0 k) = rw (el, q, m) at ha in
+    let b' : b ≡ Table.value ExtRing (cell (drop (4 * 2 ^ k) t)) (cells x 0 k) = rw (eh, q, m) at hb in
     hr ∙ ap (λ j. line (cell x j) a b) q ∙ ap₂ (line (cell x k)) a' b' ∙ join k t x len

@@ -1,17 +1,16 @@
 -- A table evaluated in place: both halves brought together, entry by entry, until one entry is left.
 -- Assumes nothing.
-use mathlib.Core.Path.{◌≡◌, refl, ◌∙◌, ap, ap₂, fun_ext, subst}
+use mathlib.Core.Path.{◌≡◌, refl, ◌∙◌, ap, fun_ext}
 use mathlib.Core.Bool.{Bool, true, false, cond, not}
 use mathlib.Core.List.{List}
 use Prim.Native.Nat.{ℕ, zero, suc, ◌+◌, ◌-◌, ◌*◌, ◌/◌, ◌^◌, ◌<◌, ◌≤◌}
 use native.Mathlib.Nat.{not-suc-le-zero, two-pow-succ}
 use native.Mathlib.Omega.{arith}
-use borrow.Author.Count.{below_more}
 use lib.Dec.{T, ltb, ltb→lt, nltb→le}
 use lib.ListN.{length}
 use Rattle.field.specs.Ext as E
 use Rattle.field.specs.ExtRing.{ExtRing}
-use Rattle.field.specs.Cells.{cell, Clean, Stored, cells}
+use Rattle.field.specs.Cells.{cell, Clean, cells}
 use Rattle.field.specs.Column.{flat}
 use Rattle.field.proofs.ColumnLaws.{flat_cells}
 use Rattle.field.proofs.PointLaws.{cells_length, point_snoc}
@@ -20,22 +19,6 @@ use Rattle.multilinear.specs.Table as Table
 use Rattle.columns.specs.Tables as Tables
 use Rattle.columns.specs.TablesLaws as TablesLaws
 use Rattle.columns.specs.Passes.{Merged}
-
-pub stored_line : (ws ws' : List ℕ) (i : ℕ) (z : E.Ext) {a b a' b' v : E.Ext} → Stored ws ws' i v → v ≡ line z a b → a ≡ a' → b ≡ b' → Stored ws ws' i (line z a' b')
-stored_line ws ws' i z s e p q = subst (Stored ws ws' i) (e ∙ ap₂ (line z) p q) s
-
-pub merged_none : (ws : List ℕ) (half : ℕ) (z : E.Ext) → Clean ws → Merged ws ws half 0 z
-merged_none ws half z h = record { clean = h; low = λ i l. absurd (not-suc-le-zero l); rest = λ j l. refl }
-
-pub merged_next : (ws₀ ws ws' : List ℕ) (half n : ℕ) (z : E.Ext) → n < half → Merged ws₀ ws half n z → Stored ws ws' n (line z (cell ws n) (cell ws (half + n)))
-    → Merged ws₀ ws' half (n + 1) z
-merged_next ws₀ ws ws' half n z u g s = record {
-  clean = s.clean;
-  low = below_more (λ i. cell ws' i ≡ line z (cell ws₀ i) (cell ws₀ (half + i))) n
-      (λ i l. s.rest i (λ q. omega arith) ∙ g.low i l)
-      (s.here ∙ ap₂ (line z) (g.rest n (omega arith)) (g.rest (half + n) (omega arith)));
-  rest = λ j l. s.rest j (λ q. omega arith) ∙ g.rest j (omega arith);
-}
 
 -- the whole list, as a table
 pub merged_table : (ws ws' : List ℕ) (k : ℕ) (z : E.Ext) → Merged ws ws' (2 ^ k) (2 ^ k) z → cell ws' ≡ Tables.merge_in ExtRing k (cell ws) z

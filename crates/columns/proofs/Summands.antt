@@ -1,42 +1,21 @@
 -- The three sums of a sub-round, from entries read off five columns.
 -- Assumes nothing.
-use mathlib.Core.Path.{◌≡◌, ap₂}
+use mathlib.Core.Path.{◌≡◌}
 use mathlib.Core.List.{List}
 use Prim.Native.Nat.{ℕ, ◌+◌, ◌*◌, ◌≤◌}
 use native.Mathlib.Omega.{arith}
 use Rattle.field.specs.Ext as E
-use Rattle.field.specs.ExtRing.{ExtRing}
-use Rattle.field.specs.declared.Ext.{Ext}
-use Rattle.field.specs.Element.{dec, Is}
+use Rattle.field.specs.Element.{dec}
 use Rattle.field.specs.ElementLaws.{is_eq}
 use Rattle.field.specs.Cells.{cell}
 use Rattle.multilinear.specs.Table as Table
-use Rattle.multilinear.specs.RoundSum as RoundSum
 use Rattle.multilinear.specs.RoundSum.{Claims}
 use Rattle.step.specs.declared.Entry.{Entry}
 use Rattle.step.specs.declared.Three.{Three}
-use Rattle.step.specs.Values.{CanonThree, IsEntry, IsThree, dec_claims, summand_at, two, three}
+use Rattle.step.specs.Values.{IsEntry, IsThree, dec_claims, summand_at, two, three}
 use Rattle.step.proofs.Pairs.{entry_claims}
-use Rattle.columns.specs.Passes.{Room, summand_of, Summands, Sums, Constant}
+use Rattle.columns.specs.Passes.{summand_of, Room, Summands, Sums}
 use Rattle.columns.proofs.Turns.{sum_none, sum_turn}
-
-pub three_canon : (r : Three) (a b c : E.Ext) → IsThree r a b c → CanonThree r
-three_canon r a b c h = record { s1 = h.s1.canon; s2 = h.s2.canon; s3 = h.s3.canon }
-
--- fewer words
-pub room_less : (m n : ℕ) {e a b c d : List ℕ} → m ≤ n → Room n e a b c d → Room m e a b c d
-room_less m n l h = record {
-  eq = omega arith;
-  p0 = omega arith;
-  q0 = omega arith;
-  p1 = omega arith;
-  q1 = omega arith;
-  eq_clean = h.eq_clean;
-  p0_clean = h.p0_clean;
-  q0_clean = h.q0_clean;
-  p1_clean = h.p1_clean;
-  q1_clean = h.q1_clean;
-}
 
 module _ (eq : List ℕ) (pq : ℕ → Claims E.Ext) (l : E.Ext) where
   -- a pair's summand at x
@@ -73,11 +52,17 @@ module _ (eq : List ℕ) (pq : ℕ → Claims E.Ext) (l : E.Ext) where
     s3 = record { canon = hr.s3.canon; value = sum_turn (summand_of eq pq l three) y ha.s3.value hb.s3.value hr.s3.value };
   }
 
-  -- one entry
-  abbrev batched : E.Ext → Claims E.Ext → E.Ext
-  batched e c = E.mul e (RoundSum.cross ExtRing l c)
-
-  pub constant_is : (t : Entry) (s : Ext) → IsEntry t (cell eq 0) (pq 0) → Is s (batched (dec t.e) (dec_claims t)) → Constant (record { s1 = s; s2 = s; s3 = s }) eq pq l
-  constant_is t s h i =
-      let j : Is s (batched (cell eq 0) (pq 0)) = is_eq i (ap₂ batched h.e.value (entry_claims t _ _ h)) in
-      record { s1 = j; s2 = j; s3 = j }
+-- fewer words of five columns
+pub room_less : (m n : ℕ) {e a b c d : List ℕ} → m ≤ n → Room n e a b c d → Room m e a b c d
+room_less m n l h = record {
+  eq = omega arith;
+  p0 = omega arith;
+  q0 = omega arith;
+  p1 = omega arith;
+  q1 = omega arith;
+  eq_clean = h.eq_clean;
+  p0_clean = h.p0_clean;
+  q0_clean = h.q0_clean;
+  p1_clean = h.p1_clean;
+  q1_clean = h.q1_clean;
+}

@@ -27,10 +27,6 @@ zero_is = refl
 
 -- EQ
 
-pub eq_none : (x y : List ℕ) → E.one ≡ Table.eq ExtRing (cells x 0 0) (cells y 0 0)
-unfolding Table.eq
-eq_none x y = refl
-
 pub eq_turn : (x y : List ℕ) (i : ℕ) (e a b : E.Ext) {r : E.Ext} → e ≡ Table.eq ExtRing (cells x 0 i) (cells y 0 i) → a ≡ cell x i → b ≡ cell y i → r ≡ E.mul e (Forms.agree ExtRing a b)
     → r ≡ Table.eq ExtRing (cells x 0 (i + 1)) (cells y 0 (i + 1))
 eq_turn x y i e a b {r} he ha hb hr =

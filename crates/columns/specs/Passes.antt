@@ -4,6 +4,8 @@ use Rattle.std.specs.Prelude.{◌≡◌, List, ℕ, ◌+◌, ◌<◌, ◌≤◌,
 use Rattle.field.specs.Base.{of}
 use Rattle.field.specs.Ext as E
 use Rattle.field.specs.ExtRing.{ExtRing}
+use Rattle.field.specs.declared.Ext.{Ext}
+use Rattle.field.specs.Element.{Is}
 use Rattle.field.specs.Cells.{cell, Clean}
 use Rattle.multilinear.specs.Table as Table
 use Rattle.multilinear.specs.RoundSum as RoundSum
@@ -14,6 +16,10 @@ use Rattle.step.specs.Values.{minus, line, two, three, IsThree}
 -- the base element of word i, as an element
 abbrev pub base_cell : List ℕ → ℕ → E.Ext
 base_cell ws i = E.emb (of (get_or ws i 0))
+
+-- what is read at each index below n is c there; `Gives` says what a call at an index may answer
+abbrev pub Reads : (ℕ → Ext → Type 0) → ℕ → (ℕ → E.Ext) → Type 0
+Reads Gives n c = (i : ℕ) (e : Ext) → i < n → Gives i e → Is e (c i)
 
 -- the four columns of claims
 abbrev pub claims : (p0 q0 p1 q1 : List ℕ) → ℕ → Claims E.Ext

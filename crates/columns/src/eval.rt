@@ -40,22 +40,11 @@ pub fn eval_in_place(t: &mut [u32], x: &[u32], n: usize) -> Ext
     ensures table { t.new ≡ flat (Tables.overwrite ExtRing n (cell x.now) (cell t.old)) (2 ^ n) }
 {
     let mut half = t.len() / 4;
-    let mut k = n;
-    while 0 < k {
-        k -= 1;
-        half = half / 2;
+    for k in (0..n).rev() {
+        half /= 2;
         merge(t, half, field::load(x, k));
     }
     field::load(t, 0)
-}
-
-// Between a and b at coordinate k of the point.
-fn mix(x: &[u32], k: usize, a: Ext, b: Ext) -> Ext
-    requires room { 4 * k + 3 < length x.now }
-    requires clean { Clean x.now × Canon a × Canon b }
-    ensures { Is result (line (cell x.now k) (dec a) (dec b)) }
-{
-    step::line_at(a, b, field::load(x, k))
 }
 
 // Each half by the same rule, with one variable less.
@@ -67,8 +56,8 @@ pub fn eval_by_halves(t: &[u32], x: &[u32], n: usize) -> Ext
     if n == 0 {
         return field::load(t, 0);
     }
-    let h = t.len() / 2;
-    let a = eval_by_halves(&t[..h], x, n - 1);
-    let b = eval_by_halves(&t[h..], x, n - 1);
-    mix(x, n - 1, a, b)
+    let (low, high) = t.split_at(t.len() / 2);
+    let a = eval_by_halves(low, x, n - 1);
+    let b = eval_by_halves(high, x, n - 1);
+    step::line_at(a, b, field::load(x, n - 1))
 }

@@ -10,6 +10,7 @@ use crate::put;
 use field::Ext;
 
 // Entry y of the fold.
+#[tactic(auto, unfolding(multilinear::specs::Table::fold))]
 fn fold_entry(src: &[u32], y: usize, r: Ext) -> Ext
     requires room { 8 * y + 7 < length src.now }
     requires clean { Clean src.now × Canon r }

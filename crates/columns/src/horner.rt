@@ -1,54 +1,35 @@
 // A polynomial's value by Horner's rule, from the highest coefficient down.
-ghost use Rattle.std.specs.Prelude.{◌*◌, ◌<◌, ◌≤◌, length};
+ghost use Rattle.std.specs.Prelude.{ℕ, ◌<◌, length};
 ghost use Rattle.field.specs.Ext as E;
 ghost use Rattle.field.specs.ExtRing.{ExtRing};
 ghost use Rattle.field.specs.Element.{dec, Canon, Is};
-ghost use Rattle.field.specs.Cells.{cell, Clean};
+ghost use Rattle.field.specs.Cells.{Clean};
 ghost use Rattle.columns.specs.Tables as Tables;
-ghost use Rattle.columns.specs.Passes.{base_cell};
+ghost use Rattle.columns.specs.Passes.{base_cell, Reads};
 
-use field::Ext;
+use field::{Ext, Field};
 
-// n coefficients in the extension.
-pub fn horner(coeffs: &[u32], n: usize, x: Ext) -> Ext
-    requires room { 4 * n ≤ length coeffs.now }
-    requires clean { Clean coeffs.now × Canon x }
-    ensures { Is result (Tables.polynomial ExtRing n (cell coeffs.now) (dec x)) }
+// The polynomial at x of n coefficients, each read by its index.
+pub fn horner<F: Fn(usize) -> Ext>(coefficient: F, n: usize, x: Ext) -> Ext
+    requires callable { (i : ℕ) → i < n → F.pre coefficient i }
+    requires canon { Canon x × ((i : ℕ) (e : _) → i < n → F.post coefficient i e → Canon e) }
+    ensures { (c : ℕ → E.Ext) → Reads (F.post coefficient) n c → Is result (Tables.polynomial ExtRing n c (dec x)) }
 {
     let mut acc = Ext::ZERO;
-    let mut i = n;
-    while 0 < i {
-        i -= 1;
-        acc = step::interpolate::horner_step(acc, x, field::load(coeffs, i));
+    for i in (0..n).rev() {
+        acc = step::interpolate::horner_step(acc, x, coefficient(i));
     }
     acc
 }
 
 // The base element of word i, as an element.
-fn base_at(coeffs: &[u32], i: usize) -> Ext
+pub fn base_at(coeffs: &[u32], i: usize) -> Ext
     requires room { i < length coeffs.now }
     requires clean { Clean coeffs.now }
     ensures { Is result (base_cell coeffs.now i) }
 {
     Ext {
         c0: coeffs[i],
-        c1: 0,
-        c2: 0,
-        c3: 0,
+        ..Ext::ZERO
     }
-}
-
-// n coefficients in the base field, a word each.
-pub fn horner_base(coeffs: &[u32], n: usize, x: Ext) -> Ext
-    requires room { n ≤ length coeffs.now }
-    requires clean { Clean coeffs.now × Canon x }
-    ensures { Is result (Tables.polynomial ExtRing n (base_cell coeffs.now) (dec x)) }
-{
-    let mut acc = Ext::ZERO;
-    let mut i = n;
-    while 0 < i {
-        i -= 1;
-        acc = step::interpolate::horner_step(acc, x, base_at(coeffs, i));
-    }
-    acc
 }

@@ -1,4 +1,5 @@
 // Loops over columns: lists of words, four to an entry. They take canonical words and rooms that were checked before.
+// Stays: canonical words are a clause and not a type, since the slices are those that calls lend, and `field::load` and `field::store` take them plain.
 #![tactic(auto)]
 
 ghost use Rattle.std.specs.Prelude.{◌≡◌, ◌+◌, ◌*◌, ◌<◌, length};
@@ -7,7 +8,6 @@ ghost use Rattle.field.specs.Element.{dec, words, Canon};
 
 use field::Ext;
 
-pub mod power; // powers of two up to the limit
 pub mod fold; // the fold of a column
 pub mod eval; // the value of a table at a point, in place and by halves
 pub mod eq; // eq of two points, and the table of weights
@@ -20,9 +20,5 @@ pub fn put(s: &mut [u32], i: usize, e: Ext)
     requires canon { Canon e }
     ensures { s.new ≡ sets s.old (4 * i) (words (dec e)) }
 {
-    let k = 4 * i;
-    s[k] = e.c0;
-    s[k + 1] = e.c1;
-    s[k + 2] = e.c2;
-    s[k + 3] = e.c3;
+    s[4 * i..4 * i + 4].copy_from_slice(&[e.c0, e.c1, e.c2, e.c3]);
 }

@@ -1,64 +1,48 @@
--- Where an argument stands, and when a word is a text.
+-- Where an argument stands, and which word it is.
 -- Assumes nothing.
-use mathlib.Core.Path.{◌≡◌, refl, sym, ◌∙◌}
-use mathlib.Core.Bool.{Bool, true, false, cond}
-use mathlib.Core.List.{List, [], ◌∷◌}
-use Prim.Native.Nat.{ℕ, suc, ◌+◌, ◌-◌, ◌≤◌, min}
-use native.Mathlib.Omega.{arith}
-use borrow.Author.Tests.{eq-eqb, eqb-true}
-use lib.Dec.{eqb, leb}
-use lib.ListN.{length, take, drop}
-use lib.Seq.{drop-drop}
-use Rattle.field.specs.ExtRing.{both}
+use Rattle.std.proofs.Common.{◌≡◌, ℕ, zero, suc, Bool, true, false, eqb, List, [], ◌∷◌, length, slice_get, Option, Some, None, option_map, unwrap_or, Bor, refl, ap, sym, ◌∙◌}
+use Rattle.std.specs.List.{slice_split, onto_first}
+use Rattle.std.proofs.lemmas.Slice.Eq.{HasBytesAt, text_from_reads}
 use Rattle.sheet_text.specs.Reading.{length_to}
-use Rattle.sheet_text.proofs.Listing.{started}
-use Rattle.command.specs.Arguments.{argument, same_text}
-use Rattle.command.specs.declared.words.Word.{Word}
+use Rattle.command.specs.Arguments.{argument, word_of}
 
--- ---- a word and a text
-same_true : (a b : List ℕ) → same_text a b ≡ true → a ≡ b
-unfolding same_text
-same_true [] [] e = refl
-same_true [] (y ∷ b) e = cc
-same_true (x ∷ a) [] e = cc
-same_true (x ∷ a) (y ∷ b) e = let h = both (eqb x y) (same_text a b) e in let p = eqb-true x y h.0 in let q = same_true a b h.1 in cc
+-- A word of the length and with the bytes of a text is that text.
+pub is_text : (w text : List ℕ) → length w ≡ length text → HasBytesAt w 0 text → word_of text ≡ word_of w
+is_text w text l h = ap word_of (sym (text_from_reads w text l h))
 
-same_self : (a : List ℕ) → same_text a a ≡ true
-unfolding same_text
-same_self [] = refl
-same_self (x ∷ a) = rw (eq-eqb x x refl, same_self a)
+-- ---- argument k is part k of what the bytes 0 part
+onto_here : (x : ℕ) (parts : List (List ℕ)) → unwrap_or (slice_get (onto_first x parts) 0) [] ≡ x ∷ unwrap_or (slice_get parts 0) []
+onto_here x [] = refl
+onto_here x (part ∷ parts) = refl
 
-module _ (a b : List ℕ) where
-  by : (s : Bool) → same_text a b ≡ s → (a ≡ b → ◌≡◌ {A = Bool} false true) → false ≡ s
-  by true e g = g (same_true a b e)
-  by false e g = refl
+onto_later : (x : ℕ) (parts : List (List ℕ)) (k : ℕ) → slice_get (onto_first x parts) (suc k) ≡ slice_get parts (suc k)
+onto_later x [] k = refl
+onto_later x (part ∷ parts) k = refl
 
-  -- an answer that is true exactly where the texts are equal
-  pub is_same : (r : Bool) → (r ≡ true → a ≡ b) × (a ≡ b → r ≡ true) → r ≡ same_text a b
-  is_same true h = sym (rw (← h.0 refl) (same_self a))
-  is_same false h = by (same_text a b) refl h.1
+none_left : (k : ℕ) → argument k [] ≡ []
+unfolding argument length_to
+none_left zero = refl
+none_left (suc k) = none_left k
 
--- what a word means, where `check::same` answers whether it is this text
-module _ (w t : List ℕ) (meant other : Word) (r : Bool) (h : (r ≡ true → w ≡ t) × (w ≡ t → r ≡ true)) where
-  pub picked : r ≡ true → meant ≡ cond (same_text w t) meant other
-  picked e = sym (rw (sym (is_same w t r h) ∙ e))
+abbrev parts_of : List ℕ → List (List ℕ)
+parts_of = slice_split (λ b. eqb b 0)
 
-  pub passed : r ≡ false → other ≡ cond (same_text w t) meant other
-  passed e = sym (rw (sym (is_same w t r h) ∙ e))
+abbrev PartsOf : List ℕ → Type 0
+PartsOf args = (k : ℕ) → unwrap_or (slice_get (parts_of args) k) [] ≡ argument k args
 
--- ---- argument k
-module _ (args : List ℕ) (from to : ℕ) (e : to ≡ from + length_to 0 (drop from args)) where
-  -- the part before the byte 0 is the first argument from here on
-  pub part : (k : ℕ) → k ≡ 0 → take (to - from) (drop from args) ≡ argument k (drop from args)
-  unfolding argument
-  part k z = let q : to - from ≡ length_to 0 (drop from args) = omega arith in rw (z, q)
+part_on : (b : ℕ) (args : List ℕ) (t : Bool) → eqb b 0 ≡ t → PartsOf args → PartsOf (b ∷ args)
+unfolding argument length_to
+part_on b args true e h zero = rw e
+part_on b args true e h (suc k) = rw e (h k)
+part_on b args false e h zero = rw (e, onto_here b (parts_of args)) (ap (λ l. b ∷ l) (h zero))
+part_on b args false e h (suc k) = rw (e, onto_later b (parts_of args) k) (h (suc k))
 
-  after : (next : ℕ) → to ≤ length args → next ≡ min (to + 1) (length args) → drop next args ≡ drop (suc (length_to 0 (drop from args))) (drop from args)
-  after next l s =
-      let q : from + suc (length_to 0 (drop from args)) ≡ to + 1 = omega arith in
-      started args to next (leb (length args) to) refl l s ∙ sym (rw (← q) (drop-drop (suc (length_to 0 (drop from args))) from args))
+part : (args : List ℕ) → PartsOf args
+unfolding argument length_to
+part [] zero = refl
+part [] (suc k) = sym (none_left k)
+part (b ∷ args) k = part_on b args (eqb b 0) refl (part args) k
 
-  -- one argument less to pass
-  pub pass : (k j next : ℕ) → k ≡ suc j → to ≤ length args → next ≡ min (to + 1) (length args) → argument k (drop from args) ≡ argument j (drop next args)
-  unfolding argument
-  pass k j next p l s = rw (p, after next l s)
+pub part_is : (args : List ℕ) (k : ℕ) (found : Option (Bor (List ℕ))) (empty : Bor (List ℕ)) → option_map (λ x. x.now) found ≡ slice_get (parts_of args) k → empty.now ≡ [] → (unwrap_or found empty).now ≡ argument k args
+part_is args k (Some x) empty e n = ap (λ o. unwrap_or o []) e ∙ part args k
+part_is args k None empty e n = n ∙ ap (λ o. unwrap_or o []) e ∙ part args k

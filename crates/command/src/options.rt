@@ -1,16 +1,8 @@
 // What the options after the names of a command mean.
-ghost use Rattle.std.specs.Prelude.{◌≡◌, not, ◌&&◌, ◌-◌, eqb};
-ghost use Rattle.command.specs.Meaning.{set, named, is_name, is_nothing, none, asked, taken, options_from, whole, one_source, nameless};
+ghost use Rattle.std.specs.Prelude.{◌≡◌, not, ◌&&◌, ◌-◌, is_none};
+ghost use Rattle.command.specs.Meaning.{set, named, is_name, none, taken, options_from, whole, one_source, nameless};
 
 use crate::words::{Mode, Name, Word, word_at};
-use sheet_text::scan::both;
-
-// What the next argument has to be: an option, or what the option before it names.
-#[derive(Clone, Copy)]
-pub enum Awaits {
-    Nothing,
-    Name(Name),
-}
 
 // What the options that are modes set.
 #[derive(Clone, Copy)]
@@ -25,210 +17,181 @@ pub struct Flags {
 // The arguments that name a text of challenges, a sheet, and a file for the log.
 #[derive(Clone, Copy)]
 pub struct Names {
-    pub challenges: usize,
-    pub sheet: usize,
-    pub log: usize,
+    pub challenges: Option<usize>,
+    pub sheet: Option<usize>,
+    pub log: Option<usize>,
 }
 
-// Modes, names, whether all of it is known, and what is still to come.
+// Modes, names, whether all of it is known, and the option whose name is still to come.
 #[derive(Clone, Copy)]
 pub struct Options {
     pub flags: Flags,
     pub names: Names,
     pub known: bool,
-    pub awaits: Awaits,
+    pub awaits: Option<Name>,
 }
 
-fn set_flag(flags: Flags, mode: Mode) -> Flags
-    ensures { result ≡ set flags mode }
-{
-    let mut next = flags;
-    match mode {
-        Mode::Live => next.live = true,
-        Mode::NoAssert => next.asserted = false,
-        Mode::Drawn => next.drawn = true,
-        Mode::Sized => next.sized = true,
-        Mode::NoRows => next.empty = true,
-    }
-    next
-}
-
-fn set_name(names: Names, name: Name, k: usize) -> Names
-    ensures { result ≡ named names name k }
-{
-    let mut next = names;
-    match name {
-        Name::Challenges => next.challenges = k,
-        Name::Sheet => next.sheet = k,
-        Name::Log => next.log = k,
-    }
-    next
-}
-
-fn is_name(word: Word) -> bool
-    ensures { result ≡ is_name word }
-{
-    match word {
-        Word::Empty => false,
-        Word::Mode(_) => true,
-        Word::Name(_) => true,
-        Word::Other => true,
+impl Flags {
+    fn with(self, mode: Mode) -> Flags
+        ensures { result ≡ set self mode }
+    {
+        match mode {
+            Mode::Live => Flags { live: true, ..self },
+            Mode::NoAssert => Flags {
+                asserted: false,
+                ..self
+            },
+            Mode::Drawn => Flags {
+                drawn: true,
+                ..self
+            },
+            Mode::Sized => Flags {
+                sized: true,
+                ..self
+            },
+            Mode::NoRows => Flags {
+                empty: true,
+                ..self
+            },
+        }
     }
 }
 
-fn is_nothing(awaits: Awaits) -> bool
-    ensures { result ≡ is_nothing awaits }
-{
-    match awaits {
-        Awaits::Nothing => true,
-        Awaits::Name(_) => false,
+impl Names {
+    fn with(self, name: Name, k: usize) -> Names
+        ensures { result ≡ named self name k }
+    {
+        match name {
+            Name::Challenges => Names {
+                challenges: Some(k),
+                ..self
+            },
+            Name::Sheet => Names {
+                sheet: Some(k),
+                ..self
+            },
+            Name::Log => Names {
+                log: Some(k),
+                ..self
+            },
+        }
     }
 }
 
-// A word where an option may stand.
-fn ask(o: Options, word: Word) -> Options
-    ensures { result ≡ asked o word }
-{
-    let mut flags = o.flags;
-    let names = o.names;
-    let mut known = o.known;
-    let mut awaits = Awaits::Nothing;
-    match word {
-        Word::Mode(mode) => flags = set_flag(flags, mode),
-        Word::Name(name) => awaits = Awaits::Name(name),
-        Word::Empty => known = false,
-        Word::Other => known = false,
-    }
-    Options {
-        flags,
-        names,
-        known,
-        awaits,
+impl Word {
+    fn is_name(self) -> bool
+        ensures { result ≡ is_name self }
+    {
+        !matches!(self, Word::Empty)
     }
 }
 
-// Argument k, which is this word.
-fn take_word(o: Options, word: Word, k: usize) -> Options
-    ensures { result ≡ taken o word k }
-{
-    let flags = o.flags;
-    let names = o.names;
-    let awaits = o.awaits;
-    match awaits {
-        Awaits::Nothing => ask(o, word),
-        Awaits::Name(name) => Options {
-            flags,
-            names: set_name(names, name, k),
-            known: both(o.known, is_name(word)),
-            awaits: Awaits::Nothing,
-        },
+impl Options {
+    // The modes of the sandbox, and no name.
+    fn none() -> Options
+        ensures { result ≡ none }
+    {
+        Options {
+            flags: Flags {
+                live: false,
+                asserted: true,
+                drawn: false,
+                sized: false,
+                empty: false,
+            },
+            names: Names {
+                challenges: None,
+                sheet: None,
+                log: None,
+            },
+            known: true,
+            awaits: None,
+        }
     }
-}
 
-fn no_options(n: usize) -> Options
-    ensures { result ≡ none n }
-{
-    Options {
-        flags: Flags {
-            live: false,
-            asserted: true,
-            drawn: false,
-            sized: false,
-            empty: false,
-        },
-        names: Names {
-            challenges: n,
-            sheet: n,
-            log: n,
-        },
-        known: true,
-        awaits: Awaits::Nothing,
+    // Argument k, which is this word.
+    fn take(self, word: Word, k: usize) -> Options
+        ensures { result ≡ taken self word k }
+    {
+        match (self.awaits, word) {
+            (Some(name), _) => Options {
+                names: self.names.with(name, k),
+                known: self.known && word.is_name(),
+                awaits: None,
+                ..self
+            },
+            (None, Word::Mode(mode)) => Options {
+                flags: self.flags.with(mode),
+                ..self
+            },
+            (None, Word::Name(name)) => Options {
+                awaits: Some(name),
+                ..self
+            },
+            (None, _) => Options {
+                known: false,
+                ..self
+            },
+        }
     }
-}
 
-// The options from argument `first` to the last, n of them in all: a name that is not given is argument n, which is empty.
-pub fn read_options(args: &[u8], first: usize, n: usize) -> Options
-    ensures { result ≡ options_from (n - first) first (none n) args.now }
-{
-    let mut o = no_options(n);
-    for k in first..n {
-        o = take_word(o, word_at(args, k), k);
+    // The options from argument `first` to the last, n of them in all.
+    pub fn read(args: &[u8], first: usize, n: usize) -> Options
+        ensures { result ≡ options_from (n - first) first none args.now }
+    {
+        let mut options = Options::none();
+        for k in first..n {
+            options = options.take(word_at(args, k), k);
+        }
+        options
     }
-    o
-}
 
-fn is_whole(o: Options) -> bool
-    ensures { result ≡ whole o }
-{
-    let awaits = o.awaits;
-    both(o.known, is_nothing(awaits))
-}
-
-// Where challenges are drawn, none are named, of n arguments.
-fn has_one_source(o: Options, n: usize) -> bool
-    ensures { result ≡ one_source o n }
-{
-    if o.flags.drawn {
-        return o.names.challenges == n;
+    // All words are known, and no name is missing.
+    fn is_whole(self) -> bool
+        ensures { result ≡ whole self }
+    {
+        self.known && self.awaits.is_none()
     }
-    true
-}
 
-// What `prove` and `verify` ask of their options: all known, and challenges not both drawn and named, of n arguments.
-fn fit(o: Options, n: usize) -> bool
-    ensures { result ≡ (whole o && one_source o n) }
-{
-    both(is_whole(o), has_one_source(o, n))
-}
+    // Where challenges are drawn, none are named.
+    fn has_one_source(self) -> bool
+        ensures { result ≡ one_source self }
+    {
+        !self.flags.drawn || self.names.challenges.is_none()
+    }
 
-// No sheet beside the one that is proved, of n arguments, and nothing about no rows, which are always proved.
-fn is_provers(o: Options, n: usize) -> bool
-    ensures { result ≡ (eqb o.names.sheet n && not o.flags.empty) }
-{
-    both(o.names.sheet == n, !o.flags.empty)
-}
+    fn is_nameless(self) -> bool
+        ensures { result ≡ nameless self }
+    {
+        self.names.challenges.is_none() && self.names.sheet.is_none() && self.names.log.is_none()
+    }
 
-// Whether the options are those of `prove`: all known, challenges not both drawn and named, and none that `verify` alone takes, of n arguments.
-pub fn fit_prove(o: Options, n: usize) -> bool
-    ensures { result ≡ ((whole o && one_source o n) && (eqb o.names.sheet n && not o.flags.empty)) }
-{
-    both(fit(o, n), is_provers(o, n))
-}
+    // Nothing about the sum's numerator, which is always asked to be zero, or about the size, which the proof's version says.
+    fn is_verifiers(self) -> bool
+        ensures { result ≡ (self.flags.asserted && not self.flags.sized) }
+    {
+        self.flags.asserted && !self.flags.sized
+    }
 
-// Nothing about the sum's numerator, which is always asked to be zero, or about the size, which the proof's version says.
-fn is_verifiers(o: Options) -> bool
-    ensures { result ≡ (o.flags.asserted && not o.flags.sized) }
-{
-    both(o.flags.asserted, !o.flags.sized)
-}
+    // Whether they are those of `prove`: all known, challenges not both drawn and named, and none that `verify` alone takes: no sheet beside the one that is proved, and
+    // nothing about no rows, which are always proved.
+    pub fn fit_prove(self) -> bool
+        ensures { result ≡ ((whole self && one_source self) && (is_none self.names.sheet && not self.flags.empty)) }
+    {
+        self.is_whole() && self.has_one_source() && self.names.sheet.is_none() && !self.flags.empty
+    }
 
-// Whether they are those of `verify`: all known, challenges not both drawn and named, and none that `prove` alone takes.
-pub fn fit_verify(o: Options, n: usize) -> bool
-    ensures { result ≡ ((whole o && one_source o n) && (o.flags.asserted && not o.flags.sized)) }
-{
-    both(fit(o, n), is_verifiers(o))
-}
+    // Whether they are those of `verify`: all known, challenges not both drawn and named, and none that `prove` alone takes.
+    pub fn fit_verify(self) -> bool
+        ensures { result ≡ ((whole self && one_source self) && (self.flags.asserted && not self.flags.sized)) }
+    {
+        self.is_whole() && self.has_one_source() && self.is_verifiers()
+    }
 
-// Nothing is named, of n arguments.
-fn is_nameless(o: Options, n: usize) -> bool
-    ensures { result ≡ nameless o n }
-{
-    both(
-        o.names.challenges == n,
-        both(o.names.sheet == n, o.names.log == n),
-    )
-}
-
-// What `replay` asks of its options: all known, and nothing named, of n arguments.
-fn is_plain(o: Options, n: usize) -> bool
-    ensures { result ≡ (whole o && nameless o n) }
-{
-    both(is_whole(o), is_nameless(o, n))
-}
-
-// Whether they are those of `replay`: all known, nothing named, as its log stands in the place of challenges, and none that `prove` alone takes.
-pub fn fit_replay(o: Options, n: usize) -> bool
-    ensures { result ≡ ((whole o && nameless o n) && (o.flags.asserted && not o.flags.sized)) }
-{
-    both(is_plain(o, n), is_verifiers(o))
+    // Whether they are those of `replay`: all known, nothing named, as its log stands in the place of challenges, and none that `prove` alone takes.
+    pub fn fit_replay(self) -> bool
+        ensures { result ≡ ((whole self && nameless self) && (self.flags.asserted && not self.flags.sized)) }
+    {
+        self.is_whole() && self.is_nameless() && self.is_verifiers()
+    }
 }

@@ -1,3 +1,2 @@
 -- The laws of what is read.
-pub mod Copies
 pub mod Parts

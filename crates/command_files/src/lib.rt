@@ -1,127 +1,90 @@
 // A file read whole into a buffer, and a file written whole or not at all.
 #![tactic(auto)]
 
-ghost use Rattle.std.specs.Prelude.{◌≡◌, min, length};
-ghost use Rattle.io.specs.Counts.{IsPrefixLen};
+ghost use Rattle.std.specs.Prelude.{◌≤◌, length, IfSome, IfOk};
+ghost use Rattle.command_files.specs.Inputs.{bytes_read};
 
-use crate::system::{create_temp, fill, open_read, read_full, remove, rename, tell};
-use std::io::Read;
+use crate::fault::Fault;
+use crate::system::{create_temp, fill, invalid, open_read, read_full, remove, rename};
+use std::io::{Error, Read};
 use std::rt::Files;
 
+pub mod fault; // why a command stops
 pub mod inputs; // rows and challenges as words
 pub mod logs; // a run's log
 pub mod system; // the system's files, by their names in bytes
 
-// What comes after the bytes that were read: the end of the file, more than the buffer takes, or a failure, which is told.
+// The bytes of a file: all of them, or those that the buffer takes.
 #[derive(Clone, Copy)]
-pub enum After {
-    End,
-    More,
-    Failed,
+pub enum Input<'a> {
+    Whole(&'a [u8]),
+    Front(&'a [u8]),
 }
 
-#[derive(Clone, Copy)]
-pub struct Input {
-    pub count: usize,
-    pub after: After,
-}
-
-fn rest<F: Read>(file: &mut F, path: &[u8]) -> After {
-    let mut one = [0u8; 1];
-    match file.read(&mut one) {
-        Ok(0) => After::End,
-        Ok(_) => After::More,
-        Err(error) => {
-            tell(path, error);
-            After::Failed
-        }
+fn read_from<'a>(rt: &impl Files, path: &[u8], buffer: &'a mut [u8]) -> Result<Input<'a>, Error>
+    ensures { IfOk result (λ input. length (bytes_read input) ≤ length buffer.old) }
+{
+    let mut file = open_read(rt, path)?;
+    let count = read_full(&mut file, buffer);
+    let more = file.read(&mut [0u8; 1])? != 0;
+    let bytes = &buffer[..count];
+    if more {
+        Ok(Input::Front(bytes))
+    } else {
+        Ok(Input::Whole(bytes))
     }
 }
 
 // The file from its start into the front of the buffer.
-pub fn read(rt: &impl Files, path: &[u8], buffer: &mut [u8]) -> Input
-    ensures { IsPrefixLen result.count buffer.new }
+pub fn read<'a, 'b>(
+    rt: &impl Files,
+    path: &'a [u8],
+    buffer: &'b mut [u8],
+) -> Result<Input<'b>, Fault<'a>>
+    ensures { IfOk result (λ input. length (bytes_read input) ≤ length buffer.old) }
 {
-    match open_read(rt, path) {
-        Ok(opened) => {
-            let mut file = opened;
-            let count = read_full(&mut file, buffer);
-            let after = rest(&mut file, path);
-            Input { count, after }
-        }
-        Err(error) => {
-            tell(path, error);
-            Input {
-                count: 0,
-                after: After::Failed,
-            }
-        }
-    }
+    read_from(rt, path, buffer).map_err(|error| Fault::Failed { path, error })
 }
 
-// The front of a room: so many bytes, or all there are.
-pub fn front(n: usize, room: &[u8]) -> usize
-    ensures { (result ≡ min n (length room.now)) × IsPrefixLen result room.now }
+// The path with .XXXXXX after it, in the same folder, in the front of the name; none where that does not fit.
+fn temporary_name(path: &[u8], name: &mut [u8]) -> Option<usize>
+    ensures { IfSome result (λ n. n ≤ length name.new) }
 {
-    if n < room.len() { n } else { room.len() }
+    let n = path.len();
+    name.get_mut(..n)?.copy_from_slice(path);
+    name.get_mut(n..n + 7)?.copy_from_slice(b".XXXXXX");
+    Some(n + 7)
 }
 
-fn name_byte(path: &[u8], i: usize) -> u8 {
-    if i < path.len() {
-        return path[i];
-    }
-    if i == path.len() { b'.' } else { b'X' }
+// All bytes go into the file, which then takes the name.
+fn fill_and_name<R: Files>(
+    rt: &R,
+    file: R::File,
+    bytes: &[u8],
+    temporary: &[u8],
+    path: &[u8],
+) -> Result<(), Error> {
+    fill(file, bytes)?;
+    rename(rt, temporary, path)
 }
 
-// The path with .XXXXXX after it, in the same folder; 0 bytes where that does not fit.
-fn temporary_name(path: &[u8], name: &mut [u8]) -> usize
-    ensures { IsPrefixLen result name.new }
-{
-    if name.len() < 7 {
-        return 0;
+// Where the bytes do not get the name, no file stays behind.
+fn put_new(rt: &impl Files, path: &[u8], name: &mut [u8], bytes: &[u8]) -> Result<(), Error> {
+    let file = create_temp(rt, name)?;
+    let done = fill_and_name(rt, file, bytes, name, path);
+    if done.is_err() {
+        let _ = remove(rt, name);
     }
-    if name.len() - 7 < path.len() {
-        return 0;
-    }
-    let n = path.len() + 7;
-    for i in 0..n {
-        name[i] = name_byte(path, i);
-    }
-    n
+    done
 }
 
-// Whether all bytes are in the file and the file has its name; a failure is told.
-fn written<R: Files>(rt: &R, file: R::File, bytes: &[u8], temporary: &[u8], path: &[u8]) -> bool {
-    if let Err(error) = fill(file, bytes) {
-        tell(path, error);
-        return false;
-    }
-    if let Err(error) = rename(rt, temporary, path) {
-        tell(path, error);
-        return false;
-    }
-    true
-}
-
-fn put_new(rt: &impl Files, path: &[u8], name: &mut [u8], bytes: &[u8]) -> bool {
-    match create_temp(rt, name) {
-        Ok(file) => {
-            let done = written(rt, file, bytes, name, path);
-            if !done {
-                let _ = remove(rt, name);
-            }
-            done
-        }
-        Err(error) => {
-            tell(path, error);
-            false
-        }
-    }
+fn replace_file(rt: &impl Files, path: &[u8], bytes: &[u8]) -> Result<(), Error> {
+    let mut name = [0u8; 4096];
+    let n = temporary_name(path, &mut name).ok_or_else(invalid)?;
+    put_new(rt, path, &mut name[..n], bytes)
 }
 
 // The bytes go to a new file of the same folder, which then takes the name: a file that had it is as it was until then.
-pub fn replace(rt: &impl Files, path: &[u8], bytes: &[u8]) -> bool {
-    let mut name = io::buffer();
-    let n = temporary_name(path, &mut name);
-    put_new(rt, path, &mut name[..n], bytes)
+pub fn replace<'a>(rt: &impl Files, path: &'a [u8], bytes: &[u8]) -> Result<(), Fault<'a>> {
+    replace_file(rt, path, bytes).map_err(|error| Fault::Failed { path, error })
 }

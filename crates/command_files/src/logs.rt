@@ -1,128 +1,70 @@
 // A log in a file: its words one after the other, four bytes each, the highest first.
-ghost use Rattle.std.specs.Prelude.{◌≡◌, ◌++◌, ◌*◌, ◌≤◌, min, length, drop};
+ghost use Rattle.std.specs.Prelude.{◌≡◌, ◌≤◌, length, IfOk};
+ghost use Rattle.std.specs.Result.{result_ok};
 ghost use Rattle.io.specs.Counts.{IsPrefixLen};
-ghost use Rattle.wire.specs.Bytes.{words_from, bytes_of};
-ghost use Rattle.wire.specs.Written.{Wrote};
 ghost use Rattle.command_files.specs.Given.{FromFile};
 ghost use Rattle.command_files.specs.Logs.{log_of, log_given};
 
-use crate::inputs::Given;
-use crate::{After, front, read, replace};
-use command_text::{print, print_count};
+use crate::fault::Fault;
+use crate::{Input, read, replace};
 use std::rt::Files;
 
-// The first n words of the bytes go to the front of the words.
-fn copy_log(bytes: &[u8], words: &mut [u32], n: usize)
-    requires { (4 * n ≤ length bytes.now) × (n ≤ length words.old) }
-    ensures { words.new ≡ words_from n bytes.now ++ drop n words.old }
-{
-    for i in 0..n {
-        words[i] = wire::word_at(bytes, 4 * i);
+fn too_long(path: &[u8]) -> Fault<'_> {
+    Fault::TooLong {
+        path,
+        limit: "3856 bytes, and no verifier logs more than 964 words",
     }
 }
 
-fn too_long(path: &[u8]) {
-    print(b"refused: ");
-    print(path);
-    print(b" has more than 3856 bytes, and no verifier logs more than 964 words\n");
-}
-
-fn split_word(path: &[u8], bytes: usize) {
-    print(b"refused: ");
-    print(path);
-    print(b" has ");
-    print_count(bytes);
-    print(b" bytes, and each word of a log has 4\n");
-}
-
-fn log_of(path: &[u8], bytes: &[u8], words: &mut [u32]) -> Given
-    ensures prefix_len { IsPrefixLen result.count words.new }
-    ensures given { record { given = result; words = words.new } ≡ log_of bytes.now words.old }
+#[tactic(auto, unfolding(crate::specs::Logs::log_of))]
+fn log_of<'a>(path: &'a [u8], bytes: &[u8], words: &mut [u32]) -> Result<usize, Fault<'a>>
+    ensures prefix_len { IfOk result (λ n. IsPrefixLen n words.new) }
+    ensures given { record { given = result_ok result; words = words.new } ≡ log_of bytes.now words.old }
 {
     let n = bytes.len() / 4;
     if bytes.len() % 4 != 0 {
-        split_word(path, bytes.len());
-        return Given {
-            count: 0,
-            good: false,
-        };
+        return Err(Fault::SplitWord {
+            path,
+            bytes: bytes.len(),
+        });
     }
     if words.len() < n {
-        too_long(path);
-        return Given {
-            count: 0,
-            good: false,
-        };
+        return Err(too_long(path));
     }
-    copy_log(bytes, words, n);
-    Given {
-        count: n,
-        good: true,
-    }
+    wire::copy_words(bytes, 0, words, n);
+    Ok(n)
 }
 
 // The words of the log in a file, into the front of the words. More bytes than those of any verifier's log are not read.
-pub fn read_log(rt: &impl Files, path: &[u8], words: &mut [u32]) -> Given
-    ensures prefix_len { IsPrefixLen result.count words.new }
-    ensures given { FromFile (log_given words.old) (record { given = result; words = words.new }) }
+pub fn read_log<'a>(rt: &impl Files, path: &'a [u8], words: &mut [u32]) -> Result<usize, Fault<'a>>
+    ensures prefix_len { IfOk result (λ n. IsPrefixLen n words.new) }
+    ensures given { FromFile (log_given words.old) (record { given = result_ok result; words = words.new }) }
 {
     let mut bytes = [0u8; 3856];
-    let input = read(rt, path, &mut bytes);
-    let n = input.count;
-    let after = input.after;
-    match after {
-        After::Failed => {}
-        After::More => too_long(path),
-        After::End => {
-            return log_of(path, &bytes[..n], words);
-        }
-    }
-    Given {
-        count: 0,
-        good: false,
+    match read(rt, path, &mut bytes)? {
+        Input::Whole(log) => log_of(path, log, words),
+        Input::Front(_) => Err(too_long(path)),
     }
 }
 
-// The words go to the front of the bytes.
-fn put_log(out: &mut [u8], words: &[u32]) -> usize
-    requires { 4 * length words.now ≤ length out.old }
-    ensures { Wrote out.old out.new 0 result (bytes_of words.now) }
-{
-    let mut p = 0;
-    for i in 0..words.len() {
-        p = wire::put_word(out, p, words[i]);
-    }
-    p
-}
-
-fn at_most(n: usize, most: usize) -> usize
-    ensures { result ≡ min n most }
-{
-    if n < most { n } else { most }
-}
-
-// So many words of a log, as many as there are, and no more than any run writes.
-fn log_front(words: usize, log: &[u32]) -> usize
-    ensures { (result ≡ min words (min (length log.now) 968)) × IsPrefixLen result log.now × (result ≤ 968) }
-{
-    let most = at_most(log.len(), 968);
-    if words < most { words } else { most }
-}
-
-fn write_log(rt: &impl Files, path: &[u8], log: &[u32]) -> bool
+fn write_log<'a>(rt: &impl Files, path: &'a [u8], log: &[u32]) -> Result<(), Fault<'a>>
     requires { length log.now ≤ 968 }
 {
     let mut bytes = [0u8; 3872];
-    let end = put_log(&mut bytes, log);
-    let n = front(end, &bytes);
-    replace(rt, path, &bytes[..n])
+    let end = wire::put_words(&mut bytes, 0, log).min(bytes.len());
+    replace(rt, path, &bytes[..end])
 }
 
-// The first words of a log go to a file; an empty name stands for none.
-pub fn keep_log(rt: &impl Files, path: &[u8], log: &[u32], words: usize) {
-    if path.len() == 0 {
-        return;
+// The first words of a log go to a file, as many as there are, and no more than any run writes; an empty name stands for none.
+pub fn keep_log<'a>(
+    rt: &impl Files,
+    path: &'a [u8],
+    log: &[u32],
+    words: usize,
+) -> Result<(), Fault<'a>> {
+    if path.is_empty() {
+        return Ok(());
     }
-    let n = log_front(words, log);
-    write_log(rt, path, &log[..n]);
+    let n = words.min(log.len()).min(968);
+    write_log(rt, path, &log[..n])
 }

@@ -1,5 +1,5 @@
 // Files by their names in bytes, over std::fs; and on standard error what failed at a name.
-ghost use Rattle.std.specs.Prelude.{◌≡◌, ◌≤◌, min, length};
+ghost use Rattle.std.specs.Prelude.{◌≡◌};
 ghost use Rattle.io.specs.Counts.{IsPrefixLen};
 
 use std::fmt::InlineText;
@@ -18,30 +18,31 @@ const NO_TEXT: i32 = 84;
 
 // The system's words for an error, without their number.
 fn words(said: &str) -> &str {
-    match said.rsplit_once(" (os error ") {
-        Some((words, _)) => words,
-        None => said,
-    }
+    said.rsplit_once(" (os error ")
+        .map_or(said, |(words, _)| words)
 }
 
 // Tells on standard error what failed at a name.
 pub fn tell(path: &[u8], error: Error) {
     let said = InlineText::<128>::of(error);
+    // Stays: `Eprint` prints text, and the bytes of a name need be none.
     io::write_all(2, path);
     io::write_all(2, b": ");
     io::write_all(2, words(said.as_str()).as_bytes());
     io::write_all(2, b"\n");
 }
 
+// The error of a name that is none.
+pub(crate) fn invalid() -> Error {
+    Error::from_raw_os_error(INVALID)
+}
+
 // The name as std takes it: text, with no byte 0 in it.
 fn as_text(path: &[u8]) -> Result<&str, Error> {
     if path.contains(&0) {
-        return Err(Error::from_raw_os_error(INVALID));
+        return Err(invalid());
     }
-    match str::from_utf8(path) {
-        Ok(text) => Ok(text),
-        Err(_) => Err(Error::from_raw_os_error(NO_TEXT)),
-    }
+    str::from_utf8(path).map_err(|_| Error::from_raw_os_error(NO_TEXT))
 }
 
 // The file, to be read from its start.
@@ -56,9 +57,8 @@ pub fn read_full<F: Read>(file: &mut F, buffer: &mut [u8]) -> usize
     let mut done = 0;
     while done < buffer.len() {
         match file.read(&mut buffer[done..]) {
-            Ok(0) => break,
+            Ok(0) | Err(_) => break,
             Ok(n) => done += n,
-            Err(_) => break,
         }
     }
     done
@@ -72,39 +72,28 @@ fn open_new<R: Files>(rt: &R, path: &[u8]) -> Result<R::File, Error> {
 }
 
 // The number in the last six bytes, in decimal.
-fn put_number(name: &mut [u8], number: u32)
-    requires { 6 ≤ length name.old }
-{
-    let n = name.len();
+fn put_number(name: &mut [u8], number: u32) {
     let mut left = number;
-    for i in 0..6 {
-        name[n - 1 - i] = b'0' + (left % 10) as u8;
+    for digit in name.iter_mut().rev().take(6) {
+        *digit = b'0' + (left % 10) as u8;
         left /= 10;
     }
 }
 
 // A new file, whose name gets the first number in its last six bytes that makes it new.
 pub(crate) fn create_temp<R: Files>(rt: &R, name: &mut [u8]) -> Result<R::File, Error> {
-    if name.len() < 6 {
-        return Err(Error::from_raw_os_error(INVALID));
-    }
     for number in 0..1000000 {
         put_number(name, number);
         match open_new(rt, name) {
-            Ok(file) => return Ok(file),
-            Err(error) => {
-                if error.kind() != ErrorKind::AlreadyExists {
-                    return Err(error);
-                }
-            }
+            Err(error) if error.kind() == ErrorKind::AlreadyExists => {}
+            opened => return opened,
         }
     }
     Err(Error::from_raw_os_error(EXISTS))
 }
 
 // All bytes go into the file, which is closed. A close tells no failure here, so that the bytes are synced before it.
-pub(crate) fn fill<F: Write + OpenFile + Drop>(file: F, bytes: &[u8]) -> Result<(), Error> {
-    let mut file = file;
+pub(crate) fn fill<F: Write + OpenFile + Drop>(mut file: F, bytes: &[u8]) -> Result<(), Error> {
     file.write_all(bytes)?;
     file.sync_all()
 }

@@ -1,71 +1,76 @@
 // The claims of an accepted proof beside a sheet's own values at the point.
-ghost use Rattle.std.specs.Prelude.{◌≡◌, cond, ◌*◌, ◌^◌, min, eqb, ltb, length};
-ghost use Rattle.io.specs.Counts.{IsPrefixLen};
+ghost use Rattle.std.specs.Prelude.{◌≡◌, if◌then◌else◌, ◌^◌, ◌==◌, nat_lt};
 ghost use Rattle.refusal.specs.Limits.{max_rounds};
 
-use claims::Comparison;
-use command_files::inputs;
-use command_text::{print, print_count};
+use answers::{Accepted, say};
+use command_files::fault::Fault;
+use command_files::inputs::read_sheet;
+use std::fmt;
 use std::rt::Files;
-use step::Frac;
 
 // The rows that a proof of so many rounds is about: none for no rounds, and 0 where there is no such proof.
 fn rows_about(rounds: usize) -> usize
-    ensures { result ≡ cond (eqb rounds 0) 0 (cond (ltb max_rounds rounds) 0 (2 ^ rounds)) }
+    ensures { result ≡ if rounds == 0 then 0 else if nat_lt max_rounds rounds then 0 else 2 ^ rounds }
 {
-    if rounds == 0 {
-        return 0;
-    }
-    if rounds > refusal::MAX_ROUNDS {
+    if rounds == 0 || rounds > refusal::MAX_ROUNDS {
         return 0;
     }
     1 << rounds
 }
 
-fn print_sizes(rows: usize, rounds: usize) {
-    print(b"refused: the sheet has ");
-    print_count(rows);
-    print(b" rows, and a proof of ");
-    print_count(rounds);
-    print(b" rounds is about ");
-    print_count(rows_about(rounds));
-    print(b"\n");
+// A sheet of so many rows that no proof of so many rounds is about.
+#[derive(Clone, Copy)]
+struct Sizes {
+    rows: usize,
+    rounds: usize,
 }
 
-// The words of the point of so many rounds, as far as it goes.
-fn point_words(point: &[u32], rounds: usize) -> usize
-    ensures { (result ≡ min (4 * rounds) (length point.now)) × IsPrefixLen result point.now }
-{
-    if rounds <= point.len() / 4 {
-        return 4 * rounds;
-    }
-    point.len()
-}
-
-// Rows that were read, and the point of an accepted proof, are refused only where their sizes do not fit. One row has no rounds either.
-fn print_comparison(rows: &[u32], point: &[u32], rounds: usize, stated: Frac) {
-    if rounds == 0 {
-        if rows.len() != 0 {
-            return print_sizes(rows.len() / 8, rounds);
-        }
-    }
-    let n = point_words(point, rounds);
-    match claims::compare(rows, &point[..n], stated) {
-        Comparison::Same => print(b"claims match the sheet\n"),
-        Comparison::Different => print(b"refused: the claims are not the sheet's\n"),
-        Comparison::Refused(_) => print_sizes(rows.len() / 8, rounds),
+impl fmt::Display for Sizes {
+    fn fmt<W: fmt::Write>(&self, f: &mut fmt::Formatter<W>) -> fmt::Result {
+        let Sizes { rows, rounds } = *self;
+        write!(
+            f,
+            "refused: the sheet has {rows} rows, and a proof of {rounds} rounds is about {}",
+            rows_about(rounds)
+        )
     }
 }
 
-// The name of the sheet, an empty one for none; the front of the point is that of an accepted proof.
-pub fn compare_sheet(rt: &impl Files, sheet: &[u8], point: &[u32], rounds: usize, stated: Frac) {
-    if sheet.len() == 0 {
-        return;
+// Whether the claims are those of the rows; none where the sizes do not fit. One row has no rounds either.
+fn compare(rows: &[u32], accepted: Accepted<'_>) -> Option<bool> {
+    let Accepted {
+        stated,
+        point,
+        rounds,
+    } = accepted;
+    if rounds == 0 && !rows.is_empty() {
+        return None;
+    }
+    let n = rounds.saturating_mul(4).min(point.len());
+    claims::compare(rows, &point[..n], stated).ok()
+}
+
+// The name of the sheet, an empty one for none, and an accepted proof.
+pub fn compare_sheet<'a>(
+    rt: &(impl Files + Print),
+    sheet: &'a [u8],
+    accepted: Accepted<'_>,
+) -> Result<(), Fault<'a>> {
+    if sheet.is_empty() {
+        return Ok(());
     }
     let mut rows = [0u32; 8192];
-    let given = inputs::read_sheet(rt, sheet, &mut rows);
-    let n = given.count;
-    if given.good {
-        print_comparison(&rows[..n], point, rounds, stated);
+    let n = read_sheet(rt, sheet, &mut rows)?;
+    match compare(&rows[..n], accepted) {
+        Some(true) => say(rt, "claims match the sheet"),
+        Some(false) => say(rt, "refused: the claims are not the sheet's"),
+        None => say(
+            rt,
+            Sizes {
+                rows: n / 8,
+                rounds: accepted.rounds,
+            },
+        ),
     }
+    Ok(())
 }

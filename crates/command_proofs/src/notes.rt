@@ -1,14 +1,18 @@
 // What an answer does not show by itself, told after it.
-use command_text::print;
+use answers::say;
 
 // A sum over zero, whose numerator says nothing about the rows; and counted challenges, which everybody knows beforehand.
-pub fn print_notes(over_zero: bool, counted: bool) {
+pub fn say_notes(rt: &impl Print, over_zero: bool, counted: bool) {
     if over_zero {
-        print(
-            b"note: the denominator of the sum is zero, so that the proof says nothing about the rows\n",
+        say(
+            rt,
+            "note: the denominator of the sum is zero, so that the proof says nothing about the rows",
         );
     }
     if counted {
-        print(b"note: the challenges are counted, for demonstrations only\n");
+        say(
+            rt,
+            "note: the challenges are counted, for demonstrations only",
+        );
     }
 }

@@ -1,49 +1,54 @@
-// `replay PROOF ROUNDS LOG`: what `verify` prints, from the log of a run alone.
-use crate::verdict::{print_bad, print_good};
-use crate::verify::too_long;
-use command_files::After;
+// `replay PROOF ROUNDS LOG`: what `verify` tells, from the log of a run alone.
+use crate::verdict::{say_bad, say_good};
+use crate::verify::read_proof;
+use answers::Accepted;
+use command_files::fault::Fault;
 use command_files::logs::read_log;
 use refusal::Verifying;
 use std::rt::Files;
 use step::Frac;
-use verifier_round::Verdict;
+use verifier_round::Claims;
 
-fn replay_with(proof: &[u8], rounds: usize, modes: Verifying, log: &[u32]) {
+fn replay_bytes(rt: &impl Print, proof: &[u8], rounds: usize, modes: Verifying, log: &[u32]) {
     let mut point = [0u32; 40];
     let replayed = log_replay::replay(proof, rounds, modes, log, &mut point);
-    let verdict = replayed.verdict;
-    let used = replayed.used;
-    match verdict {
-        Verdict::Accepted { numer, denom } => print_good(
-            proof,
-            rounds,
-            Frac { p: numer, q: denom },
-            &point,
-            used,
-            false,
-        ),
-        Verdict::Refused(refusal) => print_bad(proof, refusal, used),
+    match replayed.verdict {
+        Ok(Claims { numer, denom }) => {
+            let accepted = Accepted {
+                stated: Frac { p: numer, q: denom },
+                point: &point,
+                rounds,
+            };
+            say_good(rt, proof, accepted, replayed.used, false);
+        }
+        Err(refusal) => say_bad(rt, proof, refusal, replayed.used),
     }
 }
 
-fn replay_bytes(rt: &impl Files, proof: &[u8], rounds: usize, modes: Verifying, log: &[u8]) {
+fn replay_files<'a>(
+    rt: &(impl Files + Print),
+    proof: &'a [u8],
+    rounds: usize,
+    modes: Verifying,
+    log: &'a [u8],
+) -> Result<(), Fault<'a>> {
+    let mut bytes = [0u8; 65536];
+    let proof = read_proof(rt, proof, &mut bytes)?;
     let mut words = [0u32; 964];
-    let given = read_log(rt, log, &mut words);
-    let n = given.count;
-    if given.good {
-        replay_with(proof, rounds, modes, &words[..n]);
-    }
+    let n = read_log(rt, log, &mut words)?;
+    replay_bytes(rt, proof, rounds, modes, &words[..n]);
+    Ok(())
 }
 
 // The names of the proof and of the log.
-pub fn replay(rt: &impl Files, proof: &[u8], rounds: usize, modes: Verifying, log: &[u8]) {
-    let mut bytes = [0u8; 65536];
-    let input = command_files::read(rt, proof, &mut bytes);
-    let n = input.count;
-    let after = input.after;
-    match after {
-        After::Failed => {}
-        After::More => too_long(proof),
-        After::End => replay_bytes(rt, &bytes[..n], rounds, modes, log),
+pub fn replay(
+    rt: &(impl Files + Print),
+    proof: &[u8],
+    rounds: usize,
+    modes: Verifying,
+    log: &[u8],
+) {
+    if let Err(fault) = replay_files(rt, proof, rounds, modes, log) {
+        fault.tell(rt);
     }
 }

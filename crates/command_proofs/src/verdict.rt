@@ -1,35 +1,31 @@
-// How `verify` and `replay` print what they end with: the verdict, the two claims and the point, or the refusal; and what was used up.
-use crate::notes::print_notes;
-use crate::refused::print_refused;
-use command_text::print;
+// How `verify` and `replay` tell what they end with: the verdict, the two claims and the point, or the refusal; and what was used up.
+use crate::notes::say_notes;
+use crate::refused::say_refused;
+use answers::{Accepted, say};
 use refusal::Refusal;
-use step::Frac;
+use std::fmt;
 use transcript::Used;
 
-fn print_used(used: Used) {
-    print(b"used ");
-    io::print_decimal(1, used.challenges as u64);
-    print(b" challenges, ");
-    io::print_decimal(1, used.words as u64);
-    print(b" log words\n");
+// The line of what was used up.
+#[derive(Clone, Copy)]
+struct UsedUp(Used);
+
+impl fmt::Display for UsedUp {
+    fn fmt<W: fmt::Write>(&self, f: &mut fmt::Formatter<W>) -> fmt::Result {
+        let Used { challenges, words } = self.0;
+        write!(f, "used {challenges} challenges, {words} log words")
+    }
 }
 
-// An accepted proof of so many rounds; whether its challenges were counted is told after it.
-pub fn print_good(
-    proof: &[u8],
-    rounds: usize,
-    stated: Frac,
-    point: &[u32],
-    used: Used,
-    counted: bool,
-) {
-    answers::print_accepted(stated.p, stated.q, point, rounds);
-    print_used(used);
-    print_notes(stored::is_over_zero(proof), counted);
+// An accepted proof; whether its challenges were counted is told after it.
+pub fn say_good(rt: &impl Print, proof: &[u8], accepted: Accepted<'_>, used: Used, counted: bool) {
+    say(rt, accepted);
+    say(rt, UsedUp(used));
+    say_notes(rt, stored::is_over_zero(proof), counted);
 }
 
 // What was refused, and what was used up until then.
-pub fn print_bad(proof: &[u8], refusal: Refusal, used: Used) {
-    print_refused(proof, refusal);
-    print_used(used);
+pub fn say_bad(rt: &impl Print, proof: &[u8], refusal: Refusal, used: Used) {
+    say_refused(rt, proof, refusal);
+    say(rt, UsedUp(used));
 }

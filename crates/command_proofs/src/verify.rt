@@ -1,84 +1,92 @@
-// `verify PROOF ROUNDS`: the verdict, the two claims and the point are printed, and whether the claims are a sheet's; the run's log goes to a file where one is named.
+// `verify PROOF ROUNDS`: the verdict, the two claims and the point are told, and whether the claims are a sheet's; the run's log goes to a file where one is named.
+ghost use Rattle.std.specs.Prelude.{◌≤◌, length, IfOk};
+
 use crate::challenges::{are_counted, lend_challenges};
 use crate::compare::compare_sheet;
-use crate::verdict::{print_bad, print_good};
-use command_files::After;
+use crate::verdict::{say_bad, say_good};
+use answers::Accepted;
+use command_files::fault::Fault;
 use command_files::logs::keep_log;
-use command_text::print;
+use command_files::{Input, read};
 use refusal::Verifying;
 use std::rt::Files;
 use step::Frac;
-use verifier_round::Verdict;
+use verifier_round::Claims;
 
-fn verify_with(
-    rt: &impl Files,
-    proof: &[u8],
-    rounds: usize,
-    modes: Verifying,
-    challenges: &[u32],
-    counted: bool,
-    sheet: &[u8],
-    log_path: &[u8],
-) {
-    let mut point = [0u32; 40];
-    let mut log = [0u32; 964];
-    let verified = verifier::verify_gkr(proof, rounds, modes, challenges, &mut point, &mut log);
-    let verdict = verified.verdict;
-    let used = verified.used;
-    keep_log(rt, log_path, &log, used.words);
-    match verdict {
-        Verdict::Accepted { numer, denom } => {
-            let stated = Frac { p: numer, q: denom };
-            print_good(proof, rounds, stated, &point, used, counted);
-            compare_sheet(rt, sheet, &point, rounds, stated);
+// What `verify` is asked: the names of the proof, of a text of challenges, of a sheet, and of a file for the log, the rounds and the modes. An empty name stands for counted
+// challenges, for no sheet, and for no log. Where challenges are drawn none are read.
+#[derive(Clone, Copy)]
+pub struct Asked<'a> {
+    pub proof: &'a [u8],
+    pub rounds: usize,
+    pub modes: Verifying,
+    pub challenges: &'a [u8],
+    pub sheet: &'a [u8],
+    pub log: &'a [u8],
+}
+
+impl<'a> Asked<'a> {
+    // The bytes of the proof, over lent challenges.
+    fn run(
+        self,
+        rt: &(impl Files + Print),
+        proof: &[u8],
+        challenges: &[u32],
+    ) -> Result<(), Fault<'a>> {
+        let Asked { rounds, modes, .. } = self;
+        let mut point = [0u32; 40];
+        let mut log = [0u32; 964];
+        let verified = verifier::verify_gkr(proof, rounds, modes, challenges, &mut point, &mut log);
+        if let Err(fault) = keep_log(rt, self.log, &log, verified.used.words) {
+            fault.tell(rt);
         }
-        Verdict::Refused(refusal) => print_bad(proof, refusal, used),
+        match verified.verdict {
+            Ok(Claims { numer, denom }) => {
+                let accepted = Accepted {
+                    stated: Frac { p: numer, q: denom },
+                    point: &point,
+                    rounds,
+                };
+                let counted = are_counted(self.challenges, modes.drawn);
+                say_good(rt, proof, accepted, verified.used, counted);
+                compare_sheet(rt, self.sheet, accepted)
+            }
+            Err(refusal) => {
+                say_bad(rt, proof, refusal, verified.used);
+                Ok(())
+            }
+        }
+    }
+
+    fn read_and_run(self, rt: &(impl Files + Print)) -> Result<(), Fault<'a>> {
+        let mut bytes = [0u8; 65536];
+        let proof = read_proof(rt, self.proof, &mut bytes)?;
+        let mut words = [0u32; 256];
+        let n = lend_challenges(rt, self.challenges, self.modes.drawn, &mut words)?;
+        self.run(rt, proof, &words[..n])
     }
 }
 
-fn verify_bytes(
+// The bytes of a proof. A file that is longer than any proof of ten rounds by far is not read to its end, and has no number.
+pub fn read_proof<'a, 'b>(
     rt: &impl Files,
-    proof: &[u8],
-    rounds: usize,
-    modes: Verifying,
-    challenges: &[u8],
-    sheet: &[u8],
-    log: &[u8],
-) {
-    let mut words = [0u32; 256];
-    let given = lend_challenges(rt, challenges, modes.drawn, &mut words);
-    let n = given.count;
-    if given.good {
-        let counted = are_counted(challenges, modes.drawn);
-        verify_with(rt, proof, rounds, modes, &words[..n], counted, sheet, log);
+    path: &'a [u8],
+    bytes: &'b mut [u8],
+) -> Result<&'b [u8], Fault<'a>>
+    ensures { IfOk result (λ proof. length proof.now ≤ length bytes.old) }
+{
+    match read(rt, path, bytes)? {
+        Input::Whole(proof) => Ok(proof),
+        Input::Front(_) => Err(Fault::TooLong {
+            path,
+            limit: "65536 bytes, and a proof of 10 rounds has 2832",
+        }),
     }
 }
 
-// A file that is longer than any proof of ten rounds by far is not read to its end, and has no number.
-pub fn too_long(proof: &[u8]) {
-    print(b"refused: ");
-    print(proof);
-    print(b" has more than 65536 bytes, and a proof of 10 rounds has 2832\n");
-}
-
-// The names of the proof, of a text of challenges, of a sheet, and of a file for the log; an empty one stands for counted challenges, for no sheet, and for no log. Where
-// challenges are drawn none are read.
-pub fn verify(
-    rt: &impl Files,
-    proof: &[u8],
-    rounds: usize,
-    modes: Verifying,
-    challenges: &[u8],
-    sheet: &[u8],
-    log: &[u8],
-) {
-    let mut bytes = [0u8; 65536];
-    let input = command_files::read(rt, proof, &mut bytes);
-    let n = input.count;
-    let after = input.after;
-    match after {
-        After::Failed => {}
-        After::More => too_long(proof),
-        After::End => verify_bytes(rt, &bytes[..n], rounds, modes, challenges, sheet, log),
+// Verifies, and says what stops it.
+pub fn verify(rt: &(impl Files + Print), asked: Asked<'_>) {
+    if let Err(fault) = asked.read_and_run(rt) {
+        fault.tell(rt);
     }
 }

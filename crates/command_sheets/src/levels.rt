@@ -1,74 +1,63 @@
 // The fraction tree, level by level: the rows, the sums of two rows, of four, and so on to the sum of all.
-ghost use Rattle.std.specs.Prelude.{◌≤◌, length};
+ghost use Rattle.std.specs.Prelude.{◌*◌, ◌≤◌, length};
 ghost use Rattle.field.specs.Cells.{Clean};
-ghost use Rattle.refusal.specs.Limits.{max_rows};
 
-use command_text::{print, print_count, print_fraction};
+use answers::say;
+use command_text::Fraction;
 use field::Ext;
+use std::fmt;
 use step::Frac;
 
-// Node k of the tree, as far as the workspace goes.
-fn print_node(work: &[u32], k: usize) {
-    if k < work.len() / 8 {
-        let i = 8 * k;
-        let p = Ext {
-            c0: work[i],
-            c1: work[i + 1],
-            c2: work[i + 2],
-            c3: work[i + 3],
-        };
-        let q = Ext {
-            c0: work[i + 4],
-            c1: work[i + 5],
-            c2: work[i + 6],
-            c3: work[i + 7],
-        };
-        print(b" ");
-        print_fraction(Frac { p, q });
+// The nodes of a level, a space before each.
+#[derive(Clone, Copy)]
+struct Level<'a>(&'a [[u32; 8]]);
+
+impl fmt::Display for Level<'_> {
+    fn fmt<W: fmt::Write>(&self, f: &mut fmt::Formatter<W>) -> fmt::Result {
+        for &[p0, p1, p2, p3, q0, q1, q2, q3] in self.0 {
+            let p = Ext {
+                c0: p0,
+                c1: p1,
+                c2: p2,
+                c3: p3,
+            };
+            let q = Ext {
+                c0: q0,
+                c1: q1,
+                c2: q2,
+                c3: q3,
+            };
+            write!(f, " {}", Fraction(Frac { p, q }))?;
+        }
+        Ok(())
     }
 }
 
-fn print_nodes(work: &[u32], from: usize, to: usize) {
-    for k in from..to {
-        print_node(work, k);
-    }
-    print(b"\n");
-}
-
-// The level that begins at a node, of the tree over so many rows.
-fn print_sums(work: &[u32], size: usize, first: usize)
-    requires { (1 ≤ first) × (first ≤ max_rows) }
+// The tree over so many rows, by its nodes: node 1 is the root, and the level of so many nodes begins at the node of that number.
+fn say_levels(rt: &impl Print, nodes: &[[u32; 8]], size: usize)
+    requires { (1 ≤ size) × (2 * size ≤ length nodes.now) }
 {
-    print(b"sums of ");
-    print_count(size / first);
-    print(b" rows:");
-    print_nodes(work, first, 2 * first);
-}
-
-fn print_levels(work: &[u32], size: usize)
-    requires { size ≤ max_rows }
-{
-    print(b"rows:");
-    print_nodes(work, size, 2 * size);
+    say(rt, format_args!("rows:{}", Level(&nodes[size..2 * size])));
     let mut first = size / 2;
     while 1 < first {
-        print_sums(work, size, first);
+        let level = Level(&nodes[first..2 * first]);
+        say(rt, format_args!("sums of {} rows:{level}", size / first));
         first /= 2;
     }
-    print(b"sum:");
-    print_nodes(work, 1, 2);
+    say(rt, format_args!("sum:{}", Level(&nodes[1..2])));
 }
 
 // The tree of the rows, a power of two of them or none.
-pub fn show_rows(rows: &[u32])
+pub fn show_rows(rt: &impl Print, rows: &[u32])
     requires room { length rows.now ≤ 8192 }
     requires clean { Clean rows.now }
 {
     let count = rows.len() / 8;
     if count == 0 {
-        return print(b"rows:\nsum: 0/1\n");
+        return say(rt, "rows:\nsum: 0/1");
     }
     let mut work = [0u32; 16384];
     prover_run::sum_rows(rows, count, &mut work);
-    print_levels(&work, count);
+    let (nodes, _) = work.as_chunks();
+    say_levels(rt, nodes, count);
 }

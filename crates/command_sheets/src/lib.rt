@@ -1,69 +1,76 @@
 // `show SHEET`: the fraction tree. `make TEXT SHEET`: a list of fractions becomes a sheet.
 #![tactic(auto)]
 
+ghost use Rattle.std.specs.Prelude.{◌≤◌, length, IfOk};
+
 use crate::levels::show_rows;
-use command_files::{After, inputs};
-use command_text::print;
-use command_text::refusals::{print_line_refusal, print_refusal};
+use answers::say;
+use command_files::fault::Fault;
+use command_files::inputs::read_sheet;
+use command_files::{Input, read, replace};
 use refusal::Refusal;
-use sheet_text::ListAnswer;
+use sheet_text::ListError;
 use sheet_text::list::read_list;
 use std::rt::Files;
-use stored_sheet::SheetAnswer;
 
 pub mod levels; // the fraction tree, level by level
 
+fn show_file<'a>(rt: &(impl Files + Print), sheet: &'a [u8]) -> Result<(), Fault<'a>> {
+    let mut rows = [0u32; 8192];
+    let n = read_sheet(rt, sheet, &mut rows)?;
+    show_rows(rt, &rows[..n]);
+    Ok(())
+}
+
 // The name of the sheet.
-pub fn show(rt: &impl Files, sheet: &[u8]) {
-    let mut rows = [0u32; 8192];
-    let given = inputs::read_sheet(rt, sheet, &mut rows);
-    let n = given.count;
-    if given.good {
-        show_rows(&rows[..n]);
+pub fn show(rt: &(impl Files + Print), sheet: &[u8]) {
+    if let Err(fault) = show_file(rt, sheet) {
+        fault.tell(rt);
     }
 }
 
-fn keep_sheet(rt: &impl Files, rows: &[u32], path: &[u8]) {
-    let mut sheet = [0u8; 32771];
-    match stored_sheet::write_sheet(rows, &mut sheet) {
-        SheetAnswer::Done(bytes) => {
-            let n = command_files::front(bytes, &sheet);
-            if command_files::replace(rt, path, &sheet[..n]) {
-                answers::print_number(b"rows ", (rows.len() / 8) as u64);
-            }
-        }
-        SheetAnswer::Refused(refusal) => print_refusal(refusal),
-    }
-}
-
-fn make_rows(rt: &impl Files, name: &[u8], text: &[u8], path: &[u8]) {
-    let mut rows = [0u32; 8192];
-    match read_list(text, &mut rows, true) {
-        ListAnswer::Done(n) => keep_sheet(rt, &rows[..n], path),
-        ListAnswer::Full(_) => print_refusal(Refusal::TooManyRows),
-        ListAnswer::Malformed(line) => print_line_refusal(
-            name,
+// The rows of a list of fractions, in the front of the rows; the name is that of the list.
+fn read_rows<'a>(name: &'a [u8], list: &[u8], rows: &mut [u32]) -> Result<usize, Fault<'a>>
+    ensures { IfOk result (λ n. n ≤ length rows.new) }
+{
+    read_list(list, rows, true).map_err(|error| match error {
+        ListError::Full(_) => Fault::Refused(Refusal::TooManyRows),
+        ListError::Malformed(line) => Fault::BadLine {
+            path: name,
             line,
-            b"a fraction p/q of elements",
-        ),
-    }
+            kind: "a fraction p/q of elements",
+        },
+    })
 }
 
-fn too_long(text: &[u8]) {
-    print(b"refused: ");
-    print(text);
-    print(b" has more than 262144 bytes\n");
+fn keep_sheet<'a>(rt: &impl Files, rows: &[u32], path: &'a [u8]) -> Result<(), Fault<'a>> {
+    let mut sheet = [0u8; 32771];
+    let n = stored_sheet::write_sheet(rows, &mut sheet)?.min(sheet.len());
+    replace(rt, path, &sheet[..n])
+}
+
+fn make_file<'a>(
+    rt: &(impl Files + Print),
+    text: &'a [u8],
+    sheet: &'a [u8],
+) -> Result<(), Fault<'a>> {
+    let mut bytes = [0u8; 262144];
+    let Input::Whole(list) = read(rt, text, &mut bytes)? else {
+        return Err(Fault::TooLong {
+            path: text,
+            limit: "262144 bytes",
+        });
+    };
+    let mut rows = [0u32; 8192];
+    let n = read_rows(text, list, &mut rows)?;
+    keep_sheet(rt, &rows[..n], sheet)?;
+    say(rt, format_args!("rows {}", n / 8));
+    Ok(())
 }
 
 // The names of the text and of the sheet.
-pub fn make(rt: &impl Files, text: &[u8], sheet: &[u8]) {
-    let mut bytes = [0u8; 262144];
-    let input = command_files::read(rt, text, &mut bytes);
-    let n = input.count;
-    let after = input.after;
-    match after {
-        After::Failed => {}
-        After::More => too_long(text),
-        After::End => make_rows(rt, text, &bytes[..n], sheet),
+pub fn make(rt: &(impl Files + Print), text: &[u8], sheet: &[u8]) {
+    if let Err(fault) = make_file(rt, text, sheet) {
+        fault.tell(rt);
     }
 }

@@ -1,64 +1,66 @@
-// Elements and fractions in short form, as the text reader takes them.
+// Elements, fractions and refusals in words, as the text reader takes them and as people read them.
 #![tactic(auto)]
 
+ghost use Rattle.std.specs.Prelude.{Some};
+ghost use Rattle.command_text.specs.Texts.{word_text, element_text, fraction_text};
+
 use field::{Base, Ext};
+use std::fmt;
+use std::fmt::Display;
 use step::Frac;
 
 mod bad_words; // where a bad word stands, in words
 pub mod log_places; // which word of a log a place names
 mod log_words; // and in words
-mod names; // of a layer's claims and sums
+pub mod names; // of a row's sides, a layer's claims and a sub-round's sums
 pub mod places; // which word a place names
 pub mod refusals; // the words of each refusal
 
-// A text, to standard output.
-pub fn print(text: &[u8]) {
-    io::write_all(1, text);
-}
-
-// A count, in decimal.
-pub fn print_count(n: usize) {
-    io::print_decimal(1, n as u64);
-}
+// The most that is told as it is: half the prime.
+const HALF: u32 = 1006632960;
 
 // A word above half the prime is told as minus the number that is missing to the prime.
-fn print_word(w: u32) {
-    if w > 1006632960 {
-        if w < Base::ORDER_U32 {
-            print(b"-");
-            io::print_decimal(1, (Base::ORDER_U32 - w) as u64);
-            return;
+#[derive(Clone, Copy)]
+struct Word(u32);
+
+impl Display for Word {
+    ghost output = { λ w. Some (word_text w.0) };
+
+    fn fmt<W: fmt::Write>(&self, f: &mut fmt::Formatter<W>) -> fmt::Result {
+        let word = self.0;
+        if HALF < word && word < Base::ORDER_U32 {
+            write!(f, "-{}", Base::ORDER_U32 - word)
+        } else {
+            write!(f, "{word}")
         }
     }
-    io::print_decimal(1, w as u64);
 }
 
-fn is_base(e: Ext) -> bool {
-    if e.c1 == 0 {
-        if e.c2 == 0 {
-            return e.c3 == 0;
+// An element in short form: one of the base is one number, any other its four words.
+#[derive(Clone, Copy)]
+pub struct Short(pub Ext);
+
+impl Display for Short {
+    ghost output = { λ e. Some (element_text e.0) };
+
+    fn fmt<W: fmt::Write>(&self, f: &mut fmt::Formatter<W>) -> fmt::Result {
+        let Ext { c0, c1, c2, c3 } = self.0;
+        write!(f, "{}", Word(c0))?;
+        if c1 == 0 && c2 == 0 && c3 == 0 {
+            return Ok(());
         }
+        write!(f, ",{},{},{}", Word(c1), Word(c2), Word(c3))
     }
-    false
-}
-
-// An element of the base is one number, any other its four words.
-pub fn print_element(e: Ext) {
-    print_word(e.c0);
-    if is_base(e) {
-        return;
-    }
-    print(b",");
-    print_word(e.c1);
-    print(b",");
-    print_word(e.c2);
-    print(b",");
-    print_word(e.c3);
 }
 
 // Numerator, slash, denominator.
-pub fn print_fraction(f: Frac) {
-    print_element(f.p);
-    print(b"/");
-    print_element(f.q);
+#[derive(Clone, Copy)]
+pub struct Fraction(pub Frac);
+
+impl Display for Fraction {
+    ghost output = { λ f. Some (fraction_text f.0) };
+
+    fn fmt<W: fmt::Write>(&self, f: &mut fmt::Formatter<W>) -> fmt::Result {
+        write!(f, "{}/{}", Short(self.0.p), Short(self.0.q))
+    }
 }

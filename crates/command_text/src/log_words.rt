@@ -1,50 +1,19 @@
 // The observation or challenge that a word of a log is of, in words: everything counted from 0.
 use crate::log_places::LogWord;
-use crate::names::{claim, subround, sum};
-use crate::{log_places, print, print_count};
+use std::fmt;
 
-fn end(word: usize) {
-    print(b", word ");
-    print_count(word);
-}
-
-fn challenge(name: &[u8], round: usize, word: usize) {
-    print(name);
-    print(b" of round ");
-    print_count(round);
-    end(word);
-}
-
-fn name(at: LogWord) {
-    match at {
-        LogWord::Size { word } => {
-            print(b"the size");
-            end(word);
+impl fmt::Display for LogWord {
+    fn fmt<W: fmt::Write>(&self, f: &mut fmt::Formatter<W>) -> fmt::Result {
+        match *self {
+            LogWord::Size { word } => write!(f, "the size, word {word}"),
+            LogWord::Root { word } => write!(f, "q0, word {word}"),
+            LogWord::Lambda { round, word } => write!(f, "lambda of round {round}, word {word}"),
+            LogWord::Sum { at, sum, word } => write!(f, "{at}, {sum}, word {word}"),
+            LogWord::Rho { at, word } => write!(f, "{at}, rho, word {word}"),
+            LogWord::Claim { layer, claim, word } => {
+                write!(f, "layer {layer}, {claim}, word {word}")
+            }
+            LogWord::Mu { round, word } => write!(f, "mu of round {round}, word {word}"),
         }
-        LogWord::Root { word } => {
-            print(b"q0");
-            end(word);
-        }
-        LogWord::Lambda { round, word } => challenge(b"lambda", round, word),
-        LogWord::Sum { at, which, word } => {
-            sum(at, which);
-            end(word);
-        }
-        LogWord::Rho { at, word } => {
-            subround(at);
-            print(b", rho");
-            end(word);
-        }
-        LogWord::Claim { layer, which, word } => {
-            claim(layer, which);
-            end(word);
-        }
-        LogWord::Mu { round, word } => challenge(b"mu", round, word),
     }
-}
-
-// After a refusal by a place in the log of a proof that binds its size, or does not.
-pub fn print_log_word(sized: bool, place: usize) {
-    print(b": ");
-    name(log_places::log_word(sized, place));
 }

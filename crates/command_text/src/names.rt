@@ -1,44 +1,98 @@
-// The names of a layer's claims and sums.
-use crate::places::SubroundAt;
-use crate::{print, print_count};
+// The names of a row's sides, of a layer's claims and of a sub-round's sums, by their numbers from 0.
+ghost use Rattle.std.specs.Prelude.{◌≡◌};
+ghost use Rattle.command_text.specs.Names.{side_of, claim_of, sum_of};
 
-fn claim_name(which: usize) {
-    match which {
-        0 => print(b", p0"),
-        1 => print(b", q0"),
-        2 => print(b", p1"),
-        _ => print(b", q1"),
+use std::fmt;
+
+// The numerator or the denominator of a row.
+#[derive(Clone, Copy)]
+pub enum Side {
+    P,
+    Q,
+}
+
+impl Side {
+    // The side with a number: 0 is p.
+    pub fn of(number: usize) -> Side
+        ensures { result ≡ side_of number }
+    {
+        match number {
+            0 => Side::P,
+            _ => Side::Q,
+        }
     }
 }
 
-fn sum_name(which: usize) {
-    match which {
-        0 => print(b", s(1)"),
-        1 => print(b", s(2)"),
-        _ => print(b", s(3)"),
+impl fmt::Display for Side {
+    fn fmt<W: fmt::Write>(&self, f: &mut fmt::Formatter<W>) -> fmt::Result {
+        f.write_str(match self {
+            Side::P => "p",
+            Side::Q => "q",
+        })
     }
-}
-
-fn layer(r: usize) {
-    print(b"layer ");
-    print_count(r);
 }
 
 // One of the four claims of a layer.
-pub fn claim(r: usize, which: usize) {
-    layer(r);
-    claim_name(which);
+#[derive(Clone, Copy)]
+pub enum Claim {
+    P0,
+    Q0,
+    P1,
+    Q1,
 }
 
-// A sub-round of a layer.
-pub fn subround(at: SubroundAt) {
-    layer(at.layer);
-    print(b", sub-round ");
-    print_count(at.subround);
+impl Claim {
+    // The claim with a number, in the order in which a proof has them.
+    pub fn of(number: usize) -> Claim
+        ensures { result ≡ claim_of number }
+    {
+        match number {
+            0 => Claim::P0,
+            1 => Claim::Q0,
+            2 => Claim::P1,
+            _ => Claim::Q1,
+        }
+    }
 }
 
-// One of its three sums.
-pub fn sum(at: SubroundAt, which: usize) {
-    subround(at);
-    sum_name(which);
+impl fmt::Display for Claim {
+    fn fmt<W: fmt::Write>(&self, f: &mut fmt::Formatter<W>) -> fmt::Result {
+        f.write_str(match self {
+            Claim::P0 => "p0",
+            Claim::Q0 => "q0",
+            Claim::P1 => "p1",
+            Claim::Q1 => "q1",
+        })
+    }
+}
+
+// The value of a sub-round's sum at 1, 2 or 3.
+#[derive(Clone, Copy)]
+pub enum Sum {
+    S1,
+    S2,
+    S3,
+}
+
+impl Sum {
+    // The value with a number, in the order in which a proof has them.
+    pub fn of(number: usize) -> Sum
+        ensures { result ≡ sum_of number }
+    {
+        match number {
+            0 => Sum::S1,
+            1 => Sum::S2,
+            _ => Sum::S3,
+        }
+    }
+}
+
+impl fmt::Display for Sum {
+    fn fmt<W: fmt::Write>(&self, f: &mut fmt::Formatter<W>) -> fmt::Result {
+        f.write_str(match self {
+            Sum::S1 => "s(1)",
+            Sum::S2 => "s(2)",
+            Sum::S3 => "s(3)",
+        })
+    }
 }

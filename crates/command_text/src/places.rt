@@ -2,11 +2,13 @@
 ghost use Rattle.std.specs.Prelude.{◌≡◌};
 ghost use Rattle.command_text.specs.Places.{row_word, element_word, layer_from, sum_word, proof_word};
 
-// A word of a row's p, side 0, or q, side 1.
+use crate::names::{Claim, Side, Sum};
+
+// A word of a row's p or q.
 #[derive(Clone, Copy)]
 pub struct RowWord {
     pub row: usize,
-    pub side: usize,
+    pub side: Side,
     pub word: usize,
 }
 
@@ -23,7 +25,7 @@ pub struct SubroundAt {
     pub subround: usize,
 }
 
-// A word of q0; of a layer's p0, q0, p1 or q1; of s(1), s(2) or s(3) of a layer's sub-round.
+// A word of q0, of a claim of a layer, or of a sum of a layer's sub-round.
 #[derive(Clone, Copy)]
 pub enum ProofWord {
     Root {
@@ -31,12 +33,12 @@ pub enum ProofWord {
     },
     Claim {
         layer: usize,
-        which: usize,
+        claim: Claim,
         word: usize,
     },
     Sum {
         at: SubroundAt,
-        which: usize,
+        sum: Sum,
         word: usize,
     },
 }
@@ -47,7 +49,7 @@ pub fn row_word(place: usize) -> RowWord
 {
     RowWord {
         row: place / 8,
-        side: place % 8 / 4,
+        side: Side::of(place % 8 / 4),
         word: place % 4,
     }
 }
@@ -63,23 +65,22 @@ pub fn element_word(place: usize) -> ElementWord
 }
 
 // Where a sub-round stands, counted over all entries of so many each: entry e is of layer e + 1.
+#[tactic(auto, using(crate::proofs::Layers::entry_go, crate::proofs::Layers::entry_stop, crate::proofs::Layers::entry_end))]
 pub fn subround_at(counts: &[usize], subround: usize) -> SubroundAt
     ensures { result ≡ layer_from 1 counts.now subround }
 {
     let mut left = subround;
-    let mut e = 0;
-    while e < counts.len() {
-        if left < counts[e] {
+    for (e, &count) in counts.iter().enumerate() {
+        if left < count {
             return SubroundAt {
                 layer: e + 1,
                 subround: left,
             };
         }
-        left -= counts[e];
-        e += 1;
+        left -= count;
     }
     SubroundAt {
-        layer: e + 1,
+        layer: counts.len() + 1,
         subround: left,
     }
 }
@@ -90,7 +91,7 @@ fn sum_word(counts: &[usize], place: usize) -> ProofWord
 {
     ProofWord::Sum {
         at: subround_at(counts, place / 12),
-        which: place % 12 / 4,
+        sum: Sum::of(place % 12 / 4),
         word: place % 4,
     }
 }
@@ -102,13 +103,14 @@ pub fn proof_word(layers: usize, counts: &[usize], place: usize) -> ProofWord
     if place < 4 {
         return ProofWord::Root { word: place };
     }
-    let claim = place - 4;
-    if claim / 16 < layers {
-        return ProofWord::Claim {
-            layer: claim / 16,
-            which: claim % 16 / 4,
-            word: claim % 4,
-        };
+    let place = place - 4;
+    if place / 16 < layers {
+        ProofWord::Claim {
+            layer: place / 16,
+            claim: Claim::of(place % 16 / 4),
+            word: place % 4,
+        }
+    } else {
+        sum_word(counts, place - 16 * layers)
     }
-    sum_word(counts, claim - 16 * layers)
 }

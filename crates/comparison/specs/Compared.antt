@@ -1,6 +1,7 @@
 -- Demand 3 and the evaluation of a sheet: over the same premises the verifier claims exactly what the evaluation answers, at the point that both sides wrote.
 -- Assumes nothing.
-use Rattle.std.specs.Prelude.{◌≡◌, true, List, ℕ, take}
+use Rattle.std.specs.Prelude.{◌≡◌, true, List, ℕ, take, Result, Ok}
+use Rattle.refusal.specs.declared.Refusal.{Refusal}
 use Rattle.field.specs.Ext as E
 use Rattle.field.specs.declared.Ext.{Ext}
 use Rattle.gkr.specs.Sizes.{point_words}
@@ -10,23 +11,21 @@ use Rattle.prover.specs.Proved as Prover
 use Rattle.prover.specs.Companions.{Sound}
 use Rattle.verifier.specs.Verified as Verifier
 use Rattle.verifier.specs.Verified.{Lent}
-use Rattle.verifier_round.specs.declared.Verdict.TheVariants.{Accepted}
 use Rattle.agreement.specs.Demand3.{Taken, root, Room, verdict}
-use Rattle.evaluation.specs.declared.Evaluation.{Evaluation}
-use Rattle.evaluation.specs.declared.Evaluation.TheVariants.{Done}
+use Rattle.evaluation.specs.declared.Values.{Values}
 use Rattle.evaluation.specs.Evaluated.{evaluated}
 
 -- the rows' evaluation at the front of a point buffer
-abbrev pub at_front : (rows : List ℕ) (n : ℕ) (point : List ℕ) → Evaluation
+abbrev pub at_front : (rows : List ℕ) (n : ℕ) (point : List ℕ) → Result Values Refusal
 at_front rows n point = evaluated rows (take (point_words n) point)
 
 -- a prover's outcome P and a verifier's outcome Q over the rows
 pub record Compared (rows : List ℕ) (n : ℕ) (P : Prover.Outcome) (Q : Verifier.Outcome) : Type 0 where
   pub numer : Ext
   pub denom : Ext
-  pub claimed : Q.answer ≡ Accepted numer denom
-  pub at_verified : at_front rows n Q.buffers.point ≡ Done n numer denom
-  pub at_proved : at_front rows n P.buffers.point ≡ Done n numer denom
+  pub claimed : Q.answer ≡ Ok (record { numer = numer; denom = denom })
+  pub at_verified : at_front rows n Q.buffers.point ≡ Ok (record { rounds = n; numer = numer; denom = denom })
+  pub at_proved : at_front rows n P.buffers.point ≡ Ok (record { rounds = n; numer = numer; denom = denom })
 
 abbrev pub Comparison : Type 0
 Comparison =

@@ -1,7 +1,7 @@
 -- The comparison, proved: the words of a point stand for it, and a sheet that both sides take is evaluated there.
 -- Assumes nothing.
-use Rattle.std.specs.Prelude.{◌≡◌, refl, Bool, true, false, cond, List, [], ◌∷◌, ◌++◌, ℕ, zero, suc, ◌+◌, ◌*◌, ◌^◌, ◌≤◌, length, take, drop}
-use Rattle.std.proofs.Common.{sym, ◌∙◌, ap, ap₂, subst, arith, take_at}
+use Rattle.std.specs.Prelude.{◌≡◌, refl, Bool, true, false, not, cond, List, [], ◌∷◌, ◌++◌, ℕ, zero, suc, ◌+◌, ◌*◌, ◌^◌, ◌≤◌, length, drop}
+use Rattle.std.proofs.Common.{sym, ◌∙◌, ap, ap₂, subst, arith, take_at, eq-eqb, le-ltb}
 use Rattle.std.proofs.Math.Nat.{one-le-pow}
 use Rattle.field.specs.Ext as E
 use Rattle.field.specs.ExtRing.{ExtRing}
@@ -13,21 +13,22 @@ use Rattle.field.specs.CellLaws.{cell_right, cell_words}
 use Rattle.field.proofs.PointLaws.{point_length}
 use Rattle.gkr.specs.Tree as Tree
 use Rattle.refusal.specs.Fronts.{over}
+use Rattle.refusal.specs.Tests.{passed, first_of}
+use Rattle.refusal.specs.TestLaws.{all_passed}
 use Rattle.refusal.specs.Limits as Limits
 use Rattle.refusal.specs.Limits.{max_rows}
-use Rattle.wire.specs.Words.{first_bad, all_canonical}
-use Rattle.wire.specs.WordLaws.{canonical_append, canonical_none, elem_canonical}
+use Rattle.wire.specs.Words.{all_canonical}
+use Rattle.wire.specs.WordLaws.{canonical_append, elem_canonical}
 use Rattle.step.specs.Values.{IsFrac}
 use Rattle.prover_tree.specs.Nodes.{node}
 use Rattle.sizes.specs.Sizes.{row_count, rounds_of, is_size}
 use Rattle.prover.specs.Proved as Prover
-use Rattle.agreement.specs.Demand3.{Taken, Agreed}
 use Rattle.sizes.specs.SizeLaws.{rounds_taken, size_taken, whole, counted}
 use Rattle.sizes.specs.LimitLaws.{rows_taken}
 use Rattle.agreement.proofs.Agreeing.{demand_3}
-use Rattle.evaluation.specs.Evaluated.{told, evaluated}
-use Rattle.evaluation.proofs.Answering.{done_some}
-use Rattle.comparison.specs.Compared.{at_front, Compared, Comparison}
+use Rattle.evaluation.specs.Evaluated.{told, tests, evaluated}
+use Rattle.evaluation.proofs.Answering.{told_some}
+use Rattle.comparison.specs.Compared.{at_front, Comparison}
 
 -- THE WORDS OF A POINT
 
@@ -55,10 +56,6 @@ point_canonical (x ∷ xs) = canonical_append (words x) (words_of_point xs) ∙ 
 
 -- A SHEET THAT IS TAKEN
 
--- a search for a bad word ends at the end
-none_bad : (ws : List ℕ) → all_canonical ws ≡ true → length ws ≤ first_bad ws
-none_bad ws h = omega (arith, canonical_none ws h)
-
 module _ (rows : List ℕ) (n : ℕ) (some : 1 ≤ n) (few : n ≤ Limits.max_rounds) (len : length rows ≡ 8 * 2 ^ n) (valid : all_canonical rows ≡ true) (zs : List E.Ext) (coordinates : length zs ≡ n) where
   abbrev ws : List ℕ
   ws = words_of_point zs
@@ -72,11 +69,15 @@ module _ (rows : List ℕ) (n : ℕ) (some : 1 ≤ n) (few : n ≤ Limits.max_ro
   evaluates : evaluated rows ws ≡ told n (Tree.value ExtRing (node rows) zs)
   evaluates =
       let e : row_count rows ≡ 2 ^ n = counted rows n len in
+      let k : rounds_of (row_count rows) ≡ n = ap rounds_of e ∙ rounds_taken n few in
       let z : row_count rows ≡ 0 → ⊥ = λ q. omega (arith, one-le-pow n 2 (omega arith), e, q) in
       let m : row_count rows ≤ max_rows = subst (λ k. k ≤ max_rows) (sym e) (rows_taken n few) in
       let v = Tree.value ExtRing (node rows) (cells ws 0 n) in
       let is : IsFrac (Prover.enc_frac v) v = record { p = is_enc v.p; q = is_enc v.q } in
-      sym (done_some rows ws (whole rows n len) m refl (ap is_size e ∙ size_taken n few) (sym (ap rounds_of e ∙ rounds_taken n few)) long refl (none_bad rows valid) refl (none_bad ws (point_canonical zs)) z is)
+      let p : first_of (tests rows ws) ≡ passed =
+      all_passed (tests rows ws)
+      (ap not (eq-eqb _ _ (whole rows n len)), (le-ltb _ _ m, (ap not (ap is_size e ∙ size_taken n few), (ap not (eq-eqb _ _ (long ∙ ap (λ j. 4 * j) (sym k))), (ap not valid, (ap not (point_canonical zs), tt)))))) in
+      sym (told_some rows ws (sym k) p z is)
       ∙ ap (told n) value
 
   pub at_point : (buffer : List ℕ) → at_front rows n (over ws buffer) ≡ told n (Tree.value ExtRing (node rows) zs)

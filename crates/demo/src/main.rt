@@ -1,15 +1,11 @@
 // Reads one sheet on standard input, of at most 64 rows, proves and verifies it, and prints the answers.
 #![tactic(auto)]
 
-fn more() -> bool {
-    let mut one = [0u8; 1];
-    io::read_full(0, &mut one) != 0
-}
-
-fn main() {
+fn main(rt: HostRuntime) {
     let mut sheet = [0u8; 2051];
     let mut rows = [0u32; 512];
     let mut work = [0u32; 2048];
     let n = io::read_full(0, &mut sheet);
-    show::show_input(&sheet[..n], more(), &mut rows, &mut work);
+    let more = io::read_full(0, &mut [0u8; 1]) != 0;
+    show::show_input(&rt, &sheet[..n], more, &mut rows, &mut work);
 }

@@ -5,12 +5,9 @@ use mathlib.Core.List.{List}
 use Prim.Native.Nat.{ℕ, zero, suc, ◌+◌, ◌-◌, ◌*◌, ◌^◌, ◌/◌, ◌<◌}
 use native.Mathlib.Nat.{two-pow-succ}
 use native.Mathlib.Omega.{arith}
-use lib.ListN.{length, take, drop, length-drop}
-use lib.Seq.{take_all}
+use lib.ListN.{length, take, drop}
 use Rattle.field.specs.Ext as E
 use Rattle.field.specs.ExtRing.{ExtRing}
-use Rattle.field.specs.declared.Ext.{Ext}
-use Rattle.field.specs.Element.{dec, Is}
 use Rattle.field.specs.ElementLaws.{is_eq}
 use Rattle.field.specs.Cells.{cell, cells}
 use Rattle.field.specs.CellLaws.{cell_take, cell_drop}
@@ -20,7 +17,7 @@ use Rattle.multilinear.proofs.TableLaws as TableLaws
 use Rattle.gkr.specs.Run.{Frac}
 use Rattle.gkr.specs.Tree as Tree
 use Rattle.step.specs.declared.Frac.{Frac as FracW}
-use Rattle.step.specs.Values.{CanonFrac, IsFrac, dec_frac, zip_frac, line}
+use Rattle.step.specs.Values.{IsFrac, dec_frac, zip_frac, line}
 use Rattle.prover_tree.specs.Nodes.{node}
 
 pub half : (n l : ℕ) → (n ≡ 0 → ⊥) → l ≡ 8 * 2 ^ n → (l / 2 ≡ 8 * 2 ^ (n - 1)) × (l ≡ l / 2 + l / 2)
@@ -29,9 +26,6 @@ half (suc n) l h e = let z : suc n - 1 ≡ n = omega arith in rw z (omega (arith
 
 pub is_frac : {r : FracW} {x y : Frac E.Ext} → IsFrac r x → x ≡ y → IsFrac r y
 is_frac h e = record { p = is_eq h.p (ap (λ (f : Frac E.Ext). f.p) e); q = is_eq h.q (ap (λ (f : Frac E.Ext). f.q) e) }
-
-pub canon_frac : {r : FracW} {x : Frac E.Ext} → IsFrac r x → CanonFrac r
-canon_frac h = record { p = h.p.canon; q = h.q.canon }
 
 -- A column whose halves lo and hi are known at the first k coordinates: coordinate k is between them.
 join : (t lo hi : ℕ → E.Ext) (x : List ℕ) (k : ℕ) → ((i : ℕ) → i < 2 ^ k → lo i ≡ t i) → ((i : ℕ) → i < 2 ^ k → hi i ≡ t (2 ^ k + i))
@@ -79,23 +73,16 @@ rows_one n l x {r} e h =
 lines : (z : E.Ext) {a b : FracW} {u v : Frac E.Ext} → IsFrac a u → IsFrac b v → zip_frac (line z) (dec_frac a) (dec_frac b) ≡ zip_frac (line z) u v
 lines z h k = λ t. record { p = line z (h.p.value t) (k.p.value t); q = line z (h.q.value t) (k.q.value t) }
 
--- two lines at what was read as z
-pub mixed : (z : E.Ext) (a b : FracW) {w p q : Ext} → Is w z → Is p (line (dec w) (dec a.p) (dec b.p)) → Is q (line (dec w) (dec a.q) (dec b.q)) → IsFrac (record { p = p; q = q }) (zip_frac (line z) (dec_frac a) (dec_frac b))
-mixed z a b h u v = record { p = is_eq u (ap (λ (y : E.Ext). line y (dec a.p) (dec b.p)) h.value); q = is_eq v (ap (λ (y : E.Ext). line y (dec a.q) (dec b.q)) h.value) }
-
 -- both halves are known
-pub rows_halved : (n : ℕ) (l x : List ℕ) {a b r : FracW} → (n ≡ 0 → ⊥) → length l ≡ 8 * 2 ^ n
-    → IsFrac a (Tree.value ExtRing (node (take (length l / 2) l)) (cells x 0 (n - 1)))
-    → IsFrac b (Tree.value ExtRing (node (take (length l - length l / 2) (drop (length l / 2) l))) (cells x 0 (n - 1)))
+pub rows_halved : (n : ℕ) (l x lo hi : List ℕ) {a b r : FracW} → (n ≡ 0 → ⊥) → length l ≡ 8 * 2 ^ n → lo ≡ take (length l / 2) l → hi ≡ drop (length l / 2) l
+    → IsFrac a (Tree.value ExtRing (node lo) (cells x 0 (n - 1))) → IsFrac b (Tree.value ExtRing (node hi) (cells x 0 (n - 1)))
     → IsFrac r (zip_frac (line (cell x (n - 1))) (dec_frac a) (dec_frac b)) → IsFrac r (Tree.value ExtRing (node l) (cells x 0 n))
-rows_halved zero l x z len ha hb hr = absurd (z refl)
-rows_halved (suc k) l x {a} {b} z len ha hb hr =
+rows_halved zero l x lo hi z len el eh ha hb hr = absurd (z refl)
+rows_halved (suc k) l x lo hi {a} {b} z len el eh ha hb hr =
     let q : suc k - 1 ≡ k = omega arith in
     let h : length l / 2 ≡ 8 * 2 ^ k = (half (suc k) (length l) z len).0 ∙ ap (λ j. 8 * 2 ^ j) q in
-    let d : take (length l - length l / 2) (drop (length l / 2) l) ≡ drop (8 * 2 ^ k) l =
-    take_all (length l - length l / 2) (drop (length l / 2) l) (omega (arith, length-drop (length l / 2) l)) ∙ ap (λ m. drop m l) h in
     let ha' : IsFrac a (Tree.value ExtRing (node (take (8 * 2 ^ k) l)) (cells x 0 k)) =
-    is_frac ha (ap₂ (λ m j. Tree.value ExtRing (node (take m l)) (cells x 0 j)) h q) in
+    is_frac ha (ap₂ (λ m j. Tree.value ExtRing (node m) (cells x 0 j)) (el ∙ ap (λ m. take m l) h) q) in
     let hb' : IsFrac b (Tree.value ExtRing (node (drop (8 * 2 ^ k) l)) (cells x 0 k)) =
-    is_frac hb (ap₂ (λ m j. Tree.value ExtRing (node m) (cells x 0 j)) d q) in
+    is_frac hb (ap₂ (λ m j. Tree.value ExtRing (node m) (cells x 0 j)) (eh ∙ ap (λ m. drop m l) h) q) in
     is_frac hr (ap (λ j. zip_frac (line (cell x j)) (dec_frac a) (dec_frac b)) q ∙ lines (cell x k) ha' hb' ∙ joined k l x)

@@ -30,8 +30,8 @@ pub fn eval_rows_by_halves(rows: &[u32], x: &[u32], n: usize) -> Frac
     if n == 0 {
         return prover_tree::load_node(rows, 0);
     }
-    let h = rows.len() / 2;
-    let a = eval_rows_by_halves(&rows[..h], x, n - 1);
-    let b = eval_rows_by_halves(&rows[h..], x, n - 1);
+    let (lower, upper) = rows.split_at(rows.len() / 2);
+    let a = eval_rows_by_halves(lower, x, n - 1);
+    let b = eval_rows_by_halves(upper, x, n - 1);
     mix(x, n - 1, a, b)
 }

@@ -2,80 +2,80 @@
 #![tactic(auto)]
 
 ghost use Rattle.std.specs.Prelude.{◌≡◌};
-ghost use Rattle.evaluation.specs.declared.Evaluation.TheVariants.{Done};
+ghost use Rattle.field.specs.Ext as E;
+ghost use Rattle.step.specs.Values.{IsFrac};
 ghost use Rattle.evaluation.specs.Evaluated.{evaluated};
 ghost use Rattle.evaluation.specs.Report.{evaluation_report};
 
-use field::Ext;
+use field::{Ext, Field};
 use refusal::{Refusal, Report, Words};
 use step::Frac;
 
 pub mod halves; // both values, by halves of the rows
 
-// Done tells n, and the values of the columns p and q.
+// n, and the values of the columns p and q.
 #[derive(Clone, Copy)]
-pub enum Evaluation {
-    Done {
-        rounds: usize,
-        numer: Ext,
-        denom: Ext,
-    },
-    Refused(Refusal),
+pub struct Values {
+    pub rounds: usize,
+    pub numer: Ext,
+    pub denom: Ext,
 }
 
-// n, and both values.
-fn done(rounds: usize, value: Frac) -> Evaluation
-    ensures { result ≡ Done rounds value.p value.q }
+// The values, or the first refusal that fits.
+pub type Evaluation = Result<Values, Refusal>;
+
+// The sum of no rows.
+#[tactic(auto, using(field::specs::ElementLaws::zero_is, field::specs::ElementLaws::one_is))]
+fn empty_sum() -> Frac
+    ensures { IsFrac result (record { p = E.nil; q = E.one }) }
 {
-    let numer = value.p;
-    let denom = value.q;
-    Evaluation::Done {
-        rounds,
-        numer,
-        denom,
+    Frac {
+        p: Ext::ZERO,
+        q: Ext::ONE,
     }
 }
 
 // Both columns of the rows at the point: row words, eight a row, and the point's words, four a round.
+#[tactic(auto, using(crate::proofs::Answering::searches, crate::proofs::Answering::rows_length), unfolding(crate::specs::Evaluated::evaluated, refusal::specs::Tests::first_of))]
 pub fn evaluate(rows: &[u32], point: &[u32]) -> Evaluation
     ensures { result ≡ evaluated rows.now point.now }
 {
     let count = rows.len() / 8;
     if rows.len() % 8 != 0 {
-        return Evaluation::Refused(Refusal::RaggedRows);
+        return Err(Refusal::RaggedRows);
     }
     if refusal::MAX_ROWS < count {
-        return Evaluation::Refused(Refusal::TooManyRows);
+        return Err(Refusal::TooManyRows);
     }
     if !sizes::is_size(count) {
-        return Evaluation::Refused(Refusal::NotPowerOfTwo);
+        return Err(Refusal::NotPowerOfTwo);
     }
-    let n = sizes::least_size(count).n;
+    let n = sizes::rounds_of(count);
     if point.len() != 4 * n {
-        return Evaluation::Refused(Refusal::BadLength);
+        return Err(Refusal::BadLength);
     }
-    let place = wire::first_bad_word(rows);
-    if place < rows.len() {
-        return Evaluation::Refused(Refusal::BadWord {
+    if let Some(place) = wire::first_bad_word(rows) {
+        return Err(Refusal::BadWord {
             place,
             list: Words::Rows,
         });
     }
-    let place = wire::first_bad_word(point);
-    if place < point.len() {
-        return Evaluation::Refused(Refusal::BadWord {
+    if let Some(place) = wire::first_bad_word(point) {
+        return Err(Refusal::BadWord {
             place,
             list: Words::Point,
         });
     }
-    if count == 0 {
-        return Evaluation::Done {
-            rounds: 0,
-            numer: Ext::ZERO,
-            denom: Ext::ONE,
-        };
-    }
-    done(n, halves::eval_rows_by_halves(rows, point, n))
+    let value = if count == 0 {
+        empty_sum()
+    } else {
+        halves::eval_rows_by_halves(rows, point, n)
+    };
+    Ok(Values {
+        rounds: n,
+        numer: value.p,
+        denom: value.q,
+    })
 }
 
 // The answer as document 01 has it: its number, and its values.
@@ -83,11 +83,7 @@ pub fn number_and_values(answer: Evaluation) -> Report
     ensures { result ≡ evaluation_report answer }
 {
     match answer {
-        Evaluation::Done {
-            rounds,
-            numer,
-            denom,
-        } => refusal::done(rounds, numer, denom),
-        Evaluation::Refused(r) => refusal::number_and_fields(r),
+        Ok(values) => refusal::done(values.rounds, values.numer, values.denom),
+        Err(refusal) => Report::from(refusal),
     }
 }

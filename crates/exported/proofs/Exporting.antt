@@ -9,7 +9,6 @@ use lib.ListN.{take}
 use Rattle.field.specs.Ext as E
 use Rattle.field.specs.ExtRing.{ExtRing}
 use Rattle.field.specs.Element.{enc}
-use Rattle.field.specs.declared.Ext.{Ext}
 use Rattle.gkr.specs.Run.{Frac}
 use Rattle.gkr.specs.Sizes.{proof_bytes, challenges}
 use Rattle.gkr.specs.Transcripts.{empty}
@@ -25,11 +24,11 @@ use Rattle.stored.specs.Parse.{sized}
 use Rattle.step.specs.declared.Frac.{Frac as FracW}
 use Rattle.prover_tree.specs.Nodes.{node}
 use Rattle.prover_gate.specs.Refusals.{Call}
-use Rattle.prover.specs.Proved.{Buffers, rooms_of, proved}
+use Rattle.prover.specs.Proved.{Buffers, rooms_of, proved, summed}
 use Rattle.prover.specs.Report.{answer_report}
-use Rattle.prover.specs.declared.Answer.TheVariants.{Done}
 use Rattle.prover.proofs.UsedUp.{using_up}
-use Rattle.verifier_round.specs.declared.Verdict.TheVariants.{Accepted}
+use Rattle.std.specs.Prelude.{Ok}
+use Rattle.verifier_round.specs.declared.Claims.{Claims}
 use Rattle.verifier.specs.Verified.{Asked, Lent, asked, verified}
 use Rattle.verifier.proofs.UsedUp.{used_up_is}
 use Rattle.agreement.specs.Demand3.{root}
@@ -54,7 +53,7 @@ telling field f z n h few =
     λ i. done (mod-eq_of_lt h i) f (used (mod-eq_of_lt drawn i) (mod-eq_of_lt (log_small z n few) i))
 
 -- which is what a prover that is done has used up
-proved_whole : (c : Call) (b : Buffers) (n : ℕ) (s : FracW) → c.modes.assert_zero ≡ true → (proved c b).answer ≡ Done n s → (proved c b).used ≡ whole c.modes.sized n
+proved_whole : (c : Call) (b : Buffers) (n : ℕ) (s : FracW) → c.modes.assert_zero ≡ true → (proved c b).answer ≡ summed n s → (proved c b).used ≡ whole c.modes.sized n
 unfolding proved
 proved_whole c b n s a h = (using_up c (rooms_of b)).done n s h ∙ ap (λ x. used (challenges n) (log_room x c.modes.sized n)) a
 
@@ -73,8 +72,8 @@ version c how (suc m) b v h =
     ap sized (front c how.live m b v s.taken room s.sound begin ends) ∙ (back c how.live m b v s.taken room s.sound begin ends).sized
 
 -- so the verifier has used up as much
-verified_whole : (c : Call) (how : Verifying) (n : ℕ) (b : Buffers) (v : Lent) → Premises c how n b v → (x y : Ext) → (verified (asked_of c how n b) v).answer ≡ Accepted x y → (verified (asked_of c how n b) v).used ≡ whole c.modes.sized n
-verified_whole c how n b v h x y e = (used_up_is (asked_of c how n b) v).whole x y e h.sheet.taken.some ∙ ap (λ z. whole z n) (version c how n b v h)
+verified_whole : (c : Call) (how : Verifying) (n : ℕ) (b : Buffers) (v : Lent) → Premises c how n b v → (x : Claims) → (verified (asked_of c how n b) v).answer ≡ Ok x → (verified (asked_of c how n b) v).used ≡ whole c.modes.sized n
+verified_whole c how n b v h x e = (used_up_is (asked_of c how n b) v).whole x e h.sheet.taken.some ∙ ap (λ z. whole z n) (version c how n b v h)
 
 -- THE THEOREM
 pub demand_3_exported : Demand3Exported
@@ -87,7 +86,7 @@ demand_3_exported c how n b v h =
       point = A.point;
       logged = A.logged;
       proved = ap₂ (λ a u. tells (answer_report a) u) A.done (proved_whole c b n _ s.asserted A.done) ∙ telling n (root c n) c.modes.sized n (omega (arith, s.taken.few)) s.taken.few;
-      accepted = ap₂ (λ a u. tells (verdict_report a) u) A.accepted (verified_whole c how n b v h _ _ A.accepted) ∙ telling 0 (Tree.value ExtRing (node c.rows) A.point) c.modes.sized n (omega arith) s.taken.few;
+      accepted = ap₂ (λ a u. tells (verdict_report a) u) A.accepted (verified_whole c how n b v h _ A.accepted) ∙ telling 0 (Tree.value ExtRing (node c.rows) A.point) c.modes.sized n (omega arith) s.taken.few;
       coordinates = A.coordinates;
       proved_point = A.proved_point;
       verified_point = A.verified_point;

@@ -24,18 +24,16 @@ use Rattle.refusal.specs.Tests.{Tested, passed, refused, first_of}
 use Rattle.sizes.specs.Sizes.{row_count, rounds_of}
 use Rattle.sizes.specs.SizeLaws.{few_rounds}
 use Rattle.prover_tree.specs.Nodes.{node}
-use Rattle.verifier_round.specs.declared.Verdict.{Verdict}
-use Rattle.verifier_round.specs.declared.Verdict.TheVariants.{Accepted, Refused}
+use Rattle.std.specs.Prelude.{Result, Ok, Err}
+use Rattle.verifier_round.specs.declared.Claims.{Claims}
 use Rattle.verifier_round.specs.Report.{verdict_report}
-use Rattle.evaluation.specs.declared.Evaluation.{Evaluation}
-use Rattle.evaluation.specs.declared.Evaluation.TheVariants as Ends
-use Rattle.evaluation.specs.declared.Evaluation.TheVariants.{Done}
+use Rattle.evaluation.specs.declared.Values.{Values}
 use Rattle.evaluation.specs.Report.{evaluation_report}
 use Rattle.evaluation.specs.Evaluated.{told, tests, valued, evaluated}
 use Rattle.accudrina.specs.Answer.{tells, answer_words}
 use Rattle.accudrina.specs.Modes.{unknown_mode}
 use Rattle.accudrina.specs.Calls.{Returned, taking, evaluating}
-use Rattle.verdict_sound.proofs.Sheets.{not_done, rounds_told}
+use Rattle.verdict_sound.proofs.Sheets.{done as found, not_done, rounds_told}
 use Rattle.exported.specs.Exported.{done}
 
 -- NO REFUSAL HAS THE NUMBER 0
@@ -97,29 +95,30 @@ module _ (n k : ℕ) (p q : Ext) (f : Frac E.Ext) (u u' : Used) (h : tells (elem
 
 -- WHAT WAS ANSWERED
 
-pub accepted_told : (x : Verdict) (f : Frac E.Ext) (u u' : Used) → tells (verdict_report x) u ≡ done 0 f u' → x ≡ Accepted (enc f.p) (enc f.q)
-accepted_told (Accepted p q) f u u' h = λ i. Accepted (first_told 0 0 p q f u u' h i) (second_told 0 0 p q f u u' h i)
-accepted_told (Refused e) f u u' h = absurd (not_zero e (ap (λ t. t.number) h))
+pub accepted_told : (x : Result Claims Refusal) (f : Frac E.Ext) (u u' : Used) → tells (verdict_report x) u ≡ done 0 f u' → x ≡ Ok (record { numer = enc f.p; denom = enc f.q })
+accepted_told (Ok c) f u u' h = λ i. Ok (record { numer = first_told 0 0 c.numer c.denom f u u' h i; denom = second_told 0 0 c.numer c.denom f u u' h i })
+accepted_told (Err e) f u u' h = absurd (not_zero e (ap (λ t. t.number) h))
 
-done_told : (x : Evaluation) (k : ℕ) (f : Frac E.Ext) → ((n : ℕ) (p q : Ext) → x ≡ Done n p q → n ≤ 10) → tells (evaluation_report x) unused ≡ done k f unused → x ≡ Done k (enc f.p) (enc f.q)
-done_told (Done n p q) k f few h = λ i. Done (field_told n k p q f unused unused h (few n p q refl) i) (first_told n k p q f unused unused h i) (second_told n k p q f unused unused h i)
-done_told (Ends.Refused e) k f few h = absurd (not_zero e (ap (λ t. t.number) h))
+done_told : (x : Result Values Refusal) (k : ℕ) (f : Frac E.Ext) → ((v : Values) → x ≡ Ok v → v.rounds ≤ 10) → tells (evaluation_report x) unused ≡ done k f unused → x ≡ found k (enc f.p) (enc f.q)
+done_told (Ok v) k f few h =
+    λ i. found (field_told v.rounds k v.numer v.denom f unused unused h (few v refl) i) (first_told v.rounds k v.numer v.denom f unused unused h i) (second_told v.rounds k v.numer v.denom f unused unused h i)
+done_told (Err e) k f few h = absurd (not_zero e (ap (λ t. t.number) h))
 
 -- an evaluation has at most ten rounds
-few_told : (rows point : List ℕ) (n : ℕ) (p q : Ext) → evaluated rows point ≡ Done n p q → n ≤ 10
+few_told : (rows point : List ℕ) (v : Values) → evaluated rows point ≡ Ok v → v.rounds ≤ 10
 unfolding evaluated
-few_told rows point n p q h = by_tests (first_of (tests rows point)) h
+few_told rows point v h = by_tests (first_of (tests rows point)) h
   where
     k : ℕ
     k = rounds_of (row_count rows)
 
-    by_rows : (b : Bool) → cond b (told 0 (record { p = E.nil; q = E.one })) (told k (Tree.value ExtRing (node rows) (cells point 0 k))) ≡ Done n p q → n ≤ 10
-    by_rows true e = omega (arith, rounds_told 0 n (record { p = E.nil; q = E.one }) p q e)
-    by_rows false e = omega (arith, rounds_told k n (Tree.value ExtRing (node rows) (cells point 0 k)) p q e, few_rounds (row_count rows))
+    by_rows : (b : Bool) → cond b (told 0 (record { p = E.nil; q = E.one })) (told k (Tree.value ExtRing (node rows) (cells point 0 k))) ≡ Ok v → v.rounds ≤ 10
+    by_rows true e = omega (arith, rounds_told 0 v.rounds (record { p = E.nil; q = E.one }) v.numer v.denom e)
+    by_rows false e = omega (arith, rounds_told k v.rounds (Tree.value ExtRing (node rows) (cells point 0 k)) v.numer v.denom e, few_rounds (row_count rows))
 
-    by_tests : (w : Tested) → valued rows point w ≡ Done n p q → n ≤ 10
-    by_tests (refused r) e = absurd (not_done n p q r e)
+    by_tests : (w : Tested) → valued rows point w ≡ Ok v → v.rounds ≤ 10
+    by_tests (refused r) e = absurd (not_done v.rounds v.numer v.denom r e)
     by_tests passed e = by_rows (eqb (row_count rows) 0) e
 
-pub evaluated_told : (rows point : List ℕ) (k : ℕ) (f : Frac E.Ext) → evaluating rows point ≡ done k f unused → evaluated rows point ≡ Done k (enc f.p) (enc f.q)
+pub evaluated_told : (rows point : List ℕ) (k : ℕ) (f : Frac E.Ext) → evaluating rows point ≡ done k f unused → evaluated rows point ≡ found k (enc f.p) (enc f.q)
 evaluated_told rows point k f h = done_told (evaluated rows point) k f (few_told rows point) h

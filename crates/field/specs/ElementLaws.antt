@@ -1,7 +1,8 @@
 -- Words and elements are one another's inverses on canonical words, so no second answer fits.
 -- Assumes nothing.
-use Rattle.std.specs.Prelude.{◌≡◌, refl, true, ℕ, ◌<◌}
-use Rattle.std.proofs.Common.{sym, ◌∙◌, ap, subst, mod-eq_of_lt, arith, ltb-true, lt-ltb}
+use Rattle.std.specs.Prelude.{◌≡◌, refl, Bool, true, not, ◌&&◌, ℕ, ◌<◌, eqb, ltb}
+use Rattle.std.proofs.Common.{sym, ◌∙◌, ap, ap₂, subst, mod-eq_of_lt, arith, ltb-true, lt-ltb}
+use Rattle.field.specs.Base as B
 use Rattle.field.specs.Base.{F, P, of}
 use Rattle.field.specs.BaseRing.{val_of, val_lt, of_val}
 use Rattle.field.specs.Ext as E
@@ -32,6 +33,30 @@ base_dec_enc x = of_val x
 
 pub base_enc_dec : (b : Base) → b.value < P → W.enc (W.dec b) ≡ b
 base_enc_dec b h = λ i. record { value = word_of b.value h i }
+
+pub base_canonical : (b : Base) → ltb b.value P ≡ true → W.enc (W.dec b) ≡ b
+base_canonical b e = base_enc_dec b (ltb-true b.value P e)
+
+-- the constants of the base
+pub base_zero : ◌≡◌ {A = Base} (record { value = 0 }) (W.enc B.nil)
+unfolding arithmetic
+base_zero = refl
+
+pub base_one : ◌≡◌ {A = Base} (record { value = 1 }) (W.enc B.one)
+unfolding arithmetic
+base_one = refl
+
+pub base_two : ◌≡◌ {A = Base} (record { value = 2 }) (W.enc (B.add B.one B.one))
+unfolding arithmetic
+base_two = refl
+
+pub base_half : ◌≡◌ {A = Base} (record { value = 1006632961 }) (W.enc B.half)
+unfolding arithmetic
+base_half = refl
+
+pub base_sixth : ◌≡◌ {A = Base} (record { value = 1677721601 }) (W.enc B.sixth)
+unfolding arithmetic
+base_sixth = refl
 
 -- ---- four words
 pub dec_enc : (x : E.Ext) → dec (enc x) ≡ x
@@ -86,6 +111,18 @@ pub two_is : Is (record { c0 = 2; c1 = 0; c2 = 0; c3 = 0 }) E.two
 unfolding arithmetic
 two_is = record { canon = small 2 (omega arith); value = refl }
 
+pub one_and_one_is : Is (record { c0 = 2; c1 = 0; c2 = 0; c3 = 0 }) (E.add E.one E.one)
+unfolding arithmetic
+one_and_one_is = record { canon = small 2 (omega arith); value = refl }
+
+pub half_is : Is (record { c0 = 1006632961; c1 = 0; c2 = 0; c3 = 0 }) E.half
+unfolding arithmetic
+half_is = record { canon = small 1006632961 (omega arith); value = refl }
+
+pub sixth_is : Is (record { c0 = 1677721601; c1 = 0; c2 = 0; c3 = 0 }) E.sixth
+unfolding arithmetic
+sixth_is = record { canon = small 1677721601 (omega arith); value = refl }
+
 -- ---- the tests
 pub canon_true : (e : Ext) → canon_words e ≡ true → Canon e
 unfolding canon_words
@@ -99,10 +136,26 @@ pub canon_of : (e : Ext) → Canon e → canon_words e ≡ true
 unfolding canon_words
 canon_of e h = rw (lt-ltb e.c0 P h.c0, lt-ltb e.c1 P h.c1, lt-ltb e.c2 P h.c2, lt-ltb e.c3 P h.c3)
 
+-- on words of elements `==` is the test on elements
+pub same_of_enc : (x y : E.Ext) → (eqb x.c0.val y.c0.val && (eqb x.c1.val y.c1.val && (eqb x.c2.val y.c2.val && eqb x.c3.val y.c3.val))) ≡ E.same x y
+unfolding E.same
+same_of_enc x y = refl
+
+-- what `a == b`, which is derived, answers is the test on words
+pub equal_words : (a b : Ext) {r : Bool} → r ≡ (eqb a.c0 b.c0 && (eqb a.c1 b.c1 && (eqb a.c2 b.c2 && eqb a.c3 b.c3))) → r ≡ same_words a b
+unfolding same_words
+equal_words a b e = e
+
+-- the same of `a != b`
+pub differ_words : (a b : Ext) {r : Bool} → r ≡ not (eqb a.c0 b.c0 && (eqb a.c1 b.c1 && (eqb a.c2 b.c2 && eqb a.c3 b.c3))) → not (same_words a b) ≡ r
+unfolding same_words
+differ_words a b e = sym e
+
 -- on words of elements the test on words is the test on elements
 pub same_enc : (x y : E.Ext) → same_words (enc x) (enc y) ≡ E.same x y
 unfolding same_words E.same
 same_enc x y = refl
 
 pub same_is : {a b : Ext} {x y : E.Ext} → Is a x → Is b y → same_words a b ≡ E.same x y
-same_is {x = x} {y = y} h k = cc (enc_of_is h, enc_of_is k, same_enc x y)
+unfolding same_words E.same
+same_is h k = ap₂ same_words (enc_of_is h) (enc_of_is k)

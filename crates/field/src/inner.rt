@@ -4,8 +4,8 @@ ghost use Rattle.field.specs.Base.{of};
 ghost use Rattle.field.specs.Ext as E;
 ghost use Rattle.field.specs.Element.{dec, Canon, Is};
 
-use crate::Ext;
 use crate::words::{add_word, dot, eleven, mul_word, rest_word, sub_word};
+use crate::{Ext, Field};
 
 impl Ext {
     // The sum.

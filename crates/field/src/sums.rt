@@ -8,6 +8,7 @@ ghost use Rattle.field.specs.Element.{dec, Canon, Is};
 use crate::words::prod;
 use crate::{Base, Ext};
 
+// Stays: over arrays `two` and `three` would be one loop, but each of its twelve calls would have to show that its arrays are canonical.
 fn two(a0: u32, b0: u32, a1: u32, b1: u32) -> u64
     requires a { (a0 < P) × (a1 < P) }
     requires b { (b0 < P) × (b1 < P) }
@@ -30,9 +31,10 @@ fn lowered(s: u64) -> u64
     ensures { (result < 8106479337319956482) × (of result ≡ of s) }
 {
     if s < 8106479337319956482 {
-        return s;
+        s
+    } else {
+        s - 8106479337319956482
     }
-    s - 8106479337319956482
 }
 
 // 11·s with the high half folded in: 11·2^32 is 939524073 and 23 times the prime.
@@ -48,6 +50,7 @@ fn rest_sum(s: u64) -> u32
     (s % Base::ORDER_U64) as u32
 }
 
+// Stays: each coordinate has other products above x⁴ and is lowered at another place, so one function would be these four in a `match`.
 fn sum_c0(a: Ext, b: Ext, c: Ext, d: Ext) -> u32
     requires { Canon a × Canon b × Canon c × Canon d }
     ensures { (result < P) × (of result ≡ (E.add (E.mul (dec a) (dec b)) (E.mul (dec c) (dec d))).c0) }

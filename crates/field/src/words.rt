@@ -21,9 +21,10 @@ pub fn add_word(a: u32, b: u32) -> u32
 {
     let s = a + b;
     if s < Base::ORDER_U32 {
-        return s;
+        s
+    } else {
+        s - Base::ORDER_U32
     }
-    s - Base::ORDER_U32
 }
 
 // The difference of two canonical words, with the prime added where it would be below zero.
@@ -32,9 +33,10 @@ pub fn sub_word(a: u32, b: u32) -> u32
     ensures { (result < P) × (of result ≡ B.add (of a) (B.neg (of b))) }
 {
     if b <= a {
-        return a - b;
+        a - b
+    } else {
+        a + Base::ORDER_U32 - b
     }
-    a + Base::ORDER_U32 - b
 }
 
 // A product of any two words fits a u64.

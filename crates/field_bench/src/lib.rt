@@ -13,7 +13,7 @@ pub extern "C" fn field_bench_chain(a: u32, b: u32, n: usize) -> u32
 {
     let y = Ext::new(b, a, b, a);
     let mut x = Ext::new(a, b, a, b);
-    for i in 0..n {
+    for _ in 0..n {
         x = x.times(y);
     }
     x.c0
@@ -29,7 +29,7 @@ pub extern "C" fn field_bench_chains(a: u32, b: u32, n: usize) -> u32
     let mut x1 = Ext::new(b, a, a, b);
     let mut x2 = Ext::new(a, a, b, b);
     let mut x3 = Ext::new(b, b, a, a);
-    for i in 0..n {
+    for _ in 0..n {
         x0 = x0.times(y);
         x1 = x1.times(y);
         x2 = x2.times(y);

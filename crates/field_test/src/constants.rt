@@ -1,18 +1,20 @@
 // The constants are the words of the elements that they are named for: each check is proved, and run.
-use field::{Base, Ext};
+use field::{Base, Ext, Field};
 
 fn of_base() {
     check::expect(Base::ZERO.is_zero());
-    check::expect(Base::ONE.equals(Base::new(1)));
+    check::expect(Base::ONE.equals(Base::from(1)));
     check::expect(Base::TWO.equals(Base::ONE.double()));
-    check::expect(Base::HALF.mul(Base::new(2)).equals(Base::ONE));
-    check::expect(Base::SIXTH.mul(Base::new(6)).equals(Base::ONE));
+    check::expect((Base::HALF * Base::from(2)).equals(Base::ONE));
+    check::expect((Base::SIXTH * Base::from(6)).equals(Base::ONE));
 }
 
 fn of_extension() {
-    check::expect(Ext::ZERO.same_words(Ext::from_word(0)));
-    check::expect(Ext::ONE.same_words(Ext::from_word(1)));
-    check::expect(Ext::TWO.same_words(Ext::ONE.double()));
+    check::expect(Ext::ZERO == Ext::from(0));
+    check::expect(Ext::ONE == Ext::from(1));
+    check::expect(Ext::TWO == Ext::ONE.double());
+    check::expect(Ext::HALF == Ext::from(Base::HALF));
+    check::expect(Ext::SIXTH == Ext::from(Base::SIXTH));
 }
 
 // All checks of the constants.

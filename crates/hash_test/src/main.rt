@@ -16,44 +16,37 @@ fn message_word(i: usize) -> u32 {
 }
 
 fn fill_bytes(m: &mut [u8]) {
-    for i in 0..m.len() {
-        m[i] = message_byte(i);
+    for (i, byte) in m.iter_mut().enumerate() {
+        *byte = message_byte(i);
     }
 }
 
 fn fill_words(words: &mut [u32]) {
-    for i in 0..words.len() {
-        words[i] = message_word(i);
+    for (i, word) in words.iter_mut().enumerate() {
+        *word = message_word(i);
     }
 }
 
 fn digit(x: u8) -> u8 {
-    if x < 10 {
-        return b'0' + x;
+    match x {
+        0..=9 => b'0' + x,
+        10..=15 => b'a' + (x - 10),
+        _ => b'?',
     }
-    if x < 16 {
-        return b'a' + (x - 10);
-    }
-    b'?'
 }
 
 fn print_hex(s: &[u8]) {
-    for i in 0..s.len() {
-        let b = [digit(s[i] / 16), digit(s[i] % 16)];
-        io::write_all(1, &b);
+    for byte in s {
+        io::write_all(1, &[digit(*byte / 16), digit(*byte % 16)]);
     }
     io::write_all(1, b"\n");
 }
 
 // The hash of the first n bytes of m and the first k words, where there are so many, as long as out.
 fn hash_front(m: &[u8], n: usize, words: &[u32], k: usize, out: &mut [u8]) {
-    if n <= m.len() {
-        if n < 4096 {
-            if k <= words.len() {
-                hash(&m[..n], &words[..k], out);
-                print_hex(out);
-            }
-        }
+    if n <= m.len() && n < 4096 && k <= words.len() {
+        hash(&m[..n], &words[..k], out);
+        print_hex(out);
     }
 }
 
@@ -79,10 +72,9 @@ fn long_hash(m: &[u8], words: &[u32], n: usize, out: &mut [u8]) {
 
 // Outputs that end before, at and after a lane's and a block's end.
 fn all_ends(m: &[u8], words: &[u32]) {
-    let ends = [0, 1, 7, 8, 9, 167, 168, 169, 335, 336, 337, 503, 504, 505];
     let mut out = [0u8; 505];
-    for k in 0..14 {
-        long_hash(m, words, ends[k], &mut out);
+    for end in [0, 1, 7, 8, 9, 167, 168, 169, 335, 336, 337, 503, 504, 505] {
+        long_hash(m, words, end, &mut out);
     }
 }
 
@@ -106,7 +98,7 @@ fn print_drawn(s: Sponge, label: &[u8], words: &[u32]) -> Sponge
     ensures { Holds result (message label.now words.now) }
 {
     let t = absorb(s, label, words);
-    io::print_decimal(1, draw(t, label, words) as u64);
+    io::print_decimal(1, u64::from(draw(t, label, words)));
     io::write_all(1, b"\n");
     t
 }

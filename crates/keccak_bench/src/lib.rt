@@ -10,45 +10,15 @@ ghost use Rattle.keccak_bench.specs.Times.{times, draws};
 use field::Base;
 use keccak::{Lanes, permute};
 
-// Zeros after the first lane.
-fn first_lane(a: u64) -> Lanes
-    ensures { as_list result ≡ a ∷ replicate 24 0 }
-{
-    Lanes {
-        a0: a,
-        a1: 0,
-        a2: 0,
-        a3: 0,
-        a4: 0,
-        a5: 0,
-        a6: 0,
-        a7: 0,
-        a8: 0,
-        a9: 0,
-        a10: 0,
-        a11: 0,
-        a12: 0,
-        a13: 0,
-        a14: 0,
-        a15: 0,
-        a16: 0,
-        a17: 0,
-        a18: 0,
-        a19: 0,
-        a20: 0,
-        a21: 0,
-        a22: 0,
-        a23: 0,
-        a24: 0,
-    }
-}
-
 // The first lane after n permutations, from a state of zeros but for it.
 #[unsafe(no_mangle)]
 pub extern "C" fn keccak_bench_permute(a: u64, n: usize) -> u64
     ensures { result ≡ get_or (times n (a ∷ replicate 24 0)) 0 0 }
 {
-    let mut s = first_lane(a);
+    let mut s = Lanes {
+        a0: a,
+        ..Lanes::ZERO
+    };
     for i in 0..n {
         s = permute(s);
     }

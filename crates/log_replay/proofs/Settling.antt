@@ -1,11 +1,12 @@
 -- What the verifier leaves in a room of the replay's own is what the plain verifier writes, and is told as a replay.
 -- Assumes nothing.
+use Rattle.std.specs.Prelude.{Result}
 use mathlib.Core.Path.{◌≡◌, refl, sym, ◌∙◌, ap, ap₂}
 use mathlib.Core.Bool.{Bool, true, false, cond}
 use mathlib.Core.List.{List, [], ◌++◌, append_assoc}
-use Prim.Native.Nat.{ℕ, ◌+◌, ◌*◌, ◌≤◌, ◌<◌}
+use Prim.Native.Nat.{ℕ, ◌*◌, ◌≤◌, ◌<◌}
 use native.Mathlib.Omega.{arith}
-use borrow.Author.Tests.{lt-ltb, le-ltb, ltb-true, ltb-false}
+use borrow.Author.Tests.{le-ltb, ltb-true, ltb-false}
 use lib.Dec.{eqb, ltb}
 use lib.ListN.{length, length-append, length-replicate, take, drop, replicate, take-append-drop}
 use lib.Seq.{length-take-le, take-append_seam, take_at, drop-append-le}
@@ -23,22 +24,17 @@ use Rattle.refusal.specs.Fronts.{over}
 use Rattle.sizes.specs.Sizes.{log_room}
 use Rattle.stored.specs.Parse.{sized, proof_of}
 use Rattle.stored.specs.Elements.{decoded}
-use Rattle.verifier_round.specs.declared.Verdict.{Verdict}
+use Rattle.verifier_round.specs.declared.Claims.{Claims}
+use Rattle.refusal.specs.declared.Refusal.{Refusal}
 use Rattle.verifier_round.specs.Verdicts.{Model}
 use Rattle.verifier.specs.declared.Ending.{Ending}
 use Rattle.verifier.specs.Gates.{ending}
 use Rattle.verifier.specs.Verified as Verifier
 use Rattle.verifier.specs.Verified.{Asked, Lent, asked, lent, source_of, tests, fronts, laid, verified}
-use Rattle.log_replay.specs.Replayed.{Kept, Compared, same, differs, Outcome, outcome, told, challenges_of, call_of, plain, replayed}
-use Rattle.log_replay.specs.Inner.{fits, gap, words_left, end_of, settled}
+use Rattle.log_replay.specs.Replayed.{Kept, Compared, same, differs, outcome, told, challenges_of, call_of, plain, replayed}
+use Rattle.log_replay.specs.Inner.{fits, gap, settled}
 
 -- THE WORDS OF A POINT THAT ARE LOOKED AT
-
-pub fits_few : (p : ℕ) → p < 4 * max_rounds → fits p ≡ p
-fits_few p h = ap (λ t. cond t p (4 * max_rounds)) (lt-ltb p (4 * max_rounds) h)
-
-pub fits_many : (p : ℕ) → 4 * max_rounds ≤ p → fits p ≡ 4 * max_rounds
-fits_many p h = ap (λ t. cond t p (4 * max_rounds)) (le-ltb p (4 * max_rounds) h)
 
 -- by cases of their number
 by_room : (Q : ℕ → Type 0) (p : ℕ) → (p < 4 * max_rounds → Q p) → (4 * max_rounds ≤ p → Q (4 * max_rounds)) → Q (fits p)
@@ -69,7 +65,7 @@ words_told a (refused e) = refl
 words_told a passed = go (eqb a.rounds 0) (Verifier.emptied (first_of (Verifier.empty_tests a.proof))) (source_of a)
     (Gkr.verify_gkr Extension (Drawing (source_of a)) a.rounds (decoded (proof_of a.proof)) (bound (sized a.proof) a.rounds empty))
   where
-    go : (b : Bool) (v : Verdict) (ch : Source E.Ext) (m : Model ch)
+    go : (b : Bool) (v : Result Claims Refusal) (ch : Source E.Ext) (m : Model ch)
         → (let f = cond b (Verifier.outcome v unused [] []) (Verifier.ended ch m) in length f.buffers.log ≡ f.used.words)
     go true v ch m = refl
     go false v ch m = refl
@@ -88,24 +84,6 @@ told_as : (c : Compared) (f : Verifier.Outcome) (found point : List ℕ) → fou
     → settled c (ending f.answer f.used) found point ≡ (let t = told f c in outcome t.answer t.used (over t.point point))
 told_as same f found point e = ap (outcome f.answer f.used) e
 told_as (differs r) f found point e = refl
-
--- HOW IT IS SETTLED
-
-pub few_left : (c : Compared) (k : ℕ) → words_left c k ≤ k
-few_left same k = omega arith
-few_left (differs r) k = omega arith
-
-settled_as : (c : Compared) (e : Ending) (k : ℕ) (xi point : List ℕ)
-    → outcome (end_of c e).verdict (end_of c e).used (take (words_left c k) xi ++ drop (words_left c k) point) ≡ settled c e (take k xi ++ drop k point) point
-settled_as same e k xi point = refl
-settled_as (differs r) e k xi point = refl
-
-pub settled_so : (c : Compared) {g : Compared} (e : Ending) (k : ℕ) (xi point : List ℕ) {r : Ending} {n : ℕ} {after : List ℕ}
-    → g ≡ c → n ≡ words_left g k → after ≡ take n xi ++ drop n point → r ≡ end_of g e → outcome r.verdict r.used after ≡ settled c e (take k xi ++ drop k point) point
-settled_so c e k xi point gc nw a q =
-    let rc = q ∙ ap (λ g. end_of g e) gc in
-    let ac = a ∙ ap (λ m. take m xi ++ drop m point) (nw ∙ ap (λ g. words_left g k) gc) in
-    (λ i. outcome (rc i).verdict (rc i).used (ac i)) ∙ settled_as c e k xi point
 
 -- THE REPLAY'S CALL
 

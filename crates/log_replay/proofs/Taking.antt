@@ -3,42 +3,17 @@
 use mathlib.Core.Path.{◌≡◌, refl, sym, ◌∙◌, ap, ap₂}
 use mathlib.Core.Bool.{Bool, true, false, cond, ◌&&◌}
 use mathlib.Core.List.{List, [], ◌∷◌, ◌++◌, map, append_assoc}
-use Prim.Native.Nat.{ℕ, zero, suc, ◌+◌, ◌-◌, ◌^◌, ◌<◌, ◌≤◌}
+use Prim.Native.Nat.{ℕ, zero, suc, ◌+◌, ◌^◌, ◌<◌, ◌≤◌}
 use native.Mathlib.Nat.{le_of_suc-le-suc}
 use native.Mathlib.Omega.{arith}
-use borrow.Author.Tests.{le-leb, lt-leb, lt-ltb, le-ltb}
+use borrow.Author.Tests.{lt-ltb, le-ltb}
 use lib.Dec.{leb, ltb}
 use lib.ListN.{length, length-append, length-replicate, get_or, take, drop, set, replicate, drop_of_length-le}
 use lib.Seq.{set-append_seam, take_all}
-use Rattle.field.specs.Base.{P}
 use Rattle.gkr.specs.TranscriptLaws.{sampled_words}
 use Rattle.log_replay.specs.Replayed.{plain_word, most_words, challenges_of}
-use Rattle.log_replay.specs.Inner.{goes, placed, next_place}
+use Rattle.log_replay.specs.Inner.{placed, next_place}
 use Rattle.log_replay.proofs.Turns.{next}
-
-pub plain_below : (w : ℕ) → w - 2 ^ 31 < P → plain_word w ≡ w - 2 ^ 31
-plain_below w h = ap (λ t. cond t (w - 2 ^ 31) 0) (lt-ltb (w - 2 ^ 31) P h)
-
-pub plain_above : (w : ℕ) → P ≤ w - 2 ^ 31 → plain_word w ≡ 0
-plain_above w h = ap (λ t. cond t (w - 2 ^ 31) 0) (le-ltb (w - 2 ^ 31) P h)
-
--- ONE WORD
-
-module _ (w : ℕ) (words : List ℕ) (k : ℕ) where
-  abbrev Takes : (words' : List ℕ) (k' : ℕ) → Type 0
-  Takes words' k' = (words' ≡ placed w words k) × (k' ≡ next_place w words k)
-
-  taking : {b : Bool} → goes w words k ≡ b → Takes (cond b (set words k (plain_word w)) words) (cond b (k + 1) k)
-  taking e = (sym (ap (λ t. cond t (set words k (plain_word w)) words) e), sym (ap (λ t. cond t (k + 1) k) e))
-
-  pub passed_over : w < 2 ^ 31 → Takes words k
-  passed_over a = taking (ap (λ t. t && ltb k (length words)) (lt-leb (2 ^ 31) w a))
-
-  pub full : 2 ^ 31 ≤ w → length words ≤ k → Takes words k
-  full a b = taking (ap₂ ◌&&◌ (le-leb (2 ^ 31) w a) (le-ltb k (length words) b))
-
-  pub put : {v : ℕ} → 2 ^ 31 ≤ w → k < length words → v ≡ plain_word w → Takes (set words k v) (k + 1)
-  put a b e = let t = taking (ap₂ ◌&&◌ (le-leb (2 ^ 31) w a) (lt-ltb k (length words) b)) in (ap (set words k) e ∙ t.0, t.1)
 
 -- ALL WORDS
 

@@ -1,16 +1,14 @@
 -- What stands beside `replayed`: the log that the verifier left replays, and no other log of the same challenges does.
 -- Assumes nothing.
-use Rattle.std.specs.Prelude.{◌≡◌, Bool, true, false, ◌⊎◌, List, ℕ, ◌+◌, ◌*◌, ◌^◌, ◌<◌, ◌≤◌, length, get_or, set}
+use Rattle.std.specs.Prelude.{◌≡◌, Err, true, false, List, ℕ, ◌+◌, ◌*◌, ◌^◌, ◌<◌, ◌≤◌, length, get_or, set}
 use Rattle.field.specs.Base.{P}
 use Rattle.refusal.specs.declared.Refusal.{Refusal}
-use Rattle.refusal.specs.declared.Refusal.TheVariants.{LogMismatch}
 use Rattle.refusal.specs.Numbers.{report_of}
 use Rattle.refusal.specs.Tests.{first_of}
 use Rattle.refusal.specs.Fronts.{over}
-use Rattle.verifier_round.specs.declared.Verdict.TheVariants.{Refused}
 use Rattle.verifier.specs.Verified as Verifier
 use Rattle.verifier.specs.Verified.{Asked, Lent}
-use Rattle.log_replay.specs.Replayed.{Kept, kept, challenges_of, of_run, outcome, replayed}
+use Rattle.log_replay.specs.Replayed.{Kept, kept, of_run, outcome, replayed}
 
 -- what a call of the verifier writes
 abbrev pub written : Asked → Lent → Verifier.Outcome
@@ -24,7 +22,7 @@ Replays =
 
 -- a replay that is not refused by 24 to 26
 abbrev pub Held : Kept → (point : List ℕ) → Type 0
-Held k point = (e : Refusal) → (replayed k point).answer ≡ Refused e → ¬ ((24 ≤ (report_of e).number) × ((report_of e).number ≤ 26))
+Held k point = (e : Refusal) → (replayed k point).answer ≡ Err e → ¬ ((24 ≤ (report_of e).number) × ((report_of e).number ≤ 26))
 
 -- a word that was sampled: its bit is set, and the rest is canonical
 pub record Sampled (w : ℕ) : Type 0 where

@@ -1,6 +1,6 @@
 -- What a replay of a proof from a log answers, uses up and leaves in the point: the plain verifier on the log's own challenges, and the log must be the one that it leaves.
 -- Assumes nothing.
-use Rattle.std.specs.Prelude.{Bool, true, cond, ◌&&◌, List, [], ◌∷◌, ◌++◌, map, ℕ, suc, ◌*◌, ◌-◌, ◌^◌, eqb, leb, ltb, length, take, replicate}
+use Rattle.std.specs.Prelude.{Result, Ok, Err, Bool, true, cond, ◌&&◌, List, [], ◌∷◌, ◌++◌, map, ℕ, suc, ◌*◌, ◌-◌, ◌^◌, eqb, leb, ltb, length, take, replicate}
 use Rattle.field.specs.Base.{P}
 use Rattle.gkr.specs.Sizes.{challenges}
 use Rattle.gkr.specs.TranscriptLaws.{sampled_words}
@@ -14,8 +14,7 @@ use Rattle.refusal.specs.Numbers.{report_of}
 use Rattle.refusal.specs.Tests.{first_of}
 use Rattle.refusal.specs.Fronts.{over}
 use Rattle.sizes.specs.Sizes.{log_room}
-use Rattle.verifier_round.specs.declared.Verdict.{Verdict}
-use Rattle.verifier_round.specs.declared.Verdict.TheVariants.{Accepted, Refused}
+use Rattle.verifier_round.specs.declared.Claims.{Claims}
 use Rattle.verifier.specs.Verified as Verifier
 use Rattle.verifier.specs.Verified.{Asked, asked, tests, fronts}
 
@@ -49,9 +48,9 @@ abbrev pub plain : (k : Kept) (points : ℕ) → Verifier.Outcome
 plain k points = fronts (call_of k) (first_of (tests (call_of k) points (log_room true true max_rounds)))
 
 -- whether a verdict comes of a run, or of no rounds that are accepted: then the log is looked at
-abbrev pub of_run : Verdict → Bool
-of_run (Accepted numer denom) = true
-of_run (Refused e) = leb 16 (report_of e).number && leb (report_of e).number 19
+abbrev pub of_run : Result Claims Refusal → Bool
+of_run (Ok claims) = true
+of_run (Err e) = leb 16 (report_of e).number && leb (report_of e).number 19
 
 -- the log given against the log left, from a place on: the first word that differs, or the end of the shorter
 pub data Compared : Type 0 where
@@ -66,16 +65,16 @@ compared (g ∷ given) (w ∷ left) place = cond (eqb g w) (compared given left 
 
 -- an answer, what was used up, and the point's words
 pub record Outcome : Type 0 where
-  pub answer : Verdict
+  pub answer : Result Claims Refusal
   pub used : Used
   pub point : List ℕ
 
-abbrev pub outcome : Verdict → Used → (point : List ℕ) → Outcome
+abbrev pub outcome : Result Claims Refusal → Used → (point : List ℕ) → Outcome
 outcome answer used point = record { answer = answer; used = used; point = point }
 
 abbrev pub told : Verifier.Outcome → Compared → Outcome
 told o same = outcome o.answer o.used o.buffers.point
-told o (differs e) = outcome (Refused e) unused []
+told o (differs e) = outcome (Err e) unused []
 
 abbrev pub front : Kept → (points : ℕ) → Outcome
 front k points = let o = plain k points in told o (cond (of_run o.answer) (compared k.log o.buffers.log 0) same)

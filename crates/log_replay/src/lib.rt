@@ -1,23 +1,16 @@
 // The verdict of a proof from a stored log alone: the plain verifier runs on the log's own challenges, into a log of its own, and both logs must be the same.
 #![tactic(auto)]
 
-ghost use Rattle.std.specs.Prelude.{◌≡◌, ◌++◌, ◌^◌, ◌≤◌, eqb, length, take, drop, replicate};
-ghost use Rattle.verifier_round.specs.declared.Verdict.TheVariants.{Refused};
+ghost use Rattle.std.specs.Prelude.{◌≡◌, ◌++◌, Err, ◌^◌, ◌≤◌, eqb, length, take, drop, replicate};
+ghost use Rattle.std.specs.List.{zip, position};
 ghost use Rattle.log_replay.specs.Replayed.{kept, plain_word, most_words, challenges_of, of_run, compared, outcome, replayed};
-ghost use Rattle.log_replay.specs.Inner.{placed, next_place, as_compared, gap, fits, words_left, end_of, settled};
+ghost use Rattle.log_replay.specs.Inner.{placed, next_place, differ, as_compared, gap, fits, settled};
 
 use field::Base;
-use refusal::{MAX_ROUNDS, Refusal, Verifying};
+use refusal::{MAX_ROUNDS, Refusal, Report, Verifying};
 use verifier::Ending;
 use verifier::end::{at_once, copy_point};
 use verifier_round::Verdict;
-
-// How the log given compares with the log left: the same, or the refusal of the first place where it is not.
-#[derive(Clone, Copy)]
-pub enum Gap {
-    Closed,
-    At(Refusal),
-}
 
 // A sampled word without its bit; 0 for one that is not canonical.
 fn plain_word(w: u32) -> u32
@@ -25,20 +18,14 @@ fn plain_word(w: u32) -> u32
     ensures { result ≡ plain_word w }
 {
     let v = w - 2147483648;
-    if v < Base::ORDER_U32 {
-        return v;
-    }
-    0
+    if v < Base::ORDER_U32 { v } else { 0 }
 }
 
 // A word of the log goes to place k of the challenges, if it was sampled and there is room; the next place comes back.
 fn take_word(w: u32, challenges: &mut [u32], k: usize) -> usize
     ensures { (challenges.new ≡ placed w challenges.old k) × (result ≡ next_place w challenges.old k) }
 {
-    if w < 2147483648 {
-        return k;
-    }
-    if challenges.len() <= k {
+    if w < 2147483648 || challenges.len() <= k {
         return k;
     }
     challenges[k] = plain_word(w);
@@ -51,8 +38,8 @@ fn take_challenges(log: &[u32], challenges: &mut [u32])
     ensures { challenges.new ≡ challenges_of log.now }
 {
     let mut k = 0;
-    for i in 0..log.len() {
-        k = take_word(log[i], challenges, k);
+    for w in log {
+        k = take_word(*w, challenges, k);
     }
 }
 
@@ -63,33 +50,34 @@ fn alike(given: u32, left: u32) -> bool
     given == left
 }
 
-// The first place where the log given is not the log left.
-fn compare_logs(given: &[u32], left: &[u32]) -> Gap
+// The first place where both logs have a word and these differ, if there is one.
+fn first_difference(given: &[u32], left: &[u32]) -> Option<usize>
+    ensures { result ≡ position differ (zip given.now left.now) }
+{
+    given.iter().zip(left).position(|(g, l)| !alike(*g, *l))
+}
+
+// That the log given is the log left, or the refusal of the first place where it is not.
+fn compare_logs(given: &[u32], left: &[u32]) -> Result<(), Refusal>
     ensures { as_compared result ≡ compared given.now left.now 0 }
 {
-    for i in 0..given.len() {
-        if left.len() <= i {
-            return Gap::At(Refusal::LogLong { place: i });
-        }
-        if !alike(given[i], left[i]) {
-            return Gap::At(Refusal::LogMismatch { place: i });
-        }
+    if let Some(place) = first_difference(given, left) {
+        return Err(Refusal::LogMismatch { place });
+    }
+    if left.len() < given.len() {
+        return Err(Refusal::LogLong { place: left.len() });
     }
     if given.len() < left.len() {
-        return Gap::At(Refusal::LogShort { place: given.len() });
+        return Err(Refusal::LogShort { place: given.len() });
     }
-    Gap::Closed
+    Ok(())
 }
 
 // Whether a refusal comes of a run: 16 to 19.
 fn in_run(refusal: Refusal) -> bool
-    ensures { result ≡ of_run (Refused refusal) }
+    ensures { result ≡ of_run (Err refusal) }
 {
-    let number = refusal::number_and_fields(refusal).number;
-    if number < 16 {
-        return false;
-    }
-    number <= 19
+    matches!(Report::from(refusal).number, 16..=19)
 }
 
 // Whether a verdict comes of a run, or of no rounds that are accepted.
@@ -97,49 +85,27 @@ fn of_run(verdict: Verdict) -> bool
     ensures { result ≡ of_run verdict }
 {
     match verdict {
-        Verdict::Accepted { numer, denom } => true,
-        Verdict::Refused(refusal) => in_run(refusal),
+        Ok(_) => true,
+        Err(refusal) => in_run(refusal),
     }
 }
 
 // The gap between the log given and the log left, where the verdict comes of a run; else the log is not looked at.
-fn gap_of(verdict: Verdict, given: &[u32], left: &[u32]) -> Gap
+fn gap_of(verdict: Verdict, given: &[u32], left: &[u32]) -> Result<(), Refusal>
     ensures { as_compared result ≡ gap verdict given.now left.now }
 {
     if of_run(verdict) {
-        return compare_logs(given, left);
+        compare_logs(given, left)
+    } else {
+        Ok(())
     }
-    Gap::Closed
 }
 
 // The words of a point that are looked at: all, but no more than any run writes.
 fn fitting(points: usize) -> usize
     ensures { result ≡ fits points }
 {
-    if points < 4 * MAX_ROUNDS {
-        return points;
-    }
-    4 * MAX_ROUNDS
-}
-
-// How many of k words of a point are written: none where there is a gap.
-fn words_left(gap: Gap, k: usize) -> usize
-    ensures { result ≡ words_left (as_compared gap) k }
-{
-    match gap {
-        Gap::Closed => k,
-        Gap::At(refusal) => 0,
-    }
-}
-
-// How a replay ends where the plain verifier ends so: by the refusal of a gap, which has used up nothing, or so.
-fn end_of(gap: Gap, ending: Ending) -> Ending
-    ensures { result ≡ end_of (as_compared gap) ending }
-{
-    match gap {
-        Gap::Closed => ending,
-        Gap::At(refusal) => at_once(Verdict::Refused(refusal)),
-    }
+    points.min(4 * MAX_ROUNDS)
 }
 
 // How a replay ends, with the first k words of the point that the plain verifier found, where there is no gap.
@@ -155,10 +121,13 @@ fn settle(
     ensures { outcome result.verdict result.used point.new ≡ settled (gap ending.verdict given.now left.now)
         ending (take k xi.now ++ drop k point.old) point.old }
 {
-    let verdict = ending.verdict;
-    let gap = gap_of(verdict, given, left);
-    copy_point(xi, point, words_left(gap, k));
-    end_of(gap, ending)
+    match gap_of(ending.verdict, given, left) {
+        Ok(()) => {
+            copy_point(xi, point, k);
+            ending
+        }
+        Err(refusal) => at_once(Err(refusal)),
+    }
 }
 
 // The verdict of a proof of so many rounds from a log alone: accepted with both claims and the point written, or refused; where the log is not the one that the verifier
@@ -180,6 +149,5 @@ pub fn replay(
     let k = fitting(point.len());
     copy_point(point, &mut xi, k);
     let ending = verifier::verify_gkr(proof, rounds, modes, &challenges, &mut xi[..k], &mut own);
-    let n = ending.used.words;
-    settle(ending, log, &own[..n], &xi, point, k)
+    settle(ending, log, &own[..ending.used.words], &xi, point, k)
 }

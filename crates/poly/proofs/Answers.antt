@@ -1,11 +1,13 @@
 -- What a call answers and leaves, by the outcome of its checks.
 -- Assumes nothing.
-use mathlib.Core.Path.{◌≡◌, sym, ◌∙◌, ap}
-use mathlib.Core.Bool.{true, false, cond}
+use Rattle.std.specs.Prelude.{Result, Ok, Err}
+use Rattle.std.specs.Result.{is_err}
+use mathlib.Core.Path.{◌≡◌, refl, sym, ◌∙◌, ap}
+use mathlib.Core.Bool.{false, cond}
 use mathlib.Core.List.{List, [], ◌++◌}
 use Prim.Native.Nat.{ℕ, ◌*◌, ◌/◌}
 use native.Mathlib.Omega.{arith}
-use borrow.Author.Tests.{eq-eqb, ne_eqb}
+use borrow.Author.Tests.{ne_eqb}
 use lib.Dec.{eqb}
 use lib.ListN.{length, take, drop}
 use lib.Seq.{take_at}
@@ -18,58 +20,36 @@ use Rattle.field.specs.Cells.{cell}
 use Rattle.field.proofs.ColumnLaws.{length_flat}
 use Rattle.refusal.specs.declared.Refusal.{Refusal}
 use Rattle.multilinear.specs.Table as Table
-use Rattle.poly.specs.declared.Outcome.{Outcome}
-use Rattle.poly.specs.declared.Outcome.TheVariants.{Done, Refused}
-use Rattle.poly.specs.declared.Evaluated.TheVariants.{Value, Refused as RefusedValue}
 use Rattle.poly.specs.Checks.{count}
-use Rattle.poly.specs.Evaluations.{answer, written, InPlace, Filled}
+use Rattle.poly.specs.Evaluations.{answer, written, InPlace}
 use Rattle.poly.specs.Folds.{fold_refusal, folded_words, comes_back, is_source, fold_mle_evals}
 
 -- an element or a refusal
-pub refused : {o : Outcome} {why : Refusal} (x : E.Ext) → o ≡ Refused why → RefusedValue why ≡ answer o x
-refused x e = sym (ap (λ o. answer o x) e)
-
-pub evaluated : {o : Outcome} {r : Ext} (x : E.Ext) → o ≡ Done → Is r x → Value r ≡ answer o x
-evaluated x e h = ap Value (enc_of_is h) ∙ sym (ap (λ o. answer o x) e)
+pub evaluated : {o : Result (Unit {0}) Refusal} {r : Ext} (x : E.Ext) → o ≡ Ok tt → Is r x → Ok r ≡ answer o x
+evaluated x e h = ap Ok (enc_of_is h) ∙ sym (ap (λ o. answer o x) e)
 
 -- with a table
-pub refused_table : {o : Outcome} {why : Refusal} (x : E.Ext) (new old : List ℕ) → o ≡ Refused why
-    → ◌≡◌ {A = InPlace} (record { answer = RefusedValue why; table = old }) (record { answer = answer o x; table = written o new old })
-refused_table x new old e = λ i. record { answer = refused x e i; table = sym (ap (λ o. written o new old) e) i }
-
-pub evaluated_table : {o : Outcome} {r : Ext} {t : List ℕ} (x : E.Ext) (new old : List ℕ) → o ≡ Done → Is r x → t ≡ new
-    → ◌≡◌ {A = InPlace} (record { answer = Value r; table = t }) (record { answer = answer o x; table = written o new old })
+pub evaluated_table : {o : Result (Unit {0}) Refusal} {r : Ext} {t : List ℕ} (x : E.Ext) (new old : List ℕ) → o ≡ Ok tt → Is r x → t ≡ new
+    → ◌≡◌ {A = InPlace} (record { answer = Ok r; table = t }) (record { answer = answer o x; table = written o new old })
 evaluated_table x new old e h q = λ i. record { answer = evaluated x e h i; table = (q ∙ sym (ap (λ o. written o new old) e)) i }
-
--- with a target
-pub refused_target : {o : Outcome} {why : Refusal} (new old : List ℕ) → o ≡ Refused why
-    → ◌≡◌ {A = Filled} (record { outcome = Refused why; target = old }) (record { outcome = o; target = written o new old })
-refused_target new old e = λ i. record { outcome = sym e i; target = sym (ap (λ o. written o new old) e) i }
-
-pub filled_target : {o : Outcome} {t : List ℕ} (new old : List ℕ) → o ≡ Done → t ≡ new
-    → ◌≡◌ {A = Filled} (record { outcome = Done; target = t }) (record { outcome = o; target = written o new old })
-filled_target new old e q = λ i. record { outcome = sym e i; target = (q ∙ sym (ap (λ o. written o new old) e)) i }
 
 -- half of the entries
 pub eighth : (n : ℕ) → n / 8 ≡ n / 4 / 2
 eighth n = omega arith
 
+-- what is not refused is done
+pub not_refused : (o : Result (Unit {0}) Refusal) → is_err o ≡ false → o ≡ Ok tt
+not_refused (Ok u) h = refl
+not_refused (Err why) h = cc
+
 -- what a fold hands back
 module _ (s d : List ℕ) (r : Ext) where
-  pub none_back : {why : Refusal} → fold_refusal s d r ≡ Refused why → ([] ≡ fold_mle_evals s d r) × (is_source s d r ≡ false)
-  none_back e = (sym (ap (λ o. written o (cond (eqb (count s) 1) s (folded_words s r)) []) e), ap (λ o. comes_back o (eqb (count s) 1)) e)
-
-  module _ (e : fold_refusal s d r ≡ Done) where
+  module _ (e : fold_refusal s d r ≡ Ok tt) where
     back : fold_mle_evals s d r ≡ cond (eqb (count s) 1) s (folded_words s r)
     back = ap (λ o. written o (cond (eqb (count s) 1) s (folded_words s r)) []) e
 
     which : is_source s d r ≡ eqb (count s) 1
     which = ap (λ o. comes_back o (eqb (count s) 1)) e
-
-    pub source_back : length s ≡ 4 → (s ≡ fold_mle_evals s d r) × (is_source s d r ≡ true)
-    source_back h =
-        let c : eqb (count s) 1 ≡ true = eq-eqb (count s) 1 (omega arith) in
-        (sym (back ∙ ap (λ t. cond t s (folded_words s r)) c), which ∙ c)
 
     pub front_back : (length s ≡ 4 → ⊥) → length s ≡ 4 * count s → {l : List ℕ} (n : ℕ) → n ≡ count s / 2 → l ≡ folded_words s r ++ drop (4 * (count s / 2)) d
         → (take (4 * n) l ≡ fold_mle_evals s d r) × (is_source s d r ≡ false)

@@ -1,7 +1,8 @@
 -- What is known of the lists where a helper is not refused.
 -- Assumes nothing.
+use Rattle.std.specs.Prelude.{Ok}
 use mathlib.Core.Path.{◌≡◌, ◌∙◌, ap}
-use mathlib.Core.Bool.{true, ◌&&◌}
+use mathlib.Core.Bool.{Bool, true, ◌&&◌}
 use mathlib.Core.List.{List}
 use Prim.Native.Nat.{ℕ, ◌*◌, ◌/◌, ◌%◌, ◌^◌, ◌≤◌}
 use native.Mathlib.Omega.{arith}
@@ -15,17 +16,15 @@ use Rattle.field.specs.ExtRing.{both}
 use Rattle.field.specs.Cells.{Clean}
 use Rattle.wire.specs.Words.{all_canonical}
 use Rattle.wire.specs.WordLaws.{canonical_below}
-use Rattle.refusal.specs.Limits.{max_rounds}
 use Rattle.columns.specs.Powers.{variables_of}
 use Rattle.columns.specs.PowerLaws.{variables_of_is}
 use Rattle.columns.specs.Passes.{Room}
-use Rattle.poly.specs.declared.Outcome.TheVariants.{Done}
-use Rattle.poly.specs.Checks.{whole, count}
+use Rattle.poly.specs.Checks.{refusal, whole, count}
 use Rattle.poly.proofs.CheckLaws.{passed}
-use Rattle.poly.specs.Evaluations.{eq_sizes, eq_refusal, mle_sizes, mle_refusal, cube_sizes, cube_refusal, horner_sizes, horner_refusal, horner_base_refusal}
+use Rattle.poly.specs.Evaluations.{eq_sizes, eq_refusal, mle_sizes, mle_refusal, horner_sizes}
 use Rattle.poly.specs.Folds.{fold_sizes, fold_refusal, round_sizes, round_refusal, all_five}
 
-clean_of : (ws : List ℕ) → all_canonical ws ≡ true → Clean ws
+pub clean_of : (ws : List ℕ) → all_canonical ws ≡ true → Clean ws
 clean_of ws h = record { below = canonical_below ws h }
 
 whole_of : (n : ℕ) → eqb (n % 4) 0 ≡ true → n ≡ 4 * (n / 4)
@@ -36,7 +35,7 @@ pub record Pair (x y : List ℕ) : Type 0 where
   pub first : Clean x
   pub second : Clean y
 
-pub eq_open : (x y : List ℕ) → eq_refusal x y ≡ Done → Pair x y
+pub eq_open : (x y : List ℕ) → eq_refusal x y ≡ Ok tt → Pair x y
 eq_open x y h =
     let p = passed (eq_sizes x y) _ h in
     let w = both (all_canonical x) (all_canonical y) p.words in
@@ -51,7 +50,7 @@ pub record Table (t x : List ℕ) : Type 0 where
   pub table : Clean t
   pub point : Clean x
 
-pub mle_open : (t x : List ℕ) → mle_refusal t x ≡ Done → Table t x
+pub mle_open : (t x : List ℕ) → mle_refusal t x ≡ Ok tt → Table t x
 mle_open t x h =
     let p = passed (mle_sizes t x) _ h in
     let w = both (all_canonical t) (all_canonical x) p.words in
@@ -62,16 +61,6 @@ mle_open t x h =
       point = clean_of x w.1;
     }
 
-pub record Cube (x target : List ℕ) : Type 0 where
-  pub variables : count x ≤ max_rounds
-  pub room : 4 * 2 ^ count x ≤ length target
-  pub point : Clean x
-
-pub cube_open : (x target : List ℕ) → cube_refusal x target ≡ Done → Cube x target
-cube_open x target h =
-    let p = passed (cube_sizes x target) _ h in
-    record { variables = p.variables; room = leb-true (4 * 2 ^ count x) (length target) p.room; point = clean_of x p.words }
-
 pub record Beside (ws : List ℕ) (e : Ext) : Type 0 where
   pub list : Clean ws
   pub element : Canon e
@@ -79,11 +68,8 @@ pub record Beside (ws : List ℕ) (e : Ext) : Type 0 where
 beside : (ws : List ℕ) (e : Ext) → (all_canonical ws && canon_words e) ≡ true → Beside ws e
 beside ws e h = let w = both (all_canonical ws) (canon_words e) h in record { list = clean_of ws w.0; element = canon_true e w.1 }
 
-pub horner_open : (ws : List ℕ) (e : Ext) → horner_refusal ws e ≡ Done → Beside ws e
-horner_open ws e h = beside ws e (passed (horner_sizes (whole ws) (count ws)) _ h).words
-
-pub horner_base_open : (ws : List ℕ) (e : Ext) → horner_base_refusal ws e ≡ Done → Beside ws e
-horner_base_open ws e h = beside ws e (passed (horner_sizes true (length ws)) _ h).words
+pub horner_open : (entries : ℕ) (lists : Bool) (ws : List ℕ) (e : Ext) → refusal (horner_sizes lists entries) (all_canonical ws && canon_words e) ≡ Ok tt → Beside ws e
+horner_open entries lists ws e h = beside ws e (passed (horner_sizes lists entries) _ h).words
 
 pub record Folding (source target : List ℕ) (r : Ext) : Type 0 where
   pub whole : length source ≡ 4 * count source
@@ -91,7 +77,7 @@ pub record Folding (source target : List ℕ) (r : Ext) : Type 0 where
   pub list : Clean source
   pub element : Canon r
 
-pub fold_open : (s d : List ℕ) (r : Ext) → fold_refusal s d r ≡ Done → Folding s d r
+pub fold_open : (s d : List ℕ) (r : Ext) → fold_refusal s d r ≡ Ok tt → Folding s d r
 fold_open s d r h =
     let p = passed (fold_sizes s d) _ h in
     let b = beside s r p.words in
@@ -103,7 +89,7 @@ pub record Five (e a b c d : List ℕ) (l : Ext) : Type 0 where
   pub columns : Room (length e) e a b c d
   pub lambda : Canon l
 
-pub round_open : (e a b c d : List ℕ) (l : Ext) → round_refusal e a b c d l ≡ Done → Five e a b c d l
+pub round_open : (e a b c d : List ℕ) (l : Ext) → round_refusal e a b c d l ≡ Ok tt → Five e a b c d l
 round_open e a b c d l h =
     let p = passed (round_sizes e a b c d) _ h in
     let w = both (all_five e a b c d) (canon_words l) p.words in

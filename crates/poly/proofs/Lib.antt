@@ -1,5 +1,4 @@
 -- What an open gate gives the loops, and what they answer then.
-pub mod Tests
 pub mod Gates
 pub mod Answers
 pub mod Rounds

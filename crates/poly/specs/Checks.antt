@@ -1,36 +1,42 @@
 -- The refusals of the helpers over lists: document 01's order, once for all of them.
 -- Assumes nothing.
-use Rattle.std.specs.Prelude.{Bool, true, false, List, ℕ, ◌/◌, ◌%◌, eqb, leb, length}
+use Rattle.std.specs.Prelude.{Bool, true, false, List, ℕ, ◌/◌, ◌%◌, eqb, leb, length, Result, Ok, Err}
 use Rattle.refusal.specs.Limits.{max_rounds, max_rows}
 use Rattle.refusal.specs.declared.Refusal.{Refusal}
 use Rattle.refusal.specs.declared.Refusal.TheVariants.{TooManyRows, NotPowerOfTwo, ShortRoom, BadWord, TooManyRounds, BadLength}
-use Rattle.poly.specs.declared.Outcome.{Outcome}
 use Rattle.refusal.specs.declared.Words.TheVariants.{Own}
-use Rattle.poly.specs.declared.Outcome.TheVariants.{Done, Refused}
-use Rattle.poly.specs.declared.checks.Sizes.{Sizes}
+
+-- What is asked of the sizes; a question that a helper does not ask is answered by 0 or true.
+pub record Sizes : Type 0 where
+  -- the lists are of equal length, and no element is split
+  pub lists : Bool
+  pub variables : ℕ
+  -- the table has 2 ^ variables entries
+  pub table : Bool
+  -- entries or coefficients
+  pub entries : ℕ
+  -- the entries are a power of two
+  pub power : Bool
+  -- the target is long enough
+  pub room : Bool
 
 -- a word of a helper's own lists: neither its place nor its list is told
 abbrev pub bad_word : Refusal
 bad_word = BadWord 0 Own
 
-abbrev pub unless : Bool → Refusal → Outcome → Outcome
+abbrev pub unless : {A : Type 0} → Bool → Refusal → Result A Refusal → Result A Refusal
 unless true why rest = rest
-unless false why rest = Refused why
+unless false why rest = Err why
 
 -- the first test that fails answers; `words` says whether all words are canonical
-unfoldable pub refusal : Sizes → (words : Bool) → Outcome
+unfoldable pub refusal : Sizes → (words : Bool) → Result (Unit {0}) Refusal
 refusal s words =
     unless s.lists BadLength
     (unless (leb s.variables max_rounds) TooManyRounds
     (unless s.table BadLength
     (unless (leb s.entries max_rows) TooManyRows (unless s.power NotPowerOfTwo
     (unless s.room ShortRoom
-    (unless words bad_word Done))))))
-
--- what is left to be said once more words are looked at
-abbrev pub and_words : Outcome → Bool → Outcome
-and_words Done words = unless words bad_word Done
-and_words (Refused why) words = Refused why
+    (unless words bad_word (Ok tt)))))))
 
 -- no element of a list is split
 abbrev pub whole : List ℕ → Bool

@@ -1,6 +1,6 @@
 -- What a fold hands back and leaves in its target, and what a sub-round's polynomial is at 1, 2 and 3, for every input.
 -- Assumes nothing.
-use Rattle.std.specs.Prelude.{Bool, true, false, cond, ◌&&◌, List, [], ◌++◌, ℕ, zero, suc, ◌*◌, ◌/◌, eqb, leb, length, drop}
+use Rattle.std.specs.Prelude.{Bool, true, false, cond, ◌&&◌, List, [], ◌++◌, ℕ, zero, suc, ◌*◌, ◌/◌, eqb, leb, length, drop, Result, Ok, Err}
 use Rattle.field.specs.Ext as E
 use Rattle.field.specs.ExtRing.{ExtRing}
 use Rattle.field.specs.declared.Ext.{Ext}
@@ -8,19 +8,16 @@ use Rattle.field.specs.Element.{dec, enc, canon_words}
 use Rattle.field.specs.Cells.{cell}
 use Rattle.field.specs.Column.{flat}
 use Rattle.wire.specs.Words.{all_canonical}
+use Rattle.refusal.specs.declared.Refusal.{Refusal}
 use Rattle.refusal.specs.Powers.{power_of_two}
 use Rattle.multilinear.specs.Table as Table
 use Rattle.multilinear.specs.RoundSum as RoundSum
 use Rattle.multilinear.specs.RoundSum.{Claims}
 use Rattle.columns.specs.Powers.{variables_of}
 use Rattle.columns.specs.Passes.{claims}
+use Rattle.step.specs.declared.Three.{Three}
 use Rattle.step.specs.Values.{two, three}
-use Rattle.poly.specs.declared.Outcome.{Outcome}
-use Rattle.poly.specs.declared.Outcome.TheVariants.{Done, Refused}
-use Rattle.poly.specs.declared.RoundEvals.{RoundEvals}
-use Rattle.poly.specs.declared.RoundEvals.TheVariants.{Values, Refused as RefusedValues}
-use Rattle.poly.specs.declared.checks.Sizes.{Sizes}
-use Rattle.poly.specs.Checks.{refusal, whole, count}
+use Rattle.poly.specs.Checks.{Sizes, refusal, whole, count}
 use Rattle.poly.specs.Evaluations.{Filled, written}
 
 -- ---- fold_mle_evals
@@ -34,7 +31,7 @@ fold_sizes source target = record {
   room = leb (4 * (count source / 2)) (length target);
 }
 
-abbrev pub fold_refusal : (source target : List ℕ) (r : Ext) → Outcome
+abbrev pub fold_refusal : (source target : List ℕ) (r : Ext) → Result (Unit {0}) Refusal
 fold_refusal source target r = refusal (fold_sizes source target) (all_canonical source && canon_words r)
 
 -- the folded entries: half as many, and none of a column of one entry
@@ -49,9 +46,9 @@ fold_into source target r = record {
 }
 
 -- whether it is the source that comes back: a column of one entry does, as itself
-abbrev pub comes_back : Outcome → Bool → Bool
-comes_back Done one = one
-comes_back (Refused why) one = false
+abbrev pub comes_back : Result (Unit {0}) Refusal → Bool → Bool
+comes_back (Ok _) one = one
+comes_back (Err why) one = false
 
 abbrev pub is_source : (source target : List ℕ) (r : Ext) → Bool
 is_source source target r = comes_back (fold_refusal source target r) (eqb (count source) 1)
@@ -74,7 +71,7 @@ round_sizes eq p0 q0 p1 q1 = record {
 abbrev pub all_five : (eq p0 q0 p1 q1 : List ℕ) → Bool
 all_five eq p0 q0 p1 q1 = (((all_canonical eq && all_canonical p0) && all_canonical q0) && all_canonical p1) && all_canonical q1
 
-abbrev pub round_refusal : (eq p0 q0 p1 q1 : List ℕ) (lambda : Ext) → Outcome
+abbrev pub round_refusal : (eq p0 q0 p1 q1 : List ℕ) (lambda : Ext) → Result (Unit {0}) Refusal
 round_refusal eq p0 q0 p1 q1 lambda = refusal (round_sizes eq p0 q0 p1 q1) (all_five eq p0 q0 p1 q1 && canon_words lambda)
 
 -- s at x, from columns of n variables; with no variable left there is nothing to bind, and s is constant
@@ -82,10 +79,10 @@ unfoldable pub round_at : (n : ℕ) (lambda : E.Ext) (eq : ℕ → E.Ext) (pq : 
 round_at zero lambda eq pq x = RoundSum.total ExtRing 0 lambda eq pq
 round_at (suc k) lambda eq pq x = RoundSum.s ExtRing k lambda eq pq x
 
-abbrev pub rounds : Outcome → (E.Ext → E.Ext) → RoundEvals
-rounds Done s = Values (record { s1 = enc (s E.one); s2 = enc (s two); s3 = enc (s three) })
-rounds (Refused why) s = RefusedValues why
+abbrev pub rounds : Result (Unit {0}) Refusal → (E.Ext → E.Ext) → Result Three Refusal
+rounds (Ok _) s = Ok (record { s1 = enc (s E.one); s2 = enc (s two); s3 = enc (s three) })
+rounds (Err why) s = Err why
 
-abbrev pub round_poly_evals : (eq p0 q0 p1 q1 : List ℕ) (lambda : Ext) → RoundEvals
+abbrev pub round_poly_evals : (eq p0 q0 p1 q1 : List ℕ) (lambda : Ext) → Result Three Refusal
 round_poly_evals eq p0 q0 p1 q1 lambda =
     rounds (round_refusal eq p0 q0 p1 q1 lambda) (round_at (variables_of (count eq)) (dec lambda) (cell eq) (claims p0 q0 p1 q1))

@@ -1,66 +1,45 @@
 // eq of two points, and the table of the weights of all indices at a point.
 ghost use Rattle.std.specs.Prelude.{◌≡◌};
-ghost use Rattle.poly.specs.Evaluations.{eq_refusal, eval_eq_mle, Filled, cube_refusal, evals_eq_hypercube};
+ghost use Rattle.poly.specs.Evaluations.{eq_refusal, eval_eq_mle, Filled, evals_eq_hypercube};
 
-use crate::checks::{Sizes, check_sizes, check_words, cube, equal_whole};
-use crate::{Evaluated, Outcome};
+use crate::checks::{check, check_rounds, check_words, cube, equal_whole};
+use field::Ext;
+use refusal::Refusal;
 
-fn eq_refusal(x: &[u32], y: &[u32]) -> Outcome
+#[tactic(auto, unfolding(crate::specs::Checks::refusal))]
+fn eq_refusal(x: &[u32], y: &[u32]) -> Result<(), Refusal>
     ensures { result ≡ eq_refusal x.now y.now }
 {
-    let sizes = check_sizes(Sizes {
-        lists: equal_whole(x.len(), y.len()),
-        variables: x.len() / 4,
-        table: true,
-        entries: 0,
-        power: true,
-        room: true,
-    });
-    check_words(check_words(sizes, x), y)
+    check(equal_whole(x.len(), y.len()), Refusal::BadLength)?;
+    check_rounds(x.len() / 4)?;
+    check_words(x)?;
+    check_words(y)
 }
 
 // eq of two points: the product, over their coordinates, of x·y + (1 - x)·(1 - y).
-pub fn eval_eq_mle(x: &[u32], y: &[u32]) -> Evaluated
+pub fn eval_eq_mle(x: &[u32], y: &[u32]) -> Result<Ext, Refusal>
     ensures { result ≡ eval_eq_mle x.now y.now }
 {
-    match eq_refusal(x, y) {
-        Outcome::Refused(no) => Evaluated::Refused(no),
-        Outcome::Done => Evaluated::Value(columns::eq::eq_points(x, y, x.len() / 4)),
-    }
-}
-
-fn cube_refusal(x: &[u32], out: &[u32]) -> Outcome
-    ensures { result ≡ cube_refusal x.now out.now }
-{
-    let n = x.len() / 4;
-    let sizes = check_sizes(Sizes {
-        lists: x.len() % 4 == 0,
-        variables: n,
-        table: true,
-        entries: 0,
-        power: true,
-        room: 4 * cube(n) <= out.len(),
-    });
-    check_words(sizes, x)
+    eq_refusal(x, y)?;
+    Ok(columns::eq::eq_points(x, y, x.len() / 4))
 }
 
 // The table of eq at x: entry i is the weight of index i.
-pub fn evals_eq_hypercube_serial(x: &[u32], out: &mut [u32]) -> Outcome
+#[tactic(auto, unfolding(crate::specs::Checks::refusal))]
+pub fn evals_eq_hypercube_serial(x: &[u32], out: &mut [u32]) -> Result<(), Refusal>
     ensures { ◌≡◌ {A = Filled} (record { outcome = result; target = out.new }) (evals_eq_hypercube x.now out.old) }
 {
-    match cube_refusal(x, out) {
-        Outcome::Refused(no) => Outcome::Refused(no),
-        Outcome::Done => {
-            let n = x.len() / 4;
-            let size = cube(n);
-            columns::eq::eq_table(&mut out[..4 * size], x, n);
-            Outcome::Done
-        }
-    }
+    let n = x.len() / 4;
+    check(x.len() % 4 == 0, Refusal::BadLength)?;
+    let size = cube(n)?;
+    check(4 * size <= out.len(), Refusal::ShortRoom)?;
+    check_words(x)?;
+    columns::eq::eq_table(&mut out[..4 * size], x, n);
+    Ok(())
 }
 
 // The Rust's two differ in that this one runs in parallel.
-pub fn evals_eq_hypercube(x: &[u32], out: &mut [u32]) -> Outcome
+pub fn evals_eq_hypercube(x: &[u32], out: &mut [u32]) -> Result<(), Refusal>
     ensures { ◌≡◌ {A = Filled} (record { outcome = result; target = out.new }) (evals_eq_hypercube x.now out.old) }
 {
     evals_eq_hypercube_serial(x, out)

@@ -2,8 +2,7 @@
 // Every function answers for all words and lengths; a refused call writes nothing.
 #![tactic(auto)]
 
-use field::Ext;
-use refusal::{Refusal, Report};
+use refusal::Report;
 use step::Three;
 
 mod checks; // the refusals, in document 01's order
@@ -15,28 +14,7 @@ pub mod fold; // the fold of a column
 pub mod round; // a sub-round's polynomial
 pub mod report; // the number and the values of each answer
 
-// A call that answers no element.
-#[derive(Clone, Copy)]
-pub enum Outcome {
-    Done,
-    Refused(Refusal),
-}
-
-// A call that answers an element.
-#[derive(Clone, Copy)]
-pub enum Evaluated {
-    Value(Ext),
-    Refused(Refusal),
-}
-
-// A call that answers a sub-round's polynomial at 1, 2 and 3.
-#[derive(Clone, Copy)]
-pub enum RoundEvals {
-    Values(Three),
-    Refused(Refusal),
-}
-
-// The number of such an answer, and its three values, zero where it is refused.
+// The number of a sub-round's polynomial, and its three values, zero where it is refused.
 #[derive(Clone, Copy)]
 pub struct RoundReport {
     pub report: Report,

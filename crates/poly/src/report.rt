@@ -2,42 +2,42 @@
 ghost use Rattle.std.specs.Prelude.{◌≡◌};
 ghost use Rattle.poly.specs.Reports.{outcome_report, evaluated_report, round_report};
 
-use crate::{Evaluated, Outcome, RoundEvals, RoundReport};
-use field::Ext;
-use refusal::Report;
+use crate::RoundReport;
+use field::{Ext, Field};
+use refusal::{Refusal, Report};
 use step::Three;
 
 // Of a call that answers no element.
-pub fn outcome_number_and_values(outcome: Outcome) -> Report
+pub fn outcome_number_and_values(outcome: Result<(), Refusal>) -> Report
     ensures { result ≡ outcome_report outcome }
 {
     match outcome {
-        Outcome::Done => refusal::done(0, Ext::ZERO, Ext::ZERO),
-        Outcome::Refused(refusal) => refusal::number_and_fields(refusal),
+        Ok(()) => refusal::done(0, Ext::ZERO, Ext::ZERO),
+        Err(refusal) => refusal.into(),
     }
 }
 
 // Of a call that answers an element.
-pub fn evaluated_number_and_values(evaluated: Evaluated) -> Report
+pub fn evaluated_number_and_values(evaluated: Result<Ext, Refusal>) -> Report
     ensures { result ≡ evaluated_report evaluated }
 {
     match evaluated {
-        Evaluated::Value(e) => refusal::done(0, e, Ext::ZERO),
-        Evaluated::Refused(refusal) => refusal::number_and_fields(refusal),
+        Ok(e) => refusal::done(0, e, Ext::ZERO),
+        Err(refusal) => refusal.into(),
     }
 }
 
 // Of a call that answers a sub-round's polynomial.
-pub fn round_number_and_values(evals: RoundEvals) -> RoundReport
+pub fn round_number_and_values(evals: Result<Three, Refusal>) -> RoundReport
     ensures { result ≡ round_report evals }
 {
     match evals {
-        RoundEvals::Values(s) => RoundReport {
+        Ok(values) => RoundReport {
             report: refusal::done(0, Ext::ZERO, Ext::ZERO),
-            values: s,
+            values,
         },
-        RoundEvals::Refused(refusal) => RoundReport {
-            report: refusal::number_and_fields(refusal),
+        Err(refusal) => RoundReport {
+            report: refusal.into(),
             values: Three {
                 s1: Ext::ZERO,
                 s2: Ext::ZERO,

@@ -3,9 +3,9 @@
 use mathlib.Core.Path.{◌≡◌, refl, sym, ◌∙◌, ap, subst}
 use mathlib.Core.Bool.{Bool, true, false, not, ◌&&◌, cond}
 use mathlib.Core.List.{List, [], ◌++◌, append-nil}
-use Prim.Native.Nat.{ℕ, suc, ◌+◌, ◌*◌, ◌^◌, ◌≤◌}
+use Prim.Native.Nat.{ℕ, suc, ◌≤◌}
 use native.Mathlib.Omega.{arith}
-use borrow.Author.Tests.{not-true, not-false, eq-eqb, ne_eqb}
+use borrow.Author.Tests.{not-true, not-false, eq-eqb}
 use lib.ListN.{length, drop, replicate, length-replicate}
 use Rattle.field.specs.Base as B
 use Rattle.field.specs.Ext as E
@@ -27,31 +27,23 @@ use Rattle.step.specs.Values.{IsFrac}
 use Rattle.prover_tree.specs.Nodes.{node}
 use Rattle.prover_rounds.specs.Layers.{Levels}
 use Rattle.refusal.specs.declared.Proving.{Proving}
-use Rattle.refusal.specs.declared.Refusal.TheVariants.{NonZeroRootSum, SingleRow}
+use Rattle.refusal.specs.declared.Refusal.TheVariants.{NonZeroRootSum}
 use Rattle.refusal.specs.declared.Refusal.{Refusal}
 use Rattle.refusal.specs.Tests.{Tested, passed, refused}
 use Rattle.refusal.specs.Fronts.{over}
-use Rattle.prover_gate.specs.declared.Gate.{Gate}
-use Rattle.prover_gate.specs.declared.Gate.TheVariants.{Open, Shut}
-use Rattle.sizes.specs.declared.Size.{Size}
 use Rattle.sizes.specs.Sizes.{row_count, rounds_of, work_room}
-use Rattle.prover_gate.specs.Refusals.{Call, Rooms, first_refusal, as_gate}
+use Rattle.prover_gate.specs.declared.Rooms.{Rooms}
+use Rattle.prover_gate.specs.Refusals.{Call, first_refusal, as_gate}
 use Rattle.stored.specs.Layout.{layout}
 use Rattle.stored_writer.specs.Messages.{no_rows}
 use Rattle.prover.specs.declared.Ending.{Ending}
-use Rattle.prover.specs.declared.Answer.TheVariants.{Done, Refused}
-use Rattle.prover.specs.Proved.{Buffers, Outcome, lent, outcome, laid, enc_frac, untouched, after, one_row, modelled, ran, entered, fronts, proved, rooms_of}
+use Rattle.std.specs.Prelude.{Result, Ok, Err}
+use Rattle.prover.specs.Proved.{Buffers, Outcome, lent, outcome, laid, enc_frac, after, modelled, ran, entered, fronts, proved, rooms_of, summed}
 use Rattle.prover.specs.Inner.{ending, run_of, Written, Opens}
 use Rattle.prover.proofs.Writing.{drop_all, whole_proof}
 use Rattle.prover.proofs.Opening.{gate_opens}
 
 -- THE TEST OF ROOT P
-
-pub deny_asserted : (b s : Bool) {r : Bool} → b ≡ true → r ≡ s → not r ≡ (b && not s)
-deny_asserted b s h e = rw (h, e)
-
-pub deny_open : (b s : Bool) → b ≡ false → false ≡ (b && not s)
-deny_open b s h = rw h
 
 module _ (ch : Source E.Ext) (f : ℕ → Frac E.Ext) (sized : Bool) (m : ℕ) where
   abbrev root : Frac E.Ext
@@ -98,7 +90,7 @@ module _ (rows : List ℕ) (ch : Source E.Ext) (pf pt lg ws : List ℕ) (asserte
   tested : t ≡ (asserted && not (E.same (Tree.tree ExtRing f (suc m) 0).p E.nil))
   tested = te ∙ ap (λ x. asserted && not (E.same x E.nil)) R.p.value
 
-  pub prove_refused : (ws₁ ws' : List ℕ) {r : Ending} → t ≡ true → length ws₁ ≡ length ws → ws' ≡ replicate (length ws₁) 0 → r ≡ ending (Refused NonZeroRootSum) unused
+  pub prove_refused : (ws₁ ws' : List ℕ) {r : Ending} → t ≡ true → length ws₁ ≡ length ws → ws' ≡ replicate (length ws₁) 0 → r ≡ ending (Err NonZeroRootSum) unused
       → outcome r.answer r.used pf pt lg ws' ≡ laid (modelled rows asserted sized ch m) before
   prove_refused ws₁ ws' h l w q =
       let W = whole_work ws ws' (suc m) (lw ∙ ap work_room e) (w ∙ ap (λ k. replicate k 0) l) in
@@ -106,21 +98,15 @@ module _ (rows : List ℕ) (ch : Source E.Ext) (pf pt lg ws : List ℕ) (asserte
       ∙ ap (λ a. laid (after ch sized (suc m) a) before) (sym (sumcheck_refused ch f sized m asserted (sym tested ∙ h)))
 
   pub prove_done : (b' : Buffers) (u : Used) → t ≡ false → Written f asserted sized m ch before b' u
-      → ◌≡◌ {A = Outcome} (record { answer = Done n root; used = u; buffers = b' }) (laid (modelled rows asserted sized ch m) before)
+      → ◌≡◌ {A = Outcome} (record { answer = summed n root; used = u; buffers = b' }) (laid (modelled rows asserted sized ch m) before)
   unfolding Gkr.run
   prove_done b' u h w =
       let S : root ≡ enc_frac (run_of f asserted sized m ch).sum = (λ i. record { p = enc_of_is R.p i; q = enc_of_is R.q i }) in
       let W = whole_work ws b'.work (suc m) (lw ∙ ap work_room e) w.work in
-      (λ i. outcome (Done (e i) (S i)) (w.used i) (w.proof i) (w.point i) (w.log i) (W i))
+      (λ i. outcome (summed (e i) (S i)) (w.used i) (w.proof i) (w.point i) (w.log i) (W i))
       ∙ ap (λ a. laid (after ch sized (suc m) a) before) (sym (sumcheck_done ch f sized m asserted (sym tested ∙ h)))
 
 -- NO ROUNDS
-
-pub one_refused : (rows : List ℕ) (asserted : Bool) (f : FracW) {t : Bool} → IsFrac f (node rows 0) → t ≡ (asserted && not (E.same (dec f.p) E.nil)) → t ≡ true → NonZeroRootSum ≡ one_row rows asserted
-one_refused rows asserted f h te e = ap (λ b. cond b NonZeroRootSum SingleRow) (sym e ∙ te ∙ ap (λ x. asserted && not (E.same x E.nil)) h.p.value)
-
-pub one_single : (rows : List ℕ) (asserted : Bool) (f : FracW) {t : Bool} → IsFrac f (node rows 0) → t ≡ (asserted && not (E.same (dec f.p) E.nil)) → t ≡ false → SingleRow ≡ one_row rows asserted
-one_single rows asserted f h te e = ap (λ b. cond b NonZeroRootSum SingleRow) (sym e ∙ te ∙ ap (λ x. asserted && not (E.same x E.nil)) h.p.value)
 
 zero_words : enc E.nil ≡ record { c0 = 0; c1 = 0; c2 = 0; c3 = 0 }
 unfolding E.nil E.emb B.nil B.of
@@ -131,46 +117,41 @@ unfolding E.one E.emb B.nil B.one B.of
 one_words = refl
 
 pub none_done : (rows pf pf' : List ℕ) (modes : Proving) {u : Used} → u ≡ unused → row_count rows ≡ 0 → 23 ≤ length pf → length pf' ≡ length pf → pf' ≡ layout modes.sized no_rows ++ drop 23 pf → (pt lg ws : List ℕ)
-    → outcome (Done 0 (record { p = record { c0 = 0; c1 = 0; c2 = 0; c3 = 0 }; q = record { c0 = 1; c1 = 0; c2 = 0; c3 = 0 } })) u pf' pt lg ws ≡ laid (ran rows modes [] 0) (lent pf pt lg ws)
+    → outcome (summed 0 (record { p = record { c0 = 0; c1 = 0; c2 = 0; c3 = 0 }; q = record { c0 = 1; c1 = 0; c2 = 0; c3 = 0 } })) u pf' pt lg ws ≡ laid (ran rows modes [] 0) (lent pf pt lg ws)
 unfolding words_of_point
 none_done rows pf pf' modes q h l k e pt lg ws =
     let P = whole_proof pf pf' (layout modes.sized no_rows) 23 l k e in
-    (λ i. outcome (Done 0 (record { p = sym zero_words i; q = sym one_words i })) (q i) (P i) pt lg ws)
+    (λ i. outcome (summed 0 (record { p = sym zero_words i; q = sym one_words i })) (q i) (P i) pt lg ws)
     ∙ sym (rw (eq-eqb (row_count rows) 0 h))
-
-pub one_done : (rows pf : List ℕ) (modes : Proving) {e : Refusal} {r : Ending} → (row_count rows ≡ 0 → ⊥) → e ≡ one_row rows modes.assert_zero → r ≡ ending (Refused e) unused → (pt lg ws : List ℕ)
-    → outcome r.answer r.used pf pt lg ws ≡ laid (ran rows modes [] 0) (lent pf pt lg ws)
-one_done rows pf modes h k q pt lg ws =
-    (λ i. outcome (q i).answer (q i).used pf pt lg ws) ∙ ap (λ e. outcome (Refused e) unused pf pt lg ws) k ∙ sym (rw (ne_eqb (row_count rows) 0 h))
 
 -- THE WHOLE CALL
 
 -- what the gate tells of the tests
-pub told_shut : (count : ℕ) (t : Tested) (e : Refusal) → Shut e ≡ as_gate count t → t ≡ refused e
+pub told_shut : (count : ℕ) (t : Tested) (e : Refusal) → Err e ≡ as_gate count t → t ≡ refused e
 told_shut count passed e h = cc
 told_shut count (refused d) e h = cc
 
-told_open : (count : ℕ) (t : Tested) (s : Size) → Open s ≡ as_gate count t → (t ≡ passed) × (s ≡ record { n = rounds_of count; rows = 2 ^ rounds_of count })
-told_open count passed s h = (refl, cc)
-told_open count (refused d) s h = (cc, cc)
+told_open : (count n : ℕ) (t : Tested) → Ok n ≡ as_gate count t → (t ≡ passed) × (n ≡ rounds_of count)
+told_open count n passed h = (refl, cc)
+told_open count n (refused d) h = (cc, cc)
 
-module _ (c : Call) (r : Rooms) {g : Gate} {s : Size} (h : g ≡ as_gate (row_count c.rows) (first_refusal c r)) (k : g ≡ Open s) where
-  opened : (first_refusal c r ≡ passed) × (s ≡ record { n = rounds_of (row_count c.rows); rows = 2 ^ rounds_of (row_count c.rows) })
-  opened = told_open _ (first_refusal c r) s (sym k ∙ h)
+module _ (c : Call) (r : Rooms) {g : Result ℕ Refusal} {n : ℕ} (h : g ≡ as_gate (row_count c.rows) (first_refusal c r)) (k : g ≡ Ok n) where
+  opened : (first_refusal c r ≡ passed) × (n ≡ rounds_of (row_count c.rows))
+  opened = told_open _ n (first_refusal c r) (sym k ∙ h)
 
-  pub gate_told : Opens c.rows c.modes c.challenges r s.n s.rows
-  gate_told = subst (λ z. Opens c.rows c.modes c.challenges r z.n z.rows) (sym opened.1) (gate_opens c r opened.0)
+  pub gate_told : Opens c.rows c.modes c.challenges r n
+  gate_told = subst (Opens c.rows c.modes c.challenges r) (sym opened.1) (gate_opens c r opened.0)
 
-pub proved_shut : (c : Call) (b : Buffers) {g : Gate} {e : Refusal} {r : Ending} → g ≡ as_gate (row_count c.rows) (first_refusal c (rooms_of b)) → g ≡ Shut e → r ≡ ending (Refused e) unused
+pub proved_shut : (c : Call) (b : Buffers) {g : Result ℕ Refusal} {e : Refusal} {r : Ending} → g ≡ as_gate (row_count c.rows) (first_refusal c (rooms_of b)) → g ≡ Err e → r ≡ ending (Err e) unused
     → ◌≡◌ {A = Outcome} (record { answer = r.answer; used = r.used; buffers = b }) (proved c b)
 unfolding proved fronts
 proved_shut c b {e = e} h s q =
     (λ i. outcome (q i).answer (q i).used b.proof b.point b.log b.work)
     ∙ ap (λ t. laid (entered c t) b) (sym (told_shut _ (first_refusal c (rooms_of b)) e (sym s ∙ h)))
 
-pub proved_open : (c : Call) (b : Buffers) {g : Gate} {s : Size} {o : Outcome} → g ≡ as_gate (row_count c.rows) (first_refusal c (rooms_of b)) → g ≡ Open s
-    → o ≡ laid (ran c.rows c.modes c.challenges s.n) b → o ≡ proved c b
+pub proved_open : (c : Call) (b : Buffers) {g : Result ℕ Refusal} {n : ℕ} {o : Outcome} → g ≡ as_gate (row_count c.rows) (first_refusal c (rooms_of b)) → g ≡ Ok n
+    → o ≡ laid (ran c.rows c.modes c.challenges n) b → o ≡ proved c b
 unfolding proved fronts
 proved_open c b h k q =
     let z = opened c (rooms_of b) h k in
-    q ∙ ap (λ s. laid (ran c.rows c.modes c.challenges s.n) b) z.1 ∙ ap (λ t. laid (entered c t) b) (sym z.0)
+    q ∙ ap (λ n. laid (ran c.rows c.modes c.challenges n) b) z.1 ∙ ap (λ t. laid (entered c t) b) (sym z.0)

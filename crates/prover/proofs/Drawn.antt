@@ -18,8 +18,10 @@ use Rattle.refusal.specs.declared.Refusal.{Refusal}
 use Rattle.refusal.specs.declared.Refusal.TheVariants.{RaggedRows, TooManyRows, NotPowerOfTwo, ShortChallenges, ShortRoom, BadWord, ZeroDenominator, NonZeroRootSum, SingleRow}
 use Rattle.refusal.specs.declared.Words.TheVariants.{Challenges}
 use Rattle.sizes.specs.Sizes.{row_count, rounds_of, needed_words}
-use Rattle.prover_gate.specs.Refusals.{Call, Rooms, call, tests, first_refusal}
-use Rattle.prover.specs.declared.Answer.TheVariants.{Refused}
+use Rattle.prover_gate.specs.declared.Rooms.{Rooms}
+use Rattle.prover_gate.specs.Refusals.{Call, call, tests, first_refusal}
+use Rattle.std.specs.Prelude.{Result, Err}
+use Rattle.prover.specs.declared.Done.{Done}
 use Rattle.prover.specs.Proved.{modelled, ran, entered, fronts}
 use Rattle.prover.specs.Companions.{DrawnMode}
 use Rattle.prover.proofs.Theorems.{Ends, each_end, each_front, unlike, done_refused}
@@ -46,16 +48,16 @@ module _ (c : Call) (r : Rooms) where
   tested lent = refl
 
   -- 4 is no other answer
-  four : Ends (λ f. f.answer ≡ Refused ShortChallenges → ⊥) rounds
+  four : Ends (λ f. f.answer ≡ Err ShortChallenges → ⊥) rounds
   four =
       record {
         finishes = λ ch b P h. done_refused _ _ _ h;
-        eight = unlike (Refused NonZeroRootSum) (Refused ShortChallenges) (λ z. omega arith);
-        nine = unlike (Refused SingleRow) (Refused ShortChallenges) (λ z. omega arith);
+        eight = unlike (Err NonZeroRootSum) (Err ShortChallenges) (λ z. omega arith);
+        nine = unlike (Err SingleRow) (Err ShortChallenges) (λ z. omega arith);
       }
 
-  other : (e : Refusal) → ((report_of e).number ≡ 4 → ⊥) → Refused e ≡ Refused ShortChallenges → ⊥
-  other e h = unlike (Refused e) (Refused ShortChallenges) h
+  other : (e : Refusal) → ((report_of e).number ≡ 4 → ⊥) → ◌≡◌ {A = Result Done Refusal} (Err e) (Err ShortChallenges) → ⊥
+  other e h = unlike (Err e) (Err ShortChallenges) h
 
   module _ (h : c.modes.drawn ≡ true) where
     -- none are too few, and none are taken
@@ -81,7 +83,7 @@ module _ (c : Call) (r : Rooms) where
   drawn_mode =
       record {
         unread = λ h lent. ap (entered (lending lent)) (alike h lent ∙ sym (alike h c.challenges)) ∙ enters h lent (first_refusal c r);
-        enough = λ h. each_front (λ f. f.answer ≡ Refused ShortChallenges → ⊥) c r
+        enough = λ h. each_front (λ f. f.answer ≡ Err ShortChallenges → ⊥) c r
             (both (λ m. other RaggedRows (λ z. omega arith)) (λ u1.
             both (λ m. other TooManyRows (λ z. omega arith)) (λ u2.
             both (λ m. other NotPowerOfTwo (λ z. omega arith)) (λ u3.
@@ -90,5 +92,5 @@ module _ (c : Call) (r : Rooms) where
             both (λ m. other (BadWord _ _) (λ z. omega arith)) (λ u6.
             both (λ m. other (BadWord _ _) (λ z. omega arith)) (λ u7.
             both (λ m. other (ZeroDenominator _) (λ z. omega arith)) (λ u8.
-            each_end (λ f. f.answer ≡ Refused ShortChallenges → ⊥) c.rows c.modes c.challenges rounds four)))))))));
+            each_end (λ f. f.answer ≡ Err ShortChallenges → ⊥) c.rows c.modes c.challenges rounds four)))))))));
       }

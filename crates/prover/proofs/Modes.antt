@@ -18,8 +18,10 @@ use Rattle.refusal.specs.Numbers.{report_of}
 use Rattle.refusal.specs.declared.Refusal.{Refusal}
 use Rattle.refusal.specs.declared.Refusal.TheVariants.{RaggedRows, TooManyRows, NotPowerOfTwo, ShortChallenges, ShortRoom, BadWord, ZeroDenominator, NonZeroRootSum, SingleRow}
 use Rattle.sizes.specs.Sizes.{row_count, rounds_of}
-use Rattle.prover_gate.specs.Refusals.{Call, Rooms, degenerate, lowest, tests, first_refusal}
-use Rattle.prover.specs.declared.Answer.TheVariants.{Refused}
+use Rattle.prover_gate.specs.declared.Rooms.{Rooms}
+use Rattle.prover_gate.specs.Refusals.{Call, degenerate, lowest, tests, first_refusal}
+use Rattle.std.specs.Prelude.{Result, Err}
+use Rattle.prover.specs.declared.Done.{Done}
 use Rattle.prover.specs.Proved.{ran, entered, fronts}
 use Rattle.prover.specs.Companions.{in_mode, LiveMode}
 use Rattle.prover.proofs.Theorems.{Ends, each_end, each_front, unlike, done_refused}
@@ -78,16 +80,16 @@ module _ (c : Call) (r : Rooms) where
   same (refused e) = refl
 
   -- 7 is no other answer
-  seven : (i : ℕ) → Ends (λ f. f.answer ≡ Refused (ZeroDenominator i) → ⊥) (rounds_of count)
+  seven : (i : ℕ) → Ends (λ f. f.answer ≡ Err (ZeroDenominator i) → ⊥) (rounds_of count)
   seven i =
       record {
         finishes = λ ch b P h. done_refused _ _ _ h;
-        eight = unlike (Refused NonZeroRootSum) (Refused (ZeroDenominator i)) (λ z. omega arith);
-        nine = unlike (Refused SingleRow) (Refused (ZeroDenominator i)) (λ z. omega arith);
+        eight = unlike (Err NonZeroRootSum) (Err (ZeroDenominator i)) (λ z. omega arith);
+        nine = unlike (Err SingleRow) (Err (ZeroDenominator i)) (λ z. omega arith);
       }
 
-  other : (e : Refusal) (i : ℕ) → ((report_of e).number ≡ 7 → ⊥) → Refused e ≡ Refused (ZeroDenominator i) → ⊥
-  other e i h = unlike (Refused e) (Refused (ZeroDenominator i)) h
+  other : (e : Refusal) (i : ℕ) → ((report_of e).number ≡ 7 → ⊥) → ◌≡◌ {A = Result Done Refusal} (Err e) (Err (ZeroDenominator i)) → ⊥
+  other e i h = unlike (Err e) (Err (ZeroDenominator i)) h
 
   never : false ≡ true → ⊥
   never h = let z : ◌≡◌ {A = ℕ} 0 1 = cc in omega arith
@@ -105,7 +107,7 @@ module _ (c : Call) (r : Rooms) where
         lowest = λ i l h.
             let e : low ≡ i = lowest_is c.rows count 0 i (omega arith) (let t = l.there in omega arith) l.over_zero l.below in
             ap (entered (in_mode true c)) (live_next ∙ ap (λ t. next t (checked low)) h ∙ ap checked e ∙ pass _ _ _ (lt-ltb _ _ l.there));
-        sandbox = λ i. each_front (λ f. f.answer ≡ Refused (ZeroDenominator i) → ⊥) (in_mode false c) r
+        sandbox = λ i. each_front (λ f. f.answer ≡ Err (ZeroDenominator i) → ⊥) (in_mode false c) r
             (both (λ m. other RaggedRows i (λ z. omega arith)) (λ u1.
             both (λ m. other TooManyRows i (λ z. omega arith)) (λ u2.
             both (λ m. other NotPowerOfTwo i (λ z. omega arith)) (λ u3.
@@ -114,5 +116,5 @@ module _ (c : Call) (r : Rooms) where
             both (λ m. other (BadWord _ _) i (λ z. omega arith)) (λ u6.
             both (λ m. other (BadWord _ _) i (λ z. omega arith)) (λ u7.
             both (λ m. absurd (never m)) (λ u8.
-            each_end (λ f. f.answer ≡ Refused (ZeroDenominator i) → ⊥) c.rows (in_mode false c).modes c.challenges (rounds_of count) (seven i))))))))));
+            each_end (λ f. f.answer ≡ Err (ZeroDenominator i) → ⊥) c.rows (in_mode false c).modes c.challenges (rounds_of count) (seven i))))))))));
       }

@@ -18,8 +18,8 @@ use Rattle.wire.specs.WordLaws.{canonical_below}
 use Rattle.prover_rounds.specs.Layers.{log_up_to, used_up_to}
 use Rattle.sizes.specs.Sizes.{row_count, rounds_from, rounds_of, needed_words, log_room, work_room}
 use Rattle.sizes.specs.SizeLaws.{few_rounds, some_size}
-use Rattle.sizes.specs.LimitLaws.{rounds_small}
-use Rattle.prover_gate.specs.Refusals.{Call, Rooms, short_room, tests, first_refusal}
+use Rattle.prover_gate.specs.declared.Rooms.{Rooms}
+use Rattle.prover_gate.specs.Refusals.{Call, rooms, short_room, tests, first_refusal}
 use Rattle.prover.specs.Inner.{Room, Opens}
 
 -- A GATE THAT IS OPEN
@@ -32,7 +32,7 @@ or_right : (a b : Bool) → (a || b) ≡ false → b ≡ false
 or_right true b h = let z : ◌≡◌ {A = ℕ} 0 1 = cc in absurd (omega arith)
 or_right false b h = h
 
-pub gate_opens : (c : Call) (r : Rooms) → first_refusal c r ≡ passed → let n = rounds_of (row_count c.rows) in Opens c.rows c.modes c.challenges r n (2 ^ n)
+pub gate_opens : (c : Call) (r : Rooms) → first_refusal c r ≡ passed → Opens c.rows c.modes c.challenges r (rounds_of (row_count c.rows))
 unfolding first_refusal short_room
 gate_opens c r h =
     let n = rounds_of (row_count c.rows) in
@@ -46,7 +46,6 @@ gate_opens c r h =
     record {
       rounds = refl;
       few = few_rounds (row_count c.rows);
-      pow = refl;
       words = omega arith;
       all = some_size (row_count c.rows) (not-false _ p3.0);
       challenges = ltb-false _ _ p3.1.0;
@@ -76,19 +75,14 @@ used_needed m =
     let h : used_up_to (suc m) ≡ 2 * suc m - 1 + suc m * m / 2 + 1 = omega (arith, used_sum (suc m)) in
     h ∙ ap (λ k. 2 * suc m - 1 + suc m * k / 2 + 1) e
 
-pub work_enough : {n size w : ℕ} → 1 ≤ n → size ≡ 2 ^ n → w ≡ work_room n → 18 * size ≤ w
-work_enough {n = zero} l s e = absurd (omega arith)
-work_enough {n = suc m} l s e = omega (arith, s, e)
-
 -- over the needed parts of challenges, point and workspace
 module _ (rows : List ℕ) (modes : Proving) (ch : List ℕ) (r : Rooms) where
-  pub run_room : (n size need w : ℕ) {c p x l k : ℕ} → Opens rows modes ch r n size → (n ≡ 0 → ⊥) → need ≡ needed_words modes.drawn n → w ≡ work_room n
-      → c ≡ need → p ≡ r.proof → x ≡ 4 * n → l ≡ r.log → k ≡ w → Room modes.assert_zero modes.sized modes.drawn n size c p x l k
-  run_room zero size need w O z d we ec ep ex el ew = absurd (z refl)
-  run_room (suc m) size need w O z d we ec ep ex el ew = record {
+  pub run_room : (n need w : ℕ) {c p x l k : ℕ} → Opens rows modes ch r n → (n ≡ 0 → ⊥) → need ≡ needed_words modes.drawn n → w ≡ work_room n
+      → c ≡ need → p ≡ r.proof → x ≡ 4 * n → l ≡ r.log → k ≡ w → Room modes n c (rooms p x l k)
+  run_room zero need w O z d we ec ep ex el ew = absurd (z refl)
+  run_room (suc m) need w O z d we ec ep ex el ew = record {
     some = omega arith;
-    few = omega (arith, rounds_small (suc m) O.few);
-    pow = O.pow;
+    few = O.few;
     proof = let h = O.proof in omega arith;
     point = ex;
     log = let h = O.log in omega (arith, log_sum (suc m));
@@ -96,16 +90,16 @@ module _ (rows : List ℕ) (modes : Proving) (ch : List ℕ) (r : Rooms) where
     work = ew ∙ we;
   }
 
-  pub rows_room : {n size : ℕ} → Opens rows modes ch r n size → (n ≡ 0 → ⊥) → 8 * size ≤ length rows
+  pub rows_room : {n : ℕ} → Opens rows modes ch r n → (n ≡ 0 → ⊥) → 8 * 2 ^ n ≤ length rows
   unfolding rounds_from
   rows_room O z =
       let w = O.words in
-      let q = O.all (λ h. z (O.rounds ∙ ap rounds_of h)) ∙ ap (λ k. 2 ^ k) (sym O.rounds) ∙ sym O.pow in
+      let q = O.all (λ h. z (O.rounds ∙ ap rounds_of h)) ∙ ap (λ k. 2 ^ k) (sym O.rounds) in
       omega (arith, w, q)
 
   -- the needed parts are there
-  pub parts_room : {n size need w : ℕ} → Opens rows modes ch r n size → need ≡ needed_words modes.drawn n → w ≡ work_room n → (need ≤ length ch) × (4 * n ≤ r.point) × (w ≤ r.work)
+  pub parts_room : {n need w : ℕ} → Opens rows modes ch r n → need ≡ needed_words modes.drawn n → w ≡ work_room n → (need ≤ length ch) × (4 * n ≤ r.point) × (w ≤ r.work)
   parts_room O d we = (subst (λ k. k ≤ length ch) (sym d) O.challenges, O.point, subst (λ k. k ≤ r.work) (sym we) O.work)
 
-  pub supplied_part : {n size need : ℕ} → Opens rows modes ch r n size → need ≡ needed_words modes.drawn n → Clean (take need ch)
+  pub supplied_part : {n need : ℕ} → Opens rows modes ch r n → need ≡ needed_words modes.drawn n → Clean (take need ch)
   supplied_part O d = subst (λ k. Clean (take k ch)) (sym d) O.supplied

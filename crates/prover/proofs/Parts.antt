@@ -73,7 +73,3 @@ run_parts rows ch pf pt lg ws modes n need k w r pf' xi' lg' ws' nz de ke we kl 
     ∙ glued c modes.sized (suc m) k w pf pt lg ws kn wn kl wl a (Count.done_point Extension (Drawing c) asserted m (node rows) start)
     ∙ ap (λ j. laid (modelled rows asserted modes.sized (source modes.drawn (take j ch)) m) b) (de ∙ ap (needed_words modes.drawn) e)
     ∙ ap (λ j. laid (ran rows modes ch j) b) (sym e)
-
--- no rounds take no challenges
-pub no_parts : (rows ch : List ℕ) (modes : Proving) (b : Buffers) {n : ℕ} {o : Outcome} → o ≡ laid (ran rows modes [] 0) b → n ≡ 0 → o ≡ laid (ran rows modes ch n) b
-no_parts rows ch modes b h e = h ∙ ap (λ n. laid (ran rows modes ch n) b) (sym e)

@@ -24,10 +24,11 @@ use Rattle.refusal.specs.declared.Proving.{Proving}
 use Rattle.refusal.specs.declared.Refusal.{Refusal}
 use Rattle.refusal.specs.declared.Refusal.TheVariants.{RaggedRows, TooManyRows, NotPowerOfTwo, ShortChallenges, ShortRoom, BadWord, ZeroDenominator, NonZeroRootSum, SingleRow}
 use Rattle.sizes.specs.Sizes.{row_count, rounds_of, needed_words, work_room}
-use Rattle.prover_gate.specs.Refusals.{Call, Rooms, tests, first_refusal}
-use Rattle.prover.specs.declared.Answer.{Answer}
-use Rattle.prover.specs.declared.Answer.TheVariants.{Done, Refused}
-use Rattle.prover.specs.Proved.{Buffers, Outcome, rooms_of, outcome, laid, untouched, finished, after, ran, entered, fronts, proved}
+use Rattle.prover_gate.specs.declared.Rooms.{Rooms}
+use Rattle.prover_gate.specs.Refusals.{Call, tests, first_refusal}
+use Rattle.prover.specs.declared.Done.{Done}
+use Rattle.std.specs.Prelude.{Result, Err}
+use Rattle.prover.specs.Proved.{Buffers, Outcome, rooms_of, outcome, laid, untouched, finished, after, ran, entered, fronts, proved, summed}
 use Rattle.prover.specs.Report.{answer_report}
 use Rattle.prover.specs.Companions.{Isolation, Left, Wiping}
 
@@ -50,7 +51,7 @@ isolation c b b' e = (laid_over c b, laid_over c b' ∙ ap (λ r. laid (fronts c
 -- Q of each end of a run over n rounds
 pub record Ends (Q : Outcome → Type 0) (n : ℕ) : Type 0 where
   pub finishes : (ch : Source E.Ext) (sized : Bool) (P : Gkr.Proved Extension (Drawing ch)) → Q (finished ch sized n P)
-  pub eight : Q (outcome (Refused NonZeroRootSum) unused [] [] [] (replicate (work_room n) 0))
+  pub eight : Q (outcome (Err NonZeroRootSum) unused [] [] [] (replicate (work_room n) 0))
   pub nine : Q (untouched SingleRow)
 
 pub each_end : (Q : Outcome → Type 0) (rows : List ℕ) (modes : Proving) (ch : List ℕ) (n : ℕ) → Ends Q n → Q (ran rows modes ch n)
@@ -71,20 +72,31 @@ unfolding fronts first_refusal
 each_front Q c r w = each_way (λ t. Q (entered c t)) (tests c r) w
 
 -- answers of two numbers differ
-pub unlike : (a a' : Answer) → ((answer_report a).number ≡ (answer_report a').number → ⊥) → a ≡ a' → ⊥
+pub unlike : (a a' : Result Done Refusal) → ((answer_report a).number ≡ (answer_report a').number → ⊥) → a ≡ a' → ⊥
 unlike a a' h e = h (ap (λ x. (answer_report x).number) e)
 
 -- WHAT IS LEFT
 
-pub done_refused : (n : ℕ) (s : Frac) (e : Refusal) → Done n s ≡ Refused e → ⊥
+-- what is done over n rounds with a sum is so over no others, and with no other
+module _ {n k : ℕ} {s t : Frac} (h : summed n s ≡ summed k t) where
+  same_done : ◌≡◌ {A = Done} (record { rounds = n; sum = s }) (record { rounds = k; sum = t })
+  same_done = cc
+
+  pub same_rounds : n ≡ k
+  same_rounds = ap (λ (d : Done). d.rounds) same_done
+
+  pub same_sum : s ≡ t
+  same_sum = ap (λ (d : Done). d.sum) same_done
+
+pub done_refused : (n : ℕ) (s : Frac) (e : Refusal) → summed n s ≡ Err e → ⊥
 done_refused n s e h = let z : ◌≡◌ {A = ℕ} 0 1 = cc in omega arith
 
 module _ (n : ℕ) where
-  quiet : (e : Refusal) → ((answer_report (Refused e)).number ≡ 8 → ⊥) → Left n (untouched e)
+  quiet : (e : Refusal) → ((answer_report (Err e)).number ≡ 8 → ⊥) → Left n (untouched e)
   quiet e d =
       record {
         done = λ k s h. absurd (done_refused k s e (sym h));
-        eight = λ h. absurd (unlike (Refused e) (Refused NonZeroRootSum) d h);
+        eight = λ h. absurd (unlike (Err e) (Err NonZeroRootSum) d h);
         other = λ x q h. refl;
       }
 
@@ -92,7 +104,7 @@ module _ (n : ℕ) where
   ends_left =
       record {
         finishes = λ ch b P. record {
-          done = λ k s h. let e : n ≡ k = cc in ap (λ (j : ℕ). replicate (work_room j) 0) e;
+          done = λ k s h. ap (λ (j : ℕ). replicate (work_room j) 0) (same_rounds h);
           eight = λ h. absurd (done_refused n _ NonZeroRootSum h);
           other = λ x q h. absurd (done_refused n _ x h);
         };

@@ -5,7 +5,6 @@ use mathlib.Core.Bool.{Bool}
 use mathlib.Core.List.{List, []}
 use Prim.Native.Nat.{ℕ, zero, suc, ◌+◌}
 use native.Mathlib.Nat.{zero-add}
-use native.Mathlib.Omega.{arith}
 use lib.Dec.{eqb}
 use lib.ListN.{length, take}
 use Rattle.field.specs.Ext as E
@@ -30,10 +29,10 @@ use Rattle.refusal.specs.declared.Refusal.{Refusal}
 use Rattle.refusal.specs.declared.Refusal.TheVariants.{NonZeroRootSum}
 use Rattle.sizes.specs.Sizes.{row_count, rounds_of, needed_words, log_room}
 use Rattle.prover_gate.specs.Refusals.{Call, first_refusal}
-use Rattle.prover.specs.declared.Answer.TheVariants.{Refused}
+use Rattle.std.specs.Prelude.{Err}
 use Rattle.prover.specs.Proved.{outcome, finished, after, one_row, ran, entered, fronts}
 use Rattle.prover.specs.Companions.{UsedUp, UsingUp}
-use Rattle.prover.proofs.Theorems.{done_refused}
+use Rattle.prover.proofs.Theorems.{done_refused, same_rounds}
 
 module _ (c : Call) where
   abbrev asserted : Bool
@@ -43,7 +42,7 @@ module _ (c : Call) where
   sized = c.modes.sized
 
   -- a refusal logs nothing, whatever it leaves of the workspace
-  refuses : (e : Refusal) (work : List ℕ) → UsedUp c (outcome (Refused e) unused [] [] [] work)
+  refuses : (e : Refusal) (work : List ℕ) → UsedUp c (outcome (Err e) unused [] [] [] work)
   unfolding sampled_words
   refuses e work = record { words = refl; sampled = refl; done = λ n s h. absurd (done_refused n s e (sym h)); none = λ x h. refl }
 
@@ -53,7 +52,7 @@ module _ (c : Call) where
       record {
         words = refl;
         sampled = refl;
-        done = λ n s h. let k : 0 ≡ n = cc in ap (λ (j : ℕ). used (challenges j) (log_room asserted sized j)) k;
+        done = λ n s h. let k = same_rounds h in ap (λ (j : ℕ). used (challenges j) (log_room asserted sized j)) k;
         none = λ x h. absurd (done_refused 0 _ x h);
       }
 
@@ -66,7 +65,7 @@ module _ (c : Call) where
       record {
         words = refl;
         sampled = TranscriptLaws.done_marked Extension words ch (λ x. refl) unmarked asserted m (node c.rows) start P e (bound_marked sized (suc m));
-        done = λ n s h. let k : suc m ≡ n = cc in (λ i. used (drew i) (wrote i)) ∙ ap (λ (j : ℕ). used (challenges j) (log_room asserted sized j)) k;
+        done = λ n s h. let k = same_rounds h in (λ i. used (drew i) (wrote i)) ∙ ap (λ (j : ℕ). used (challenges j) (log_room asserted sized j)) k;
         none = λ x h. absurd (done_refused (suc m) _ x h);
       }
   run_uses ch m non_zero_root_sum e = refuses NonZeroRootSum _

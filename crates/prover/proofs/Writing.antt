@@ -14,14 +14,13 @@ use Rattle.field.specs.Element.{dec, words_of_point}
 use Rattle.field.specs.Cells.{Clean, cells}
 use Rattle.field.proofs.PointLaws.{cells_length, point_length, point_is}
 use Rattle.gkr.specs.Run.{Frac}
-use Rattle.gkr.specs.Transcripts.{Words, empty, Source}
+use Rattle.gkr.specs.Transcripts.{Words, empty}
 use Rattle.gkr.specs.Tree as Tree
 use Rattle.gkr.specs.Gkr as Gkr
-use Rattle.transcript.specs.declared.Pos.{Pos}
 use Rattle.transcript.specs.Source.{source}
-use Rattle.transcript.specs.Log.{Drawing, log_of, Steps}
+use Rattle.transcript.specs.Log.{Drawing, State, Steps, log_of, source_of}
 use Rattle.transcript.specs.Bound.{bound}
-use Rattle.transcript.proofs.Logs.{then, retold}
+use Rattle.transcript.proofs.Logs.{then, retold, same_source}
 use Rattle.transcript.specs.declared.Used.{Used}
 use Rattle.transcript.specs.Used.{used, used_up, used_at}
 use Rattle.step.specs.declared.Frac.{Frac as FracW}
@@ -31,7 +30,6 @@ use Rattle.stored.specs.Lengths.{proof_size}
 use Rattle.stored.specs.Elements.{encoded}
 use Rattle.stored_writer.specs.Messages.{stored_proof, read_proof}
 use Rattle.prover_run.specs.Runs.{begun, RunOf}
-use Rattle.prover_run.proofs.Whole.{past}
 use Rattle.refusal.specs.Fronts.{over}
 use Rattle.prover.specs.Proved.{lent}
 use Rattle.prover.specs.Inner.{run_of, Written}
@@ -68,50 +66,60 @@ whole_proof pf pf' bs k h l e =
     e ∙ ap (λ n. bs ++ drop n pf) (sym s)
 
 -- the four words of the size, or none, and then those of root p, or none
-pub opens : (asserted sized : Bool) (n : ℕ) (p : E.Ext) (lg lg₀ lg₁ : List ℕ) {ls : List ℕ} (first told pos : Pos)
-    → Steps lg lg₀ ls ls first told (cond sized 4 0) 0 (bound sized n (log_of lg first)) → Steps lg₀ lg₁ ls ls told pos (cond asserted 0 4) 0 (begun asserted p (log_of lg₀ told))
-    → Steps lg lg₁ ls ls first pos (cond sized 4 0 + cond asserted 0 4) 0 (begun asserted p (bound sized n (log_of lg first)))
-opens asserted sized n p lg lg₀ lg₁ first told pos s s' =
-    retold lg lg₁ first pos _ _ _ _ _ _ refl refl (ap (begun asserted p) s.log) (then lg lg₀ lg₁ first told pos _ _ _ _ _ _ s s')
+pub opens : (asserted sized : Bool) (n : ℕ) (p : E.Ext) {s₀ s₁ s₂ : State}
+    → Steps s₀ s₁ (cond sized 4 0) 0 (bound sized n (log_of s₀)) → Steps s₁ s₂ (cond asserted 0 4) 0 (begun asserted p (log_of s₁))
+    → Steps s₀ s₂ (cond sized 4 0 + cond asserted 0 4) 0 (begun asserted p (bound sized n (log_of s₀)))
+opens asserted sized n p a b = retold refl refl (ap (begun asserted p) a.log) (then a b)
 
 -- they are whole cells
-pub quarter : (asserted sized : Bool) (at put : ℕ) → at ≡ 0 → put ≡ at + (cond sized 4 0 + cond asserted 0 4) → put ≡ 4 * (put / 4)
-quarter true true at put e h = omega arith
-quarter true false at put e h = omega arith
-quarter false true at put e h = omega arith
-quarter false false at put e h = omega arith
+pub quarter : (asserted sized : Bool) (put : ℕ) → put ≡ cond sized 4 0 + cond asserted 0 4 → put ≡ 4 * (put / 4)
+quarter true true put h = omega arith
+quarter true false put h = omega arith
+quarter false true put h = omega arith
+quarter false false put h = omega arith
 
--- a run with the challenges of one source is one with those of an equal one
-pub run_alike : (ch : List ℕ) {f : ℕ → Frac E.Ext} {pt lg lg' : List ℕ} {m : ℕ} {pos pos' : Pos} {b b' : Bool} → b ≡ b' → RunOf f pt lg lg' (source b ch) m pos pos' → RunOf f pt lg lg' (source b' ch) m pos pos'
-run_alike ch {f} {pt} {lg} {lg'} {m} {pos} {pos'} e h = subst (λ (b : Bool). RunOf f pt lg lg' (source b ch) m pos pos') e h
+-- a transcript that has just begun over a buffer, with the challenges ch, or drawn ones where b is true
+pub record Fresh (s : State) (lg : List ℕ) (b : Bool) (ch : List ℕ) : Type 0 where
+  pub buffer : s.buffer ≡ lg
+  pub challenges : s.challenges ≡ ch
+  pub drawn : s.drawn ≡ b
+  pub put : s.put ≡ 0
+  pub used : s.used ≡ 0
 
--- WHAT WAS USED UP: as much as the log at the last position holds
+-- the challenges are those lent, or drawn
+pub run_alike : {f : ℕ → Frac E.Ext} {pt lg ch : List ℕ} {drawn : Bool} {m k : ℕ} {t : Words} {s₀ s₁ s₂ : State} → Fresh s₀ lg drawn ch → Steps s₀ s₁ k 0 t → RunOf f pt s₁ s₂ (source_of s₁) m → RunOf f pt s₁ s₂ (source drawn ch) m
+run_alike {f} {pt} {m = m} {s₁ = s₁} {s₂ = s₂} F a h = subst (λ c. RunOf f pt s₁ s₂ c m) (same_source a ∙ (λ i. source (F.drawn i) (F.challenges i))) h
 
-pub told_at : (lg : List ℕ) (z : Pos) (t : Words) {u : Used} → z.put ≤ length lg → log_of lg z ≡ t → u ≡ used_at z → u ≡ used_up t
-told_at lg z t l e q = q ∙ ap (λ (k : ℕ). used z.used k) (sym (length-take-le z.put lg l)) ∙ ap used_up e
+-- WHAT WAS USED UP: as much as the log at the last state holds
+
+pub told_at : (s : State) (t : Words) {u : Used} → s.put ≤ length s.buffer → log_of s ≡ t → u ≡ used_at s → u ≡ used_up t
+told_at s t l e q = q ∙ ap (λ (k : ℕ). used s.used k) (sym (length-take-le s.put s.buffer l)) ∙ ap used_up e
 
 -- ALL
 
-pub written : (f : ℕ → Frac E.Ext) (asserted sized : Bool) (m n : ℕ) (ch : Source E.Ext) (pf pf' pt pt' lg lg₁ lg₂ ws ws₁ ws' : List ℕ) {ls ls₁ : List ℕ} (first pos z : Pos) (root : FracW) {u : Used}
-    → first.put ≡ 0 → first.used ≡ 0 → n ≡ suc m → IsFrac root (Tree.tree ExtRing f (suc m) 0)
-    → Steps lg lg₁ ls ls₁ first pos (cond sized 4 0 + cond asserted 0 4) 0 (begun asserted (dec root.p) (bound sized n (log_of lg first))) → pos.put ≤ length lg₁
-    → RunOf f pt' lg₁ lg₂ ch m pos z → pos.put ≤ z.put → z.put ≤ length lg₂
+pub written : (f : ℕ → Frac E.Ext) (asserted sized : Bool) (m n : ℕ) {drawn : Bool} {ch lg lg' : List ℕ} (pf pf' pt pt' ws ws₁ ws' : List ℕ) (s₀ s₁ s₂ : State) (root : FracW) {u : Used} → lg' ≡ s₂.buffer
+    → Fresh s₀ lg drawn ch → n ≡ suc m → IsFrac root (Tree.tree ExtRing f (suc m) 0)
+    → Steps s₀ s₁ (cond sized 4 0 + cond asserted 0 4) 0 (begun asserted (dec root.p) (bound sized n (log_of s₀))) → s₁.put ≤ length s₁.buffer
+    → RunOf f pt' s₁ s₂ (source_of s₁) m → s₂.put ≤ length s₂.buffer
     → Clean pt' → length pt ≡ 4 * n → length pt' ≡ 4 * n
-    → proof_size n ≤ length pf → length pf' ≡ length pf → pf' ≡ layout sized (stored_proof lg₂ (pos.put / 4) (n - 1)) ++ drop (proof_size n) pf
-    → ws' ≡ replicate (length ws₁) 0 → length ws₁ ≡ length ws → u ≡ used_at z
-    → Written f asserted sized m ch (lent pf pt lg ws) (lent pf' pt' lg₂ ws') u
-written f asserted sized m n ch pf pf' pt pt' lg lg₁ lg₂ ws ws₁ ws' first pos z root e₀ e₁ e h s l₁ R u l₂ c lp lp' kp kf ep ew lw eu =
-    let run : Words → Gkr.Proved Extension (Drawing ch) = Gkr.run Extension (Drawing ch) m f in
-    let none : log_of lg first ≡ empty = (λ i. record { log = take (e₀ i) lg; used = e₁ i }) in
-    let t : log_of lg₁ pos ≡ begun asserted (Tree.tree ExtRing f (suc m) 0).p (bound sized (suc m) empty) = s.log ∙ ap₂ (begun asserted) h.p.value (ap₂ (bound sized) e none) in
-    let i = pos.put / 4 in
+    → proof_size n ≤ length pf → length pf' ≡ length pf → pf' ≡ layout sized (stored_proof lg' (s₁.put / 4) (n - 1)) ++ drop (proof_size n) pf
+    → ws' ≡ replicate (length ws₁) 0 → length ws₁ ≡ length ws → u ≡ used_at s₂
+    → Written f asserted sized m (source drawn ch) (lent pf pt lg ws) (lent pf' pt' lg' ws') u
+written f asserted sized m n {drawn} {ch} {lg} {lg'} pf pf' pt pt' ws ws₁ ws' s₀ s₁ s₂ root el F e h a l₁ R l₂ c lp lp' kp kf ep ew lw eu =
+    let src = source drawn ch in
+    let run : Words → Gkr.Proved Extension (Drawing src) = Gkr.run Extension (Drawing src) m f in
+    let Q = run_alike F a R in
+    let none : log_of s₀ ≡ empty = (λ i. record { log = take (F.put i) s₀.buffer; used = F.used i }) in
+    let t : log_of s₁ ≡ begun asserted (Tree.tree ExtRing f (suc m) 0).p (bound sized (suc m) empty) = a.log ∙ ap₂ (begun asserted) h.p.value (ap₂ (bound sized) e none) in
+    let i = s₁.put / 4 in
     let q : n - 1 ≡ m = omega arith in
-    let X : Extends (run (log_of lg₁ pos)).log lg₂ = record { rest = drop z.put lg₂; whole = sym (take-append-drop z.put lg₂) ∙ ap (λ w. w.log ++ drop z.put lg₂) R.log } in
-    let there = proof_there ch m f (log_of lg₁ pos) lg₂ i (length-take-le pos.put lg₁ l₁ ∙ quarter asserted sized first.put pos.put e₀ s.put) X in
+    let four : s₁.put ≡ 4 * i = quarter asserted sized s₁.put (omega (arith, a.put, F.put)) in
+    let X : Extends (run (log_of s₁)).log s₂.buffer = record { rest = drop s₂.put s₂.buffer; whole = sym (take-append-drop s₂.put s₂.buffer) ∙ ap (λ w. w.log ++ drop s₂.put s₂.buffer) Q.steps.log } in
+    let there = proof_there src m f (log_of s₁) s₂.buffer i (length-take-le s₁.put s₁.buffer l₁ ∙ four) X in
     record {
-      used = told_at lg₂ z _ l₂ (R.log ∙ ap (λ u. (run u).log) t) eu;
-      proof = whole_proof pf pf' (layout sized (encoded (run_of f asserted sized m ch).proof)) (proof_size n) kp kf (ep ∙ ap (λ π. layout sized (encoded π) ++ drop (proof_size n) pf) (ap (λ k. read_proof lg₂ i k) q ∙ there ∙ ap (λ u. (run u).proof) t));
-      point = whole_point pt pt' n _ c lp lp' (ap (cells pt' 0) e ∙ R.point ∙ ap (λ u. (run u).point) t);
-      log = whole_log lg lg₂ _ z.put l₂ (ap (λ w. w.log) R.log ∙ ap (λ u. (run u).log.log) t) (R.rest ∙ past lg lg₁ pos.put z.put u s.rest);
+      used = told_at s₂ _ l₂ (Q.steps.log ∙ ap (λ u. (run u).log) t) eu;
+      proof = whole_proof pf pf' (layout sized (encoded (run_of f asserted sized m src).proof)) (proof_size n) kp kf (ep ∙ ap (λ l. layout sized (stored_proof l i (n - 1)) ++ drop (proof_size n) pf) el ∙ ap (λ π. layout sized (encoded π) ++ drop (proof_size n) pf) (ap (λ k. read_proof s₂.buffer i k) q ∙ there ∙ ap (λ u. (run u).proof) t));
+      point = whole_point pt pt' n _ c lp lp' (ap (cells pt' 0) e ∙ Q.point ∙ ap (λ u. (run u).point) t);
+      log = el ∙ whole_log lg s₂.buffer _ s₂.put l₂ (ap (λ w. w.log) Q.steps.log ∙ ap (λ u. (run u).log.log) t) ((then a Q.steps).rest ∙ ap (drop s₂.put) F.buffer);
       work = ew ∙ ap (λ k. replicate k 0) lw;
     }

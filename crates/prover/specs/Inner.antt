@@ -1,6 +1,6 @@
 -- What the prover's inner functions ask for and leave.
 -- Assumes nothing.
-use Rattle.std.specs.Prelude.{◌≡◌, Bool, false, cond, List, ℕ, suc, ◌+◌, ◌*◌, ◌^◌, ◌<◌, ◌≤◌, length, take, replicate}
+use Rattle.std.specs.Prelude.{◌≡◌, Bool, false, cond, List, ℕ, suc, ◌+◌, ◌*◌, ◌^◌, ◌≤◌, length, take, replicate, Result}
 use Rattle.field.specs.Ext as E
 use Rattle.field.specs.ExtRing.{ExtRing}
 use Rattle.field.specs.Extension.{Extension}
@@ -22,14 +22,15 @@ use Rattle.prover_run.specs.Runs.{begun}
 use Rattle.prover_rounds.specs.Layers.{log_up_to, used_up_to}
 use Rattle.refusal.specs.Limits.{max_rounds}
 use Rattle.refusal.specs.declared.Proving.{Proving}
+use Rattle.refusal.specs.declared.Refusal.{Refusal}
 use Rattle.sizes.specs.Sizes.{row_count, rounds_of, needed_words, log_room, work_room}
-use Rattle.prover_gate.specs.Refusals.{Rooms}
+use Rattle.prover_gate.specs.declared.Rooms.{Rooms}
 use Rattle.refusal.specs.Fronts.{over}
-use Rattle.prover.specs.declared.Answer.{Answer}
+use Rattle.prover.specs.declared.Done.{Done}
 use Rattle.prover.specs.declared.Ending.{Ending}
 use Rattle.prover.specs.Proved.{Buffers}
 
-abbrev pub ending : Answer → Used → Ending
+abbrev pub ending : Result Done Refusal → Used → Ending
 ending answer used = record { answer = answer; used = used }
 
 -- the model's run over 2 ^ suc m rows f
@@ -44,22 +45,20 @@ pub record Written (f : ℕ → Frac E.Ext) (asserted sized : Bool) (m : ℕ) (c
   pub log : b'.log ≡ over (run_of f asserted sized m ch).log.log b.log
   pub work : b'.work ≡ replicate (length b.work) 0
 
--- the room of a run over n rounds, in the lent parts
-pub record Room (asserted sized drawn : Bool) (n size : ℕ) (c p x l w : ℕ) : Type 0 where
+-- the room of a run over n rounds, in the lent parts of these lengths, with so many challenge words
+pub record Room (modes : Proving) (n challenges : ℕ) (r : Rooms) : Type 0 where
   pub some : 1 ≤ n
-  pub few : n < 256
-  pub pow : size ≡ 2 ^ n
-  pub proof : proof_size n ≤ p
-  pub point : x ≡ 4 * n
-  pub log : cond sized 4 0 + cond asserted 0 4 + log_up_to n ≤ l
-  pub used : drawn ≡ false → 4 * used_up_to n ≤ c + 4
-  pub work : w ≡ work_room n
+  pub few : n ≤ max_rounds
+  pub proof : proof_size n ≤ r.proof
+  pub point : r.point ≡ 4 * n
+  pub log : cond modes.sized 4 0 + cond modes.assert_zero 0 4 + log_up_to n ≤ r.log
+  pub used : modes.drawn ≡ false → 4 * used_up_to n ≤ challenges + 4
+  pub work : r.work ≡ work_room n
 
--- what an open gate tells of a sheet of n rounds and of size rows
-pub record Opens (rows : List ℕ) (modes : Proving) (ch : List ℕ) (r : Rooms) (n size : ℕ) : Type 0 where
+-- what an open gate tells of a sheet of n rounds
+pub record Opens (rows : List ℕ) (modes : Proving) (ch : List ℕ) (r : Rooms) (n : ℕ) : Type 0 where
   pub rounds : n ≡ rounds_of (row_count rows)
   pub few : n ≤ max_rounds
-  pub pow : size ≡ 2 ^ n
   pub words : length rows ≡ 8 * row_count rows
   pub all : (row_count rows ≡ 0 → ⊥) → row_count rows ≡ 2 ^ rounds_of (row_count rows)
   pub challenges : needed_words modes.drawn n ≤ length ch

@@ -1,6 +1,6 @@
 -- What a call of the prover answers, uses up and writes at the front of every buffer, and what these hold after it: the refusals in their order, the model's run, and the stored forms.
 -- Assumes nothing.
-use Rattle.std.specs.Prelude.{Bool, cond, not, ◌&&◌, List, [], ℕ, zero, suc, eqb, length, take, replicate}
+use Rattle.std.specs.Prelude.{Bool, cond, not, ◌&&◌, List, [], ℕ, zero, suc, eqb, length, take, replicate, Result, Ok, Err}
 use Rattle.field.specs.Ext as E
 use Rattle.field.specs.Extension.{Extension}
 use Rattle.field.specs.Element.{enc, words_of_point}
@@ -23,9 +23,9 @@ use Rattle.refusal.specs.declared.Proving.{Proving}
 use Rattle.refusal.specs.declared.Refusal.{Refusal}
 use Rattle.refusal.specs.declared.Refusal.TheVariants.{NonZeroRootSum, SingleRow}
 use Rattle.sizes.specs.Sizes.{row_count, rounds_of, needed_words, work_room}
-use Rattle.prover_gate.specs.Refusals.{Call, Rooms, first_refusal}
-use Rattle.prover.specs.declared.Answer.{Answer}
-use Rattle.prover.specs.declared.Answer.TheVariants.{Done, Refused}
+use Rattle.prover_gate.specs.declared.Rooms.{Rooms}
+use Rattle.prover_gate.specs.Refusals.{Call, rooms, first_refusal}
+use Rattle.prover.specs.declared.Done.{Done}
 
 -- the buffers lent for proof bytes, point, log and work
 pub record Buffers : Type 0 where
@@ -38,15 +38,19 @@ abbrev pub lent : (proof point log work : List ℕ) → Buffers
 lent proof point log work = record { proof = proof; point = point; log = log; work = work }
 
 abbrev pub rooms_of : Buffers → Rooms
-rooms_of b = record { proof = length b.proof; point = length b.point; log = length b.log; work = length b.work }
+rooms_of b = rooms (length b.proof) (length b.point) (length b.log) (length b.work)
+
+-- n rounds are done, with the sum s
+abbrev pub summed : (n : ℕ) (s : FracW) → Result Done Refusal
+summed n s = Ok (record { rounds = n; sum = s })
 
 -- an answer, what was used up, and four lists: the words that a call writes, or what the buffers hold after it
 pub record Outcome : Type 0 where
-  pub answer : Answer
+  pub answer : Result Done Refusal
   pub used : Used
   pub buffers : Buffers
 
-abbrev pub outcome : Answer → Used → (proof point log work : List ℕ) → Outcome
+abbrev pub outcome : Result Done Refusal → Used → (proof point log work : List ℕ) → Outcome
 outcome answer used proof point log work = record { answer = answer; used = used; buffers = record { proof = proof; point = point; log = log; work = work } }
 
 -- the words of a front at the fronts of the buffers, and the rest as before
@@ -58,16 +62,16 @@ enc_frac x = record { p = enc x.p; q = enc x.q }
 
 -- a refusal that writes nothing
 abbrev pub untouched : Refusal → Outcome
-untouched e = outcome (Refused e) unused [] [] [] []
+untouched e = outcome (Err e) unused [] [] [] []
 
 -- n rounds are done: the workspace that they need is zero
 abbrev pub finished : (ch : Source E.Ext) (sized : Bool) (n : ℕ) → Gkr.Proved Extension (Drawing ch) → Outcome
-finished ch sized n P = outcome (Done n (enc_frac P.sum)) (used_up P.log) (layout sized (encoded P.proof)) (words_of_point P.point) P.log.log (replicate (work_room n) 0)
+finished ch sized n P = outcome (summed n (enc_frac P.sum)) (used_up P.log) (layout sized (encoded P.proof)) (words_of_point P.point) P.log.log (replicate (work_room n) 0)
 
 -- what the model answers over n rounds, with the challenges ch
 abbrev pub after : (ch : Source E.Ext) (sized : Bool) (n : ℕ) → Gkr.Answer Extension (Drawing ch) → Outcome
 after ch sized n (done P) = finished ch sized n P
-after ch sized n non_zero_root_sum = outcome (Refused NonZeroRootSum) unused [] [] [] (replicate (work_room n) 0)
+after ch sized n non_zero_root_sum = outcome (Err NonZeroRootSum) unused [] [] [] (replicate (work_room n) 0)
 
 -- one row is never proved
 abbrev pub one_row : (rows : List ℕ) (asserted : Bool) → Refusal

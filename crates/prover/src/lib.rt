@@ -1,7 +1,7 @@
 // The prover: fractional_sumcheck over lent buffers.
 #![tactic(auto)]
 
-ghost use Rattle.std.specs.Prelude.{◌≡◌, not, ◌&&◌, List, [], ℕ, suc, ◌*◌, ◌≤◌, length};
+ghost use Rattle.std.specs.Prelude.{◌≡◌, not, ◌&&◌, List, [], ℕ, suc, ◌*◌, ◌^◌, ◌≤◌, length, Err};
 ghost use Rattle.field.specs.Ext as E;
 ghost use Rattle.field.specs.ExtRing.{ExtRing};
 ghost use Rattle.field.specs.Element.{dec};
@@ -14,24 +14,25 @@ ghost use Rattle.prover_rounds.specs.Layers.{Levels};
 ghost use Rattle.sizes.specs.Sizes.{row_count};
 ghost use Rattle.prover_gate.specs.Refusals.{call, rooms};
 ghost use Rattle.transcript.specs.Used.{unused};
-ghost use Rattle.prover.specs.declared.Answer.TheVariants.{Refused};
 ghost use Rattle.prover.specs.Proved.{lent, outcome, laid, one_row, modelled, ran, proved};
 ghost use Rattle.prover.specs.Inner.{ending, Written, Room, Opens};
 ghost use Rattle.prover.specs.Report.{answer_report};
 
-use field::Ext;
-use prover_gate::Gate;
+use field::{Ext, Field};
+use prover_gate::Rooms;
 use refusal::{Proving, Refusal, Report};
-use sizes::Size;
 use step::Frac;
-use transcript::Used;
+use transcript::{Transcript, Used};
 
-// Done tells n and the sum of all rows.
+// n, and the sum of all rows.
 #[derive(Clone, Copy)]
-pub enum Answer {
-    Done { rounds: usize, sum: Frac },
-    Refused(Refusal),
+pub struct Done {
+    pub rounds: usize,
+    pub sum: Frac,
 }
+
+// What is proved, or the first refusal that fits.
+pub type Answer = Result<Done, Refusal>;
 
 // How a call ends: its answer, and what it used up.
 #[derive(Clone, Copy)]
@@ -42,88 +43,77 @@ pub struct Ending {
 
 // A refusal, which has used up nothing.
 fn refuse(refusal: Refusal) -> Ending
-    ensures { result ≡ ending (Refused refusal) unused }
+    ensures { result ≡ ending (Err refusal) unused }
 {
     Ending {
-        answer: Answer::Refused(refusal),
-        used: transcript::unused(),
+        answer: Err(refusal),
+        used: Used::nothing(),
     }
 }
 
 // The run over the tree in the workspace, its proof from the log, the wiping of the workspace, and what was used up.
 fn write_run(
+    modes: Proving,
     n: usize,
-    size: usize,
     root: Frac,
-    asserted: bool,
-    sized: bool,
-    drawn: bool,
     challenges: &[u32],
     proof: &mut [u8],
     xi: &mut [u32],
     log: &mut [u32],
     work: &mut [u32],
 ) -> Used
-    requires room { Room asserted sized drawn n size (length challenges.now) (length proof.old) (length xi.old) (length log.old) (length work.old) }
+    requires room { Room modes n (length challenges.now) (rooms (length proof.old) (length xi.old) (length log.old) (length work.old)) }
     requires clean { Clean work.old × Clean challenges.now × CanonFrac root }
     ensures { (f : ℕ → Fraction E.Ext) (m : ℕ) → n ≡ suc m → Levels f work.old n 0 → IsFrac root (Tree.tree ExtRing f (suc m) 0)
-        → Written f asserted sized m (source drawn challenges.now) (lent proof.old xi.old log.old work.old)
+        → Written f modes.assert_zero modes.sized m (source modes.drawn challenges.now) (lent proof.old xi.old log.old work.old)
         (lent proof.new xi.new log.new work.new) result }
 {
-    let first = transcript::start(drawn);
-    let told = transcript::observe_size(log, first, sized, n);
-    let pos = prover_run::begin(log, told, asserted, root.p);
-    let mut lanes = [0u64; 25]; // of a sponge that has taken in nothing
-    let end = prover_run::run_rounds(n, size, root.q, work, xi, log, &mut lanes, challenges, pos);
-    let i = pos.put / 4;
-    stored_writer::put_proof(proof, log, i, n, sized);
+    let mut transcript = Transcript::new(log, challenges, modes.drawn);
+    transcript.observe_size(modes.sized, n);
+    prover_run::begin(&mut transcript, modes.assert_zero, root.p);
+    let opening = transcript.put;
+    prover_run::run_rounds(n, sizes::rows_of(n), root.q, work, xi, &mut transcript);
+    let spent = transcript.used_up();
+    stored_writer::put_proof(proof, log, opening / 4, n, modes.sized);
     prover_tree::clear(work); // nothing of the rows stays
-    transcript::used_up(end)
+    spent
 }
 
 // Whether zero is asserted of a sum whose numerator is not zero.
 fn contradicts(asserted: bool, p: Ext) -> bool
     ensures { result ≡ (asserted && not (E.same (dec p) E.nil)) }
 {
-    if asserted {
-        return !p.is_zero();
-    }
-    false
+    asserted && !p.is_zero()
 }
 
-// The run over size = 2^n rows. Nothing but the workspace is written before the test of root p.
+// The run over 2^n rows. Nothing but the workspace is written before the test of root p.
 fn prove(
     rows: &[u32],
-    asserted: bool,
-    sized: bool,
-    drawn: bool,
+    modes: Proving,
     n: usize,
-    size: usize,
     challenges: &[u32],
     proof: &mut [u8],
     xi: &mut [u32],
     log: &mut [u32],
     work: &mut [u32],
 ) -> Ending
-    requires room { Room asserted sized drawn n size (length challenges.now) (length proof.old) (length xi.old) (length log.old) (length work.old) }
-    requires clean { (8 * size ≤ length rows.now) × Clean rows.now × Clean challenges.now }
+    requires room { Room modes n (length challenges.now) (rooms (length proof.old) (length xi.old) (length log.old) (length work.old)) }
+    requires clean { (8 * 2 ^ n ≤ length rows.now) × Clean rows.now × Clean challenges.now }
     ensures { (m : ℕ) → n ≡ suc m → outcome result.answer result.used proof.new xi.new log.new work.new
-        ≡ laid (modelled rows.now asserted sized (source drawn challenges.now) m)
+        ≡ laid (modelled rows.now modes.assert_zero modes.sized (source modes.drawn challenges.now) m)
         (lent proof.old xi.old log.old work.old) }
 {
-    let root = prover_run::sum_rows(rows, size, work);
-    if contradicts(asserted, root.p) {
+    let root = prover_run::sum_rows(rows, sizes::rows_of(n), work);
+    if contradicts(modes.assert_zero, root.p) {
         prover_tree::clear(work);
         return refuse(Refusal::NonZeroRootSum);
     }
-    let used = write_run(
-        n, size, root, asserted, sized, drawn, challenges, proof, xi, log, work,
-    );
+    let used = write_run(modes, n, root, challenges, proof, xi, log, work);
     Ending {
-        answer: Answer::Done {
+        answer: Ok(Done {
             rounds: n,
             sum: root,
-        },
+        }),
         used,
     }
 }
@@ -134,9 +124,10 @@ fn one_row(rows: &[u32], asserted: bool) -> Refusal
     ensures { result ≡ one_row rows.now asserted }
 {
     if contradicts(asserted, prover_tree::load_node(rows, 0).p) {
-        return Refusal::NonZeroRootSum;
+        Refusal::NonZeroRootSum
+    } else {
+        Refusal::SingleRow
     }
-    Refusal::SingleRow
 }
 
 // No rounds: no rows are done, with the 23 bytes of their proof; one row is refused.
@@ -144,26 +135,26 @@ fn no_rounds(rows: &[u32], modes: Proving, proof: &mut [u8]) -> Ending
     requires { (length rows.now ≡ 8 * row_count rows.now) × (23 ≤ length proof.old) × Clean rows.now }
     ensures { (pt lg ws : List ℕ) → outcome result.answer result.used proof.new pt lg ws ≡ laid (ran rows.now modes [] 0) (lent proof.old pt lg ws) }
 {
-    if rows.len() / 8 == 0 {
-        stored_writer::put_no_rows(proof, modes.sized);
-        return Ending {
-            answer: Answer::Done {
-                rounds: 0,
-                sum: Frac {
-                    p: Ext::ZERO,
-                    q: Ext::ONE,
-                },
-            },
-            used: transcript::unused(),
-        };
+    if !rows.is_empty() {
+        return refuse(one_row(rows, modes.assert_zero));
     }
-    refuse(one_row(rows, modes.assert_zero))
+    stored_writer::put_no_rows(proof, modes.sized);
+    Ending {
+        answer: Ok(Done {
+            rounds: 0,
+            sum: Frac {
+                p: Ext::ZERO,
+                q: Ext::ONE,
+            },
+        }),
+        used: Used::nothing(),
+    }
 }
 
-// What passed the gate, with its size. A run gets the needed parts of the challenges, the point and the workspace.
+// What passed the gate, with its rounds. A run gets the needed parts of the challenges, the point and the workspace.
 fn admitted(
     rows: &[u32],
-    size: Size,
+    n: usize,
     modes: Proving,
     challenges: &[u32],
     proof: &mut [u8],
@@ -171,25 +162,21 @@ fn admitted(
     log: &mut [u32],
     work: &mut [u32],
 ) -> Ending
-    requires { Opens rows.now modes challenges.now (rooms (length proof.old) (length point.old) (length log.old) (length work.old)) size.n size.rows }
+    requires { Opens rows.now modes challenges.now (rooms (length proof.old) (length point.old) (length log.old) (length work.old)) n }
     ensures { outcome result.answer result.used proof.new point.new log.new work.new
-        ≡ laid (ran rows.now modes challenges.now size.n)
+        ≡ laid (ran rows.now modes challenges.now n)
         (lent proof.old point.old log.old work.old) }
 {
-    let n = size.n;
     if n == 0 {
         return no_rounds(rows, modes, proof);
     }
     let need = sizes::needed_words(modes.drawn, n);
-    let w = sizes::work_words(n, size.rows);
+    let w = sizes::work_words(n);
     let k = 4 * n;
     prove(
         rows,
-        modes.assert_zero,
-        modes.sized,
-        modes.drawn,
+        modes,
         n,
-        size.rows,
         &challenges[..need],
         proof,
         &mut point[..k],
@@ -213,18 +200,15 @@ pub fn fractional_sumcheck(
         ≡ proved (call rows.now modes challenges.now)
         (lent proof.old point.old log.old work.old) }
 {
-    let gate = prover_gate::first_refusal(
-        rows,
-        modes,
-        challenges,
-        proof.len(),
-        point.len(),
-        log.len(),
-        work.len(),
-    );
-    match gate {
-        Gate::Shut(r) => refuse(r),
-        Gate::Open(size) => admitted(rows, size, modes, challenges, proof, point, log, work),
+    let rooms = Rooms {
+        proof: proof.len(),
+        point: point.len(),
+        log: log.len(),
+        work: work.len(),
+    };
+    match prover_gate::first_refusal(rows, modes, challenges, rooms) {
+        Ok(n) => admitted(rows, n, modes, challenges, proof, point, log, work),
+        Err(refusal) => refuse(refusal),
     }
 }
 
@@ -233,7 +217,7 @@ pub fn number_and_values(answer: Answer) -> Report
     ensures { result ≡ answer_report answer }
 {
     match answer {
-        Answer::Done { rounds, sum } => refusal::done(rounds, sum.p, sum.q),
-        Answer::Refused(r) => refusal::number_and_fields(r),
+        Ok(done) => refusal::done(done.rounds, done.sum.p, done.sum.q),
+        Err(refusal) => Report::from(refusal),
     }
 }

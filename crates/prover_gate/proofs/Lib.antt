@@ -1,3 +1,2 @@
 -- The laws of the gate.
-pub mod RoomLaws
 pub mod Admitting

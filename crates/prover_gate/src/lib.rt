@@ -1,129 +1,91 @@
 // The prover's gate: refusals 1 to 7 in their order. What passes it is a sheet of canonical words, of a size that is taken, with room for all that a run writes.
 #![tactic(auto)]
 
-ghost use Rattle.std.specs.Prelude.{◌≡◌, ◌*◌, ◌^◌, ◌≤◌, length};
+ghost use Rattle.std.specs.Prelude.{◌≡◌, ◌*◌, ◌≤◌, length};
 ghost use Rattle.field.specs.Cells.{Clean};
 ghost use Rattle.refusal.specs.Limits.{max_rounds};
 ghost use Rattle.sizes.specs.Sizes.{row_count};
-ghost use Rattle.step.specs.Values.{dec_frac};
-ghost use Rattle.prover_gate.specs.Refusals.{short_room, degenerate, lowest, call, rooms, first_refusal, as_gate};
+ghost use Rattle.prover_gate.specs.Refusals.{short_room, lowest_row, call, first_refusal, as_gate};
 
+use field::Field;
 use refusal::{Proving, Refusal, Words};
-use sizes::Size;
-use step::Frac;
 
-// Open tells the size of the sheet.
+// The lengths of the rooms: proof bytes, and words of point, log and workspace.
 #[derive(Clone, Copy)]
-pub enum Gate {
-    Open(Size),
-    Shut(Refusal),
+pub struct Rooms {
+    pub proof: usize,
+    pub point: usize,
+    pub log: usize,
+    pub work: usize,
 }
 
-// Whether a room is too short: bytes for the proof, words for the point, the log and the workspace.
-fn short_room(
-    size: Size,
-    asserted: bool,
-    sized: bool,
-    proof: usize,
-    point: usize,
-    log: usize,
-    work: usize,
-) -> bool
-    requires { (size.n ≤ max_rounds) × (size.rows ≡ 2 ^ size.n) }
-    ensures { result ≡ short_room asserted sized size.n (rooms proof point log work) }
+// Whether a room is too short for n rounds.
+#[tactic(auto, unfolding(crate::specs::Refusals::short_room))]
+fn short_room(modes: Proving, n: usize, rooms: Rooms) -> bool
+    requires { n ≤ max_rounds }
+    ensures { result ≡ short_room modes.assert_zero modes.sized n rooms }
 {
-    let n = size.n;
-    if proof < sizes::proof_bytes(n) {
-        return true;
-    }
-    if point < 4 * n {
-        return true;
-    }
-    if log < sizes::log_words(asserted, sized, n) {
-        return true;
-    }
-    work < sizes::work_words(n, size.rows)
+    rooms.proof < sizes::proof_bytes(n)
+        || rooms.point < 4 * n
+        || rooms.log < sizes::log_words(modes.assert_zero, modes.sized, n)
+        || rooms.work < sizes::work_words(n)
 }
 
-// Whether q is 0, whatever p is.
-fn is_degenerate(f: Frac) -> bool
-    ensures { result ≡ degenerate (dec_frac f) }
-{
-    f.q.is_zero()
-}
-
-// The lowest row over zero; count where there is none.
-fn lowest_row(rows: &[u32], count: usize) -> usize
+// The lowest row over zero, whatever its numerator is.
+fn lowest_row(rows: &[u32], count: usize) -> Option<usize>
     requires { (8 * count ≤ length rows.now) × Clean rows.now }
-    ensures { result ≡ lowest rows.now count 0 }
+    ensures { result ≡ lowest_row rows.now count }
 {
     for row in 0..count {
-        if is_degenerate(prover_tree::load_node(rows, row)) {
-            return row;
+        if prover_tree::load_node(rows, row).q.is_zero() {
+            return Some(row);
         }
     }
-    count
+    None
 }
 
-// The first refusal that fits. The last four numbers are the rooms: proof bytes, and words of point, log and workspace.
+// The first refusal that fits, or the rounds of the sheet.
+#[tactic(auto, using(crate::proofs::Admitting::searches), unfolding(crate::specs::Refusals::first_refusal, refusal::specs::Tests::first_of))]
 pub fn first_refusal(
     rows: &[u32],
     modes: Proving,
     challenges: &[u32],
-    proof: usize,
-    point: usize,
-    log: usize,
-    work: usize,
-) -> Gate
-    ensures { result ≡ as_gate (row_count rows.now)
-        (first_refusal (call rows.now modes challenges.now) (rooms proof point log work)) }
+    rooms: Rooms,
+) -> Result<usize, Refusal>
+    ensures { result ≡ as_gate (row_count rows.now) (first_refusal (call rows.now modes challenges.now) rooms) }
 {
     let count = rows.len() / 8;
     if rows.len() % 8 != 0 {
-        return Gate::Shut(Refusal::RaggedRows);
+        return Err(Refusal::RaggedRows);
     }
     if refusal::MAX_ROWS < count {
-        return Gate::Shut(Refusal::TooManyRows);
+        return Err(Refusal::TooManyRows);
     }
-    let size = sizes::least_size(count);
-    if !sizes::fills(count, size) {
-        return Gate::Shut(Refusal::NotPowerOfTwo);
+    if !sizes::is_size(count) {
+        return Err(Refusal::NotPowerOfTwo);
     }
-    let need = sizes::needed_words(modes.drawn, size.n);
-    if challenges.len() < need {
-        return Gate::Shut(Refusal::ShortChallenges);
+    let n = sizes::rounds_of(count);
+    let need = sizes::needed_words(modes.drawn, n);
+    let needed = challenges.get(..need).ok_or(Refusal::ShortChallenges)?;
+    if short_room(modes, n, rooms) {
+        return Err(Refusal::ShortRoom);
     }
-    if short_room(
-        size,
-        modes.assert_zero,
-        modes.sized,
-        proof,
-        point,
-        log,
-        work,
-    ) {
-        return Gate::Shut(Refusal::ShortRoom);
-    }
-    let place = wire::first_bad_word(rows);
-    if place < rows.len() {
-        return Gate::Shut(Refusal::BadWord {
+    if let Some(place) = wire::first_bad_word(rows) {
+        return Err(Refusal::BadWord {
             place,
             list: Words::Rows,
         });
     }
-    let place = wire::first_bad_word(&challenges[..need]);
-    if place < need {
-        return Gate::Shut(Refusal::BadWord {
+    if let Some(place) = wire::first_bad_word(needed) {
+        return Err(Refusal::BadWord {
             place,
             list: Words::Challenges,
         });
     }
-    if !modes.live {
-        return Gate::Open(size);
+    if modes.live
+        && let Some(row) = lowest_row(rows, count)
+    {
+        return Err(Refusal::ZeroDenominator { row });
     }
-    let row = lowest_row(rows, count);
-    if row < count {
-        return Gate::Shut(Refusal::ZeroDenominator { row });
-    }
-    Gate::Open(size)
+    Ok(n)
 }

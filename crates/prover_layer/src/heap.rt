@@ -6,7 +6,7 @@ ghost use Rattle.field.specs.Cells.{Clean};
 ghost use Rattle.prover_tree.specs.Nodes.{Filled};
 ghost use Rattle.prover_layer.specs.Heap.{grown, Heaped};
 
-use field::Ext;
+use field::{Ext, Field};
 
 // Cell i of those from `from` on becomes two of those from `to` on: times 1 - x, and times x.
 fn grow_cell(work: &mut [u32], from: usize, to: usize, i: usize, x: Ext)

@@ -13,8 +13,8 @@ ghost use Rattle.prover_layer.specs.Passes.{CanonPair, IsPair, dec_pair, side, s
 
 use crate::message::message;
 use crate::{Pair, Turn};
-use field::Ext;
 use field::sums::sum_of_products;
+use field::{Ext, Field};
 use step::{Frac, Three};
 
 // Entry i of the claims.
@@ -94,8 +94,8 @@ fn rise_entry(work: &mut [u32], pq: usize, y: usize)
     let a = load_pair(work, pq, 2 * y);
     let b = load_pair(work, pq, i);
     let d = Pair {
-        l: step::pair_minus(b.l, a.l),
-        r: step::pair_minus(b.r, a.r),
+        l: b.l.zip(a.l, Ext::minus),
+        r: b.r.zip(a.r, Ext::minus),
     };
     store_pair(work, pq, i, d);
 }

@@ -1,7 +1,7 @@
 -- The laws of the rounds.
-pub mod Alike
 pub mod Speaking
 pub mod Sending
 pub mod Opening
 pub mod Weighing
 pub mod Descent
+pub mod Room

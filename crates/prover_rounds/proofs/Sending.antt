@@ -3,7 +3,7 @@
 use mathlib.Core.Path.{◌≡◌, refl, sym, ◌∙◌, ap, ap₂, fun_ext, subst}
 use mathlib.Core.List.{List, [], ◌∷◌, ◌++◌, append_assoc, append-nil}
 use Prim.Native.Nat.{ℕ, suc, ◌+◌, ◌*◌, ◌-◌, ◌/◌, ◌^◌, ◌<◌, ◌≤◌}
-use native.Mathlib.Nat.{add-zero, pow-succ'}
+use native.Mathlib.Nat.{pow-succ'}
 use native.Mathlib.Numerals.{add-one}
 use native.Mathlib.Omega.{arith}
 use Rattle.ring.specs.RingLaws as RingLaws
@@ -21,9 +21,7 @@ use Rattle.multilinear.specs.RoundSum as RoundSum
 use Rattle.gkr.specs.Run.{Cubic}
 use Rattle.gkr.specs.Transcripts.{Words, Source}
 use Rattle.gkr.specs.Sumcheck as Sumcheck
-use Rattle.transcript.specs.declared.Pos.{Pos}
-use Rattle.transcript.specs.declared.Drawn.{Drawn}
-use Rattle.transcript.specs.Log.{Drawing, Observing, log_of, Steps}
+use Rattle.transcript.specs.Log.{Drawing, Observing, State, Steps, log_of}
 use Rattle.transcript.proofs.Logs.{then, retold, no_steps}
 use Rattle.step.specs.declared.Three.{Three}
 use Rattle.step.specs.Values.{IsThree, two, three}
@@ -34,32 +32,31 @@ use Rattle.prover_layer.specs.Message.{CanonTurn, IsTurn, said}
 use Rattle.prover_layer.specs.Passes.{side_sum, lead, Risen, Folded}
 use Rattle.prover_layer.proofs.Passing.{fold_is}
 use Rattle.prover_layer.proofs.Agree.{send_same}
-use Rattle.prover_rounds.specs.SubRounds.{observed_three, spoken, told, SubSent, sends, eq_from, faced, Facing, Told, Going, Sent, SubRounds}
+use Rattle.prover_rounds.specs.SubRounds.{observed_three, spoken, told, SubSent, sends, eq_from, faced, Facing, Told, Going, SubRounds}
 use Rattle.prover_rounds.proofs.Speaking.{said_true}
 
 abbrev obs : E.Ext → Words → Words
 obs x t = Observing.observe x t
 
-pub three_observed : (l l₁ l₂ l₃ : List ℕ) {ls ls₁ ls₂ ls₃ : List ℕ} (p p₁ p₂ p₃ : Pos) (m : Three) → Steps l l₁ ls ls₁ p p₁ 4 0 (obs (dec m.s1) (log_of l p))
-    → Steps l₁ l₂ ls₁ ls₂ p₁ p₂ 4 0 (obs (dec m.s2) (log_of l₁ p₁)) → Steps l₂ l₃ ls₂ ls₃ p₂ p₃ 4 0 (obs (dec m.s3) (log_of l₂ p₂)) → Steps l l₃ ls ls₃ p p₃ 12 0 (observed_three m (log_of l p))
-three_observed l l₁ l₂ l₃ p p₁ p₂ p₃ m a b c =
-    let b' = retold l₁ l₂ p₁ p₂ 4 0 4 0 _ _ refl refl (ap (obs (dec m.s2)) a.log) b in
-    let c' = retold l₂ l₃ p₂ p₃ 4 0 4 0 _ _ refl refl (ap (obs (dec m.s3)) b'.log) c in
-    then l l₁ l₃ p p₁ p₃ 4 0 8 0 _ _ a (then l₁ l₂ l₃ p₁ p₂ p₃ 4 0 4 0 _ _ b' c')
+pub three_observed : {s s₁ s₂ s₃ : State} (m : Three) → Steps s s₁ 4 0 (obs (dec m.s1) (log_of s)) → Steps s₁ s₂ 4 0 (obs (dec m.s2) (log_of s₁)) → Steps s₂ s₃ 4 0 (obs (dec m.s3) (log_of s₂))
+    → Steps s s₃ 12 0 (observed_three m (log_of s))
+three_observed m a b c =
+    let b' = retold refl refl (ap (obs (dec m.s2)) a.log) b in
+    then a (then b' (retold refl refl (ap (obs (dec m.s3)) b'.log) c))
 
 -- ONE SUB-ROUND
-pub sub_done : (ws ws₁ ws₂ pt pt' lg lg₁ lg₂ : List ℕ) {ls ls₁ ls₂ : List ℕ} (ch : Source E.Ext) (at b half i : ℕ) (t : Turn) (pos p : Pos) (d : Drawn) (m : Three)
+pub sub_done : (ws ws₁ ws₂ : List ℕ) {pt pt' : List ℕ} {s s₁ s₂ : State} (ch : Source E.Ext) (at b half : ℕ) {i : ℕ} (t : Turn) (rho : Ext) (m : Three)
     → IsThree m (said t (lead ws at b half) E.one) (said t (lead ws at b half) two) (said t (lead ws at b half) three) → Risen ws ws₁ b half
-    → Steps lg lg₁ ls ls₁ pos p 12 0 (observed_three m (log_of lg pos)) → Steps lg₁ lg₂ ls₁ ls₂ p d.pos 4 1 ((Drawing ch).drawn (log_of lg₁ p)) → Is d.x (ch (log_of lg₁ p))
-    → Stored pt pt' i (dec d.x) → Folded ws₁ ws₂ b half (dec d.x) → SubSent ws ws₂ pt pt' lg lg₂ ls ls₂ ch at b half i t pos d.pos
-sub_done ws ws₁ ws₂ pt pt' lg lg₁ lg₂ ch at b half i t pos p d m v h a c x s f =
+    → Steps s s₁ 12 0 (observed_three m (log_of s)) → Steps s₁ s₂ 4 1 ((Drawing ch).drawn (log_of s₁)) → Is rho (ch (log_of s₁))
+    → Stored pt pt' i (dec rho) → Folded ws₁ ws₂ b half (dec rho) → SubSent ws ws₂ pt pt' s s₂ ch at b half i t
+sub_done ws ws₁ ws₂ {pt} {pt'} {s} ch at b half {i} t rho m v h a c x p f =
     let M : ◌≡◌ {A = Cubic E.Ext} (record { at1 = dec m.s1; at2 = dec m.s2; at3 = dec m.s3 }) (spoken ws at b half t) =
     (λ i. record { at1 = v.s1.value i; at2 = v.s2.value i; at3 = v.s3.value i }) in
-    let g : log_of lg₁ p ≡ told ws lg ch at b half t pos = a.log ∙ ap (λ M. Sumcheck.observe_cubic Extension (Drawing ch) M (log_of lg pos)) M in
-    let r : dec d.x ≡ ch (told ws lg ch at b half t pos) = x.value ∙ ap ch g in
+    let g = a.log ∙ ap (λ M. Sumcheck.observe_cubic Extension (Drawing ch) M (log_of s)) M in
+    let r : dec rho ≡ ch (told ws ch at b half t s) = x.value ∙ ap ch g in
     record {
-      steps = retold lg lg₂ pos d.pos 16 1 16 1 _ _ refl refl (ap (Drawing ch).drawn g) (then lg lg₁ lg₂ pos p d.pos 12 0 4 1 _ _ a c);
-      stored = subst (Stored pt pt' i) r s;
+      steps = retold refl refl (ap (Drawing ch).drawn g) (then a c);
+      stored = subst (Stored pt pt' i) r p;
       clean = f.clean;
       nodes = λ y l. fold_is ws ws₁ ws₂ b half _ h f y l ∙ ap (λ z. RoundSum.folded ExtRing (claims ws b) z y) r;
       kept = λ j l. f.above j (omega arith) ∙ h.above j l;
@@ -71,20 +68,20 @@ sub_done ws ws₁ ws₂ pt pt' lg lg₁ lg₂ ch at b half i t pos p d m v h a c
 faced_none : (ws : List ℕ) (at b off n : ℕ) → faced ws at b off n E.nil ≡ side_sum ws at b off n
 faced_none ws at b off n = TableLaws.sum_cong ExtRing n (λ y. ap (E.mul (cell ws (at + y))) (sym (numerator_cross (claims ws b (2 * y + off)))))
 
-pub going_none : (ws pt lg : List ℕ) {ls : List ℕ} (ch : Source E.Ext) (at b m k half size : ℕ) (t : Turn) (pos : Pos) → m ≡ k → half ≡ size / 2 → Clean ws → Clean pt → CanonTurn t
-    → Going ws ws pt pt lg lg ls ls ch at b 0 m k half size t t pos pos
-going_none ws pt lg ch at b m k half size t pos e eh h q n = record {
+pub going_none : (ws pt : List ℕ) (s : State) (ch : Source E.Ext) (at b m k half size : ℕ) (t : Turn) → m ≡ k → half ≡ size / 2 → Clean ws → Clean pt → CanonTurn t
+    → Going ws ws pt pt s s ch at b 0 m k half size t t
+going_none ws pt s ch at b m k half size t e eh h q n = record {
   clean = h;
   points = q;
   canon = n;
   later = λ i l. refl;
-  steps = no_steps lg pos;
+  steps = no_steps s;
   kept = λ i l. refl;
   run = λ F.
       let w : eq_from t pt 0 m ≡ Table.weight ExtRing (cells pt 0 k) =
       fun_ext (λ i. ap₂ (λ c m. E.mul c (Table.weight ExtRing (cells pt 0 m) i)) F.c e ∙ RingLaws.one_mul ExtRing _) in
-      let p : sends (eq_from t pt 0 m) ws lg ch b m E.nil pos ≡ sends (Table.weight ExtRing (cells pt 0 k)) ws lg ch b k E.nil pos =
-      ap₂ (λ g m. sends g ws lg ch b m E.nil pos) w e in
+      let p : sends (eq_from t pt 0 m) ws ch b m E.nil s ≡ sends (Table.weight ExtRing (cells pt 0 k)) ws ch b k E.nil s =
+      ap₂ (λ g m. sends g ws ch b m E.nil s) w e in
       record {
         x = F.x;
         h0 = F.h0 ∙ ap (λ n. faced ws (at + n) b 0 n E.nil) (sym eh) ∙ faced_none ws (at + half) b 0 half;
@@ -95,13 +92,13 @@ going_none ws pt lg ch at b m k half size t pos e eh h q n = record {
       };
 }
 
-module _ (ws₀ ws ws' pt₀ pt pt' lg₀ lg lg' : List ℕ) {ls₀ ls ls' : List ℕ} (ch : Source E.Ext) (at b j m k half half' size : ℕ) (t₀ t t' : Turn) (old rho : Ext) (pos₀ pos pos' : Pos)
+module _ (ws₀ ws ws' pt₀ pt pt' : List ℕ) {s₀ s s' : State} (ch : Source E.Ext) (at b j m k half half' size : ℕ) (t₀ t t' : Turn) (old rho : Ext)
     (ek : j + suc m ≡ k) (eh : half ≡ 2 ^ m) (room : 2 * b + 4 * size ≤ at) (fits : 2 * half ≤ size)
-    (g : Going ws₀ ws pt₀ pt lg₀ lg ls₀ ls ch at b j (suc m) k half size t₀ t pos₀ pos)
-    (s : SubSent ws ws' pt pt' lg lg' ls ls' ch (at + half) b half (j + 1) t pos pos')
+    (g : Going ws₀ ws pt₀ pt s₀ s ch at b j (suc m) k half size t₀ t)
+    (d : SubSent ws ws' pt pt' s s' ch (at + half) b half (j + 1) t)
     (o : Is old (cell pt (j + 1))) (r : Is rho (cell pt' (j + 1)))
     (n : IsTurn t' (E.mul (dec t.c) (Forms.agree ExtRing (dec t.x) (dec rho))) (dec old) (side_sum ws' (at + half') b 0 half') (side_sum ws' (at + half') b 1 half')) where
-  told_next : Facing ws₀ pt₀ at b k (size / 2) E.nil t₀ → Told ws₀ ws' pt₀ pt' lg₀ lg' ch at b (j + 1) m k half' t' pos₀ pos'
+  told_next : Facing ws₀ pt₀ at b k (size / 2) E.nil t₀ → Told ws₀ ws' pt₀ pt' s₀ s' ch at b (j + 1) m k half' t'
   unfolding Sumcheck.send
   told_next F =
       let T = g.run F in
@@ -114,23 +111,23 @@ module _ (ws₀ ws ws' pt₀ pt pt' lg₀ lg lg' : List ℕ) {ls₀ ls ls' : Lis
       let sp : (z : E.Ext) → said t (lead ws (at + half) b half) z ≡ RoundSum.s ExtRing m E.nil eq (claims ws b) z =
       (λ z. said_true ws (at + half) b m half t xs eh w T.h0 T.h1 z ∙ ap (λ x. RoundSum.s ExtRing m E.nil (λ i. E.mul (dec t.c) (Table.weight ExtRing (x ∷ xs) i)) (claims ws b) z) T.x) in
       let M : spoken ws (at + half) b half t ≡ Sumcheck.message Extension S m E.nil eq (claims ws b) = (λ i. record { at1 = sp E.one i; at2 = sp two i; at3 = sp three i }) in
-      let t₁ = Sumcheck.observe_cubic Extension S (Sumcheck.message Extension S m E.nil eq (claims ws b)) (log_of lg pos) in
-      let q : told ws lg ch (at + half) b half t pos ≡ t₁ = ap (λ M. Sumcheck.observe_cubic Extension S M (log_of lg pos)) M in
+      let t₁ = Sumcheck.observe_cubic Extension S (Sumcheck.message Extension S m E.nil eq (claims ws b)) (log_of s) in
+      let q : told ws ch (at + half) b half t s ≡ t₁ = ap (λ M. Sumcheck.observe_cubic Extension S M (log_of s)) M in
       let z = ch t₁ in
       let rest = Sumcheck.send Extension S m E.nil (Table.fold ExtRing eq z) (RoundSum.folded ExtRing (claims ws b) z) (S.drawn t₁) in
       let one : j + 1 ≡ suc j = add-one j in
-      let zr : cell pt' (j + 1) ≡ z = s.stored.here ∙ ap ch q in
+      let zr : cell pt' (j + 1) ≡ z = d.stored.here ∙ ap ch q in
       let eqs : (y : ℕ) → eq_from t' pt₀ (j + 1) m y ≡ Table.fold ExtRing eq z y =
       (λ y. ap₂ (λ c n. E.mul c (Table.weight ExtRing (cells pt₀ n m) y)) (n.c.value ∙ ap₂ (λ x r. E.mul (dec t.c) (Forms.agree ExtRing x r)) T.x (r.value ∙ zr)) one
       ∙ sym (TableLaws.fold_weight ExtRing (dec t.c) (cell pt₀ j) z xs y)) in
-      let same : sends (eq_from t' pt₀ (j + 1) m) ws' lg' ch b m E.nil pos' ≡ rest =
-      ap (λ u. Sumcheck.send Extension S m E.nil (eq_from t' pt₀ (j + 1) m) (claims ws' b) u) (s.steps.log ∙ ap S.drawn q)
+      let same : sends (eq_from t' pt₀ (j + 1) m) ws' ch b m E.nil s' ≡ rest =
+      ap (λ u. Sumcheck.send Extension S m E.nil (eq_from t' pt₀ (j + 1) m) (claims ws' b) u) (d.steps.log ∙ ap S.drawn q)
       ∙ send_same Extension S m E.nil (eq_from t' pt₀ (j + 1) m) _ (claims ws' b) _ (S.drawn t₁) (λ y v. eqs y)
-      (λ y v. s.nodes y (subst (λ n. y < n) (sym eh) v) ∙ ap (λ u. RoundSum.folded ExtRing (claims ws b) (ch u) y) q) in
+      (λ y v. d.nodes y (subst (λ n. y < n) (sym eh) v) ∙ ap (λ u. RoundSum.folded ExtRing (claims ws b) (ch u) y) q) in
       let i : 1 + j ≡ j + 1 = omega arith in
       let seg : cells pt' 1 (j + 1) ≡ cells pt 1 j ++ (z ∷ []) =
       ap (cells pt' 1) one ∙ cells_snoc pt' 1 j
-      ∙ ap₂ (λ a x. a ++ (x ∷ [])) (cells_kept pt pt' 1 j (λ i a b. s.stored.rest i (λ q. omega arith))) (ap (cell pt') i ∙ zr) in
+      ∙ ap₂ (λ a x. a ++ (x ∷ [])) (cells_kept pt pt' 1 j (λ i a b. d.stored.rest i (λ q. omega arith))) (ap (cell pt') i ∙ zr) in
       record {
         x = n.x.value ∙ o.value ∙ g.later (j + 1) (omega arith);
         h0 = n.h0.value;
@@ -140,29 +137,29 @@ module _ (ws₀ ws ws' pt₀ pt pt' lg₀ lg lg' : List ℕ) {ls₀ ls ls' : Lis
         log = ap (λ s. s.log) same ∙ T.log;
       }
 
-  pub going_next : Going ws₀ ws' pt₀ pt' lg₀ lg' ls₀ ls' ch at b (j + 1) m k half' size t₀ t' pos₀ pos'
+  pub going_next : Going ws₀ ws' pt₀ pt' s₀ s' ch at b (j + 1) m k half' size t₀ t'
   going_next = record {
-    clean = s.clean;
-    points = s.stored.clean;
+    clean = d.clean;
+    points = d.stored.clean;
     canon = record { c = n.c.canon; x = n.x.canon; h0 = n.h0.canon; h1 = n.h1.canon };
-    later = λ i l. s.stored.rest i (λ q. omega arith) ∙ g.later i (omega arith);
-    steps = retold lg₀ lg' pos₀ pos' (16 * j + 16) (j + 1) (16 * (j + 1)) (j + 1) _ _ (omega arith) refl (sym s.steps.log) (then lg₀ lg lg' pos₀ pos pos' (16 * j) j 16 1 _ _ g.steps s.steps);
-    kept = λ i l. s.kept i (omega arith) ∙ g.kept i l;
+    later = λ i l. d.stored.rest i (λ q. omega arith) ∙ g.later i (omega arith);
+    steps = retold (omega arith) refl (sym d.steps.log) (then g.steps d.steps);
+    kept = λ i l. d.kept i (omega arith) ∙ g.kept i l;
     run = told_next;
   }
 
-pub going_end : (ws₀ ws pt₀ pt lg₀ lg : List ℕ) {ls₀ ls : List ℕ} (ch : Source E.Ext) (at b j m k half size : ℕ) (t₀ t : Turn) (pos₀ pos : Pos) → j ≡ k → m ≡ 0
-    → Going ws₀ ws pt₀ pt lg₀ lg ls₀ ls ch at b j m k half size t₀ t pos₀ pos → SubRounds ws₀ ws pt₀ pt lg₀ lg ls₀ ls ch at b k size E.nil t₀ pos₀ pos
+pub going_end : (ws₀ ws pt₀ pt : List ℕ) {s₀ s : State} (ch : Source E.Ext) (at b j m k half size : ℕ) (t₀ t : Turn) → j ≡ k → m ≡ 0 → Going ws₀ ws pt₀ pt s₀ s ch at b j m k half size t₀ t
+    → SubRounds ws₀ ws pt₀ pt s₀ s ch at b k size E.nil t₀
 unfolding Sumcheck.send
-going_end ws₀ ws pt₀ pt lg₀ lg ch at b j m k half size t₀ t pos₀ pos e z g =
+going_end ws₀ ws pt₀ pt {s = s} ch at b j m k half size t₀ t e z g =
     record {
       clean = g.clean;
       points = g.points;
-      steps = retold lg₀ lg pos₀ pos (16 * j) j (16 * k) k _ _ (ap (λ n. 16 * n) e) e refl g.steps;
+      steps = retold (ap (λ n. 16 * n) e) e refl g.steps;
       kept = g.kept;
       sent = λ F.
           let T = g.run F in
-          let none : sends (eq_from t pt₀ j m) ws lg ch b m E.nil pos ≡ record { polys = []; point = []; last = claims ws b 0; log = log_of lg pos } = ap (λ m. sends (eq_from t pt₀ j m) ws lg ch b m E.nil pos) z in
+          let none : sends (eq_from t pt₀ j m) ws ch b m E.nil s ≡ record { polys = []; point = []; last = claims ws b 0; log = log_of s } = ap (λ m. sends (eq_from t pt₀ j m) ws ch b m E.nil s) z in
           record {
             point = ap (cells pt 1) (sym e) ∙ sym (append-nil (cells pt 1 j)) ∙ ap (λ s. cells pt 1 j ++ s.point) (sym none) ∙ T.point;
             last = ap (λ s. s.last) (sym none) ∙ T.last;

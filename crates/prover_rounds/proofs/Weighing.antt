@@ -17,8 +17,7 @@ use Rattle.multilinear.specs.RoundSum.{Claims}
 use Rattle.gkr.specs.Run.{Transcript, Cubic}
 use Rattle.gkr.specs.Sumcheck as Sumcheck
 use Rattle.gkr.specs.Transcripts.{Source}
-use Rattle.transcript.specs.declared.Pos.{Pos}
-use Rattle.transcript.specs.Log.{Drawing, log_of}
+use Rattle.transcript.specs.Log.{Drawing, State, log_of}
 use Rattle.step.specs.Values.{minus, weigh}
 use Rattle.step.proofs.Algebra.{line_weighed, weighed_back}
 use Rattle.step.proofs.Pairs.{weighed_cross, numerator_cross}
@@ -113,25 +112,25 @@ module _ (ws ws₁ : List ℕ) (at b k size : ℕ) (l : E.Ext) (z : size ≡ 2 ^
     h1 = F.h1 ∙ faced_weighed 1 (omega arith);
   }
 
-pub weighed_rounds : (ws ws₁ ws₂ ws₃ pt pt' lg lg' : List ℕ) {ls ls' : List ℕ} (ch : Source E.Ext) (at b k size : ℕ) (l n : E.Ext) (t : Turn) (pos pos' : Pos) → size ≡ 2 ^ k → 2 * b + 4 * size ≤ at → n ≡ minus E.nil l
-    → Weighed ws ws₁ b size l → SubRounds ws₁ ws₂ pt pt' lg lg' ls ls' ch at b k size E.nil t pos pos' → Weighed ws₂ ws₃ b 1 n
-    → SubRounds ws ws₃ pt pt' lg lg' ls ls' ch at b k size l t pos pos'
-weighed_rounds ws ws₁ ws₂ ws₃ pt pt' lg lg' ch at b k size l n t pos pos' z u o w s v =
+pub weighed_rounds : (ws ws₁ ws₂ ws₃ pt pt' : List ℕ) {s s' : State} (ch : Source E.Ext) (at b k size : ℕ) (l n : E.Ext) (t : Turn) → size ≡ 2 ^ k → 2 * b + 4 * size ≤ at → n ≡ minus E.nil l
+    → Weighed ws ws₁ b size l → SubRounds ws₁ ws₂ pt pt' s s' ch at b k size E.nil t → Weighed ws₂ ws₃ b 1 n
+    → SubRounds ws ws₃ pt pt' s s' ch at b k size l t
+weighed_rounds ws ws₁ ws₂ ws₃ pt pt' {s} ch at b k size l n t z u o w R v =
     let g = Table.weight ExtRing (cells pt 0 k) in
-    let e : sends g ws₁ lg ch b k E.nil pos ≡ Sumcheck.send Extension (Drawing ch) k E.nil g (weighs l (claims ws b)) (log_of lg pos) =
-    send_same Extension (Drawing ch) k E.nil g g (claims ws₁ b) (weighs l (claims ws b)) (log_of lg pos) (λ y q. refl) (λ y q. w.nodes y (subst (λ n. y < n) (sym z) q)) in
-    let h = send_weighed (Drawing ch) k l g (claims ws b) (log_of lg pos) in
+    let e : sends g ws₁ ch b k E.nil s ≡ Sumcheck.send Extension (Drawing ch) k E.nil g (weighs l (claims ws b)) (log_of s) =
+    send_same Extension (Drawing ch) k E.nil g g (claims ws₁ b) (weighs l (claims ws b)) (log_of s) (λ y q. refl) (λ y q. w.nodes y (subst (λ n. y < n) (sym z) q)) in
+    let h = send_weighed (Drawing ch) k l g (claims ws b) (log_of s) in
     let p = pow_pos k in
     record {
       clean = v.clean;
-      points = s.points;
-      steps = s.steps;
-      kept = λ i a. v.above i (omega (arith, p)) ∙ s.kept i a ∙ w.above i a;
+      points = R.points;
+      steps = R.steps;
+      kept = λ i a. v.above i (omega (arith, p)) ∙ R.kept i a ∙ w.above i a;
       sent = λ F.
-          let S = s.sent (facing_weighed ws ws₁ at b k size l z u w pt t F) in
+          let S = R.sent (facing_weighed ws ws₁ at b k size l z u w pt t F) in
           record {
             point = S.point ∙ ap (λ s. s.point) e ∙ h.point;
-            last = v.nodes 0 (omega arith) ∙ ap (weigh n) (S.last ∙ ap (λ s. s.last) e ∙ h.last) ∙ weigh_back l n (sends g ws lg ch b k l pos).last o;
+            last = v.nodes 0 (omega arith) ∙ ap (weigh n) (S.last ∙ ap (λ s. s.last) e ∙ h.last) ∙ weigh_back l n (sends g ws ch b k l s).last o;
             log = S.log ∙ ap (λ s. s.log) e ∙ h.log;
           };
     }

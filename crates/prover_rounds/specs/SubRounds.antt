@@ -11,8 +11,7 @@ use Rattle.multilinear.specs.RoundSum as RoundSum
 use Rattle.gkr.specs.Run.{Cubic}
 use Rattle.gkr.specs.Transcripts.{Words, Source}
 use Rattle.gkr.specs.Sumcheck as Sumcheck
-use Rattle.transcript.specs.declared.Pos.{Pos}
-use Rattle.transcript.specs.Log.{Drawing, Observing, log_of, Steps}
+use Rattle.transcript.specs.Log.{Drawing, Observing, State, Steps, log_of}
 use Rattle.step.specs.declared.Three.{Three}
 use Rattle.step.specs.Values.{two, three}
 use Rattle.prover_layer.specs.declared.Turn.{Turn}
@@ -29,22 +28,22 @@ observed_three s t = Sumcheck.observe_cubic Extension Observing (record { at1 = 
 abbrev pub spoken : (ws : List ℕ) (at b half : ℕ) (t : Turn) → Cubic E.Ext
 spoken ws at b half t = let v = lead ws at b half in record { at1 = said t v E.one; at2 = said t v two; at3 = said t v three }
 
-abbrev pub told : (ws lg : List ℕ) (ch : Source E.Ext) (at b half : ℕ) (t : Turn) (pos : Pos) → Words
-told ws lg ch at b half t pos = Sumcheck.observe_cubic Extension (Drawing ch) (spoken ws at b half t) (log_of lg pos)
+abbrev pub told : (ws : List ℕ) (ch : Source E.Ext) (at b half : ℕ) (t : Turn) (s : State) → Words
+told ws ch at b half t s = Sumcheck.observe_cubic Extension (Drawing ch) (spoken ws at b half t) (log_of s)
 
 -- the message is in the log, rho in the log and in cell i of the point, and the claims are folded at rho
-pub record SubSent (ws ws' pt pt' lg lg' ls ls' : List ℕ) (ch : Source E.Ext) (at b half i : ℕ) (t : Turn) (pos pos' : Pos) : Type 0 where
-  pub steps : Steps lg lg' ls ls' pos pos' 16 1 ((Drawing ch).drawn (told ws lg ch at b half t pos))
-  pub stored : Stored pt pt' i (ch (told ws lg ch at b half t pos))
+pub record SubSent (ws ws' pt pt' : List ℕ) (s s' : State) (ch : Source E.Ext) (at b half i : ℕ) (t : Turn) : Type 0 where
+  pub steps : Steps s s' 16 1 ((Drawing ch).drawn (told ws ch at b half t s))
+  pub stored : Stored pt pt' i (ch (told ws ch at b half t s))
   pub clean : Clean ws'
-  pub nodes : (y : ℕ) → y < half → claims ws' b y ≡ RoundSum.folded ExtRing (claims ws b) (ch (told ws lg ch at b half t pos)) y
+  pub nodes : (y : ℕ) → y < half → claims ws' b y ≡ RoundSum.folded ExtRing (claims ws b) (ch (told ws ch at b half t s)) y
   pub kept : (j : ℕ) → 2 * b + 8 * half ≤ j → cell ws' j ≡ cell ws j
 
 -- ALL SUB-ROUNDS
 
--- what the model sends in k sub-rounds, from the column eq and what the buffers hold
-abbrev pub sends : (eq : ℕ → E.Ext) (ws lg : List ℕ) (ch : Source E.Ext) (b k : ℕ) (lambda : E.Ext) (pos : Pos) → Sumcheck.Sent Extension (Drawing ch)
-sends eq ws lg ch b k lambda pos = Sumcheck.send Extension (Drawing ch) k lambda eq (claims ws b) (log_of lg pos)
+-- what the model sends in k sub-rounds, from the column eq, the workspace and the log
+abbrev pub sends : (eq : ℕ → E.Ext) (ws : List ℕ) (ch : Source E.Ext) (b k : ℕ) (lambda : E.Ext) (s : State) → Sumcheck.Sent Extension (Drawing ch)
+sends eq ws ch b k lambda s = Sumcheck.send Extension (Drawing ch) k lambda eq (claims ws b) (log_of s)
 
 -- eq with the coordinates before j bound: a constant times the weights at the m that are left
 abbrev pub eq_from : (t : Turn) (pt : List ℕ) (j m i : ℕ) → E.Ext
@@ -63,34 +62,34 @@ pub record Facing (ws pt : List ℕ) (at b k half : ℕ) (lambda : E.Ext) (t : T
   pub h1 : dec t.h1 ≡ faced ws (at + half) b 1 half lambda
 
 -- after j of the k sub-rounds, with m still to come: what is there and what the model still sends make up what it sends from the start
-pub record Told (ws₀ ws pt₀ pt lg₀ lg : List ℕ) (ch : Source E.Ext) (at b j m k half : ℕ) (t : Turn) (pos₀ pos : Pos) : Type 0 where
+pub record Told (ws₀ ws pt₀ pt : List ℕ) (s₀ s : State) (ch : Source E.Ext) (at b j m k half : ℕ) (t : Turn) : Type 0 where
   pub x : dec t.x ≡ cell pt₀ j
   pub h0 : dec t.h0 ≡ side_sum ws (at + half) b 0 half
   pub h1 : dec t.h1 ≡ side_sum ws (at + half) b 1 half
-  pub point : cells pt 1 j ++ (sends (eq_from t pt₀ j m) ws lg ch b m E.nil pos).point ≡ (sends (Table.weight ExtRing (cells pt₀ 0 k)) ws₀ lg₀ ch b k E.nil pos₀).point
-  pub last : (sends (eq_from t pt₀ j m) ws lg ch b m E.nil pos).last ≡ (sends (Table.weight ExtRing (cells pt₀ 0 k)) ws₀ lg₀ ch b k E.nil pos₀).last
-  pub log : (sends (eq_from t pt₀ j m) ws lg ch b m E.nil pos).log ≡ (sends (Table.weight ExtRing (cells pt₀ 0 k)) ws₀ lg₀ ch b k E.nil pos₀).log
+  pub point : cells pt 1 j ++ (sends (eq_from t pt₀ j m) ws ch b m E.nil s).point ≡ (sends (Table.weight ExtRing (cells pt₀ 0 k)) ws₀ ch b k E.nil s₀).point
+  pub last : (sends (eq_from t pt₀ j m) ws ch b m E.nil s).last ≡ (sends (Table.weight ExtRing (cells pt₀ 0 k)) ws₀ ch b k E.nil s₀).last
+  pub log : (sends (eq_from t pt₀ j m) ws ch b m E.nil s).log ≡ (sends (Table.weight ExtRing (cells pt₀ 0 k)) ws₀ ch b k E.nil s₀).log
 
 -- the loop, the levels below and the old point's later coordinates as before
-pub record Going (ws₀ ws pt₀ pt lg₀ lg ls₀ ls : List ℕ) (ch : Source E.Ext) (at b j m k half size : ℕ) (t₀ t : Turn) (pos₀ pos : Pos) : Type 0 where
+pub record Going (ws₀ ws pt₀ pt : List ℕ) (s₀ s : State) (ch : Source E.Ext) (at b j m k half size : ℕ) (t₀ t : Turn) : Type 0 where
   pub clean : Clean ws
   pub points : Clean pt
   pub canon : CanonTurn t
   pub later : (i : ℕ) → j < i → cell pt i ≡ cell pt₀ i
-  pub steps : Steps lg₀ lg ls₀ ls pos₀ pos (16 * j) j (log_of lg pos)
+  pub steps : Steps s₀ s (16 * j) j (log_of s)
   pub kept : (i : ℕ) → 2 * b + 4 * size ≤ i → cell ws i ≡ cell ws₀ i
-  pub run : Facing ws₀ pt₀ at b k (size / 2) E.nil t₀ → Told ws₀ ws pt₀ pt lg₀ lg ch at b j m k half t pos₀ pos
+  pub run : Facing ws₀ pt₀ at b k (size / 2) E.nil t₀ → Told ws₀ ws pt₀ pt s₀ s ch at b j m k half t
 
 -- the model's rhos, last claims and log
-pub record Sent (ws ws' pt pt' lg lg' : List ℕ) (ch : Source E.Ext) (b k : ℕ) (lambda : E.Ext) (pos pos' : Pos) : Type 0 where
-  pub point : cells pt' 1 k ≡ (sends (Table.weight ExtRing (cells pt 0 k)) ws lg ch b k lambda pos).point
-  pub last : claims ws' b 0 ≡ (sends (Table.weight ExtRing (cells pt 0 k)) ws lg ch b k lambda pos).last
-  pub log : log_of lg' pos' ≡ (sends (Table.weight ExtRing (cells pt 0 k)) ws lg ch b k lambda pos).log
+pub record Sent (ws ws' pt pt' : List ℕ) (s s' : State) (ch : Source E.Ext) (b k : ℕ) (lambda : E.Ext) : Type 0 where
+  pub point : cells pt' 1 k ≡ (sends (Table.weight ExtRing (cells pt 0 k)) ws ch b k lambda s).point
+  pub last : claims ws' b 0 ≡ (sends (Table.weight ExtRing (cells pt 0 k)) ws ch b k lambda s).last
+  pub log : log_of s' ≡ (sends (Table.weight ExtRing (cells pt 0 k)) ws ch b k lambda s).log
 
 -- all sub-rounds, the levels below as before
-pub record SubRounds (ws ws' pt pt' lg lg' ls ls' : List ℕ) (ch : Source E.Ext) (at b k size : ℕ) (lambda : E.Ext) (t : Turn) (pos pos' : Pos) : Type 0 where
+pub record SubRounds (ws ws' pt pt' : List ℕ) (s s' : State) (ch : Source E.Ext) (at b k size : ℕ) (lambda : E.Ext) (t : Turn) : Type 0 where
   pub clean : Clean ws'
   pub points : Clean pt'
-  pub steps : Steps lg lg' ls ls' pos pos' (16 * k) k (log_of lg' pos')
+  pub steps : Steps s s' (16 * k) k (log_of s')
   pub kept : (i : ℕ) → 2 * b + 4 * size ≤ i → cell ws' i ≡ cell ws i
-  pub sent : Facing ws pt at b k (size / 2) lambda t → Sent ws ws' pt pt' lg lg' ch b k lambda pos pos'
+  pub sent : Facing ws pt at b k (size / 2) lambda t → Sent ws ws' pt pt' s s' ch b k lambda

@@ -6,8 +6,8 @@ use Rattle.field.specs.Ext as E
 use Rattle.field.specs.Cells.{cells}
 use Rattle.gkr.specs.Run.{Frac}
 use Rattle.gkr.specs.Transcripts.{Source}
-use Rattle.transcript.specs.declared.Pos.{Pos}
-use Rattle.transcript.specs.LogLaws.{SamePos, log_unique}
+use Rattle.transcript.specs.Log.{State}
+use Rattle.transcript.specs.LogLaws.{SameState, steps_unique}
 use Rattle.step.specs.declared.Frac.{Frac as FracW}
 use Rattle.step.specs.ValueLaws.{frac_unique}
 use Rattle.prover_run.specs.Runs.{Planted, RunOf}
@@ -16,6 +16,6 @@ use Rattle.prover_run.specs.Runs.{Planted, RunOf}
 pub root_unique : {rows ws' ws'' : List ℕ} (size m : ℕ) {r s : FracW} → size ≡ 2 ^ suc m → Planted rows ws' size r → Planted rows ws'' size s → r ≡ s
 root_unique size m e h k = frac_unique (h.sum m e) (k.sum m e)
 
-pub run_unique : {f : ℕ → Frac E.Ext} {pt' pt'' lg lg' lg'' : List ℕ} {ch : Source E.Ext} {m : ℕ} {pos r s : Pos} → r.put ≡ s.put → RunOf f pt' lg lg' ch m pos r → RunOf f pt'' lg lg'' ch m pos s
-    → SamePos r s × (cells pt' 0 (suc m) ≡ cells pt'' 0 (suc m)) × (lg' ≡ lg'')
-run_unique {lg = lg} p h k = let e = log_unique lg p (h.drawn ∙ sym k.drawn) (h.log ∙ sym k.log) h.rest k.rest in (e.0, h.point ∙ sym k.point, e.1)
+pub run_unique : {f : ℕ → Frac E.Ext} {pt' pt'' : List ℕ} {s s' s'' : State} {ch : Source E.Ext} {m : ℕ} → RunOf f pt' s s' ch m → RunOf f pt'' s s'' ch m
+    → SameState s' s'' × (cells pt' 0 (suc m) ≡ cells pt'' 0 (suc m))
+run_unique h k = (steps_unique h.steps k.steps, h.point ∙ sym k.point)

@@ -1,6 +1,6 @@
 -- The run over 2 ^ suc m rows over lent buffers, as the model runs it.
 -- Assumes nothing.
-use Rattle.std.specs.Prelude.{◌≡◌, Bool, true, false, List, ℕ, suc, ◌^◌, drop}
+use Rattle.std.specs.Prelude.{◌≡◌, Bool, true, false, List, ℕ, suc, ◌-◌, ◌^◌}
 use Rattle.field.specs.Ext as E
 use Rattle.field.specs.ExtRing.{ExtRing}
 use Rattle.field.specs.Extension.{Extension}
@@ -9,12 +9,11 @@ use Rattle.gkr.specs.Run.{Frac}
 use Rattle.gkr.specs.Transcripts.{Words, Source}
 use Rattle.gkr.specs.Tree as Tree
 use Rattle.gkr.specs.Gkr as Gkr
-use Rattle.transcript.specs.declared.Pos.{Pos}
-use Rattle.transcript.specs.Log.{Drawing, Observing, log_of}
+use Rattle.transcript.specs.Log.{Drawing, Observing, State, Steps, log_of}
 use Rattle.step.specs.declared.Frac.{Frac as FracW}
 use Rattle.step.specs.Values.{IsFrac}
 use Rattle.prover_tree.specs.Nodes.{node}
-use Rattle.prover_rounds.specs.Layers.{Levels}
+use Rattle.prover_rounds.specs.Layers.{Levels, log_up_to, used_up_to}
 
 -- the tree over the rows stands in the workspace, and its root is told
 pub record Planted (rows ws' : List ℕ) (size : ℕ) (root : FracW) : Type 0 where
@@ -28,9 +27,7 @@ abbrev pub begun : (asserted : Bool) (p : E.Ext) (t : Words) → Words
 begun true p t = t
 begun false p t = Observing.observe p t
 
--- the model's point and log after a run over the rows f, and the rest of the log as before
-pub record RunOf (f : ℕ → Frac E.Ext) (pt' lg lg' : List ℕ) (ch : Source E.Ext) (m : ℕ) (pos pos' : Pos) : Type 0 where
-  pub point : cells pt' 0 (suc m) ≡ (Gkr.run Extension (Drawing ch) m f (log_of lg pos)).point
-  pub log : log_of lg' pos' ≡ (Gkr.run Extension (Drawing ch) m f (log_of lg pos)).log
-  pub drawn : pos'.drawn ≡ pos.drawn
-  pub rest : drop pos'.put lg' ≡ drop pos'.put lg
+-- the model's point and log after a run over the rows f
+pub record RunOf (f : ℕ → Frac E.Ext) (pt' : List ℕ) (s s' : State) (ch : Source E.Ext) (m : ℕ) : Type 0 where
+  pub point : cells pt' 0 (suc m) ≡ (Gkr.run Extension (Drawing ch) m f (log_of s)).point
+  pub steps : Steps s s' (log_up_to (suc m)) (used_up_to (suc m) - 1) (Gkr.run Extension (Drawing ch) m f (log_of s)).log

@@ -51,7 +51,7 @@ fn sum_node(work: &mut [u32], k: usize)
     requires clean { Clean work.old }
     ensures { StoredNode work.old work.new k (Tree.compute_recursive_relations ExtRing (Tree.children ExtRing (node work.old) k)) }
 {
-    let f = step::add_fractions(load_node(work, 2 * k), load_node(work, 2 * k + 1));
+    let f = load_node(work, 2 * k) + load_node(work, 2 * k + 1);
     store_node(work, k, f);
 }
 
@@ -61,9 +61,7 @@ fn sum_tree(work: &mut [u32], size: usize)
     requires clean { Clean work.old }
     ensures { Summed work.old work.new 1 size }
 {
-    let mut node_idx = size;
-    while 1 < node_idx {
-        node_idx -= 1;
+    for node_idx in (1..size).rev() {
         sum_node(work, node_idx);
     }
 }
@@ -82,7 +80,5 @@ pub fn build(rows: &[u32], work: &mut [u32], size: usize)
 pub fn clear(words: &mut [u32])
     ensures { words.new ≡ replicate (length words.old) 0 }
 {
-    for i in 0..words.len() {
-        words[i] = 0;
-    }
+    words.fill(0);
 }

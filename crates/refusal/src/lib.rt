@@ -3,10 +3,10 @@
 
 ghost use Rattle.std.specs.Prelude.{◌≡◌, ◌^◌};
 ghost use Rattle.refusal.specs.Limits.{max_rounds, max_rows};
-ghost use Rattle.refusal.specs.Numbers.{plain, elements, list_number, report_of};
+ghost use Rattle.refusal.specs.Numbers.{plain, elements, report_of};
 ghost use Rattle.refusal.specs.Powers.{power_of_two};
 
-use field::Ext;
+use field::{Ext, Field};
 
 // The most rounds, and so the most rows, that a call takes.
 pub const MAX_ROUNDS: usize = 10;
@@ -45,13 +45,14 @@ pub struct Verifying {
 }
 
 // The list that a word stands in which is not canonical: the rows, the proof's elements, the challenges, the point of an evaluation, or a list of a helper's own.
+// A helper's own lists have no number.
 #[derive(Clone, Copy)]
 pub enum Words {
-    Rows,
-    Proof,
-    Challenges,
-    Point,
-    Own,
+    Own = 0,
+    Rows = 1,
+    Proof = 2,
+    Challenges = 3,
+    Point = 4,
 }
 
 #[derive(Clone, Copy)]
@@ -125,7 +126,7 @@ pub struct Report {
     pub right: Ext,
 }
 
-fn plain_report(number: u32, first: usize, second: usize, third: usize) -> Report
+fn plain(number: u32, first: usize, second: usize, third: usize) -> Report
     ensures { result ≡ plain number first second third }
 {
     Report {
@@ -138,90 +139,66 @@ fn plain_report(number: u32, first: usize, second: usize, third: usize) -> Repor
     }
 }
 
-fn element_report(number: u32, first: usize, left: Ext, right: Ext) -> Report
+fn elements(number: u32, first: usize, left: Ext, right: Ext) -> Report
     ensures { result ≡ elements number first left right }
 {
     Report {
-        number,
-        first,
-        second: 0,
-        third: 0,
         left,
         right,
+        ..plain(number, first, 0, 0)
     }
-}
-
-// A count that is not the one expected.
-fn counts(number: u32, expected: usize, actual: usize) -> Report
-    ensures { result ≡ plain number expected actual 0 }
-{
-    plain_report(number, expected, actual, 0)
-}
-
-// One element or two, without a place.
-fn values(number: u32, left: Ext, right: Ext) -> Report
-    ensures { result ≡ elements number 0 left right }
-{
-    element_report(number, 0, left, right)
 }
 
 // The number 0 with what a call is done with: a count and up to two elements.
 pub fn done(first: usize, left: Ext, right: Ext) -> Report
     ensures { result ≡ elements 0 first left right }
 {
-    element_report(0, first, left, right)
+    elements(0, first, left, right)
 }
 
-// The number of a list of words; a helper's own lists have none.
-fn list_number(list: Words) -> usize
-    ensures { result ≡ list_number list }
-{
-    match list {
-        Words::Rows => 1,
-        Words::Proof => 2,
-        Words::Challenges => 3,
-        Words::Point => 4,
-        Words::Own => 0,
-    }
-}
+// A refusal's number, and its fields, zero where there are none.
+impl From<Refusal> for Report {
+    ghost from_gives = { λ refusal report. report ≡ report_of refusal };
 
-// A refusal as document 01's table has it: its number, and its fields, zero where there are none.
-pub fn number_and_fields(refusal: Refusal) -> Report
-    ensures { result ≡ report_of refusal }
-{
-    match refusal {
-        Refusal::RaggedRows => plain_report(1, 0, 0, 0),
-        Refusal::TooManyRows => plain_report(2, 0, 0, 0),
-        Refusal::NotPowerOfTwo => plain_report(3, 0, 0, 0),
-        Refusal::ShortChallenges => plain_report(4, 0, 0, 0),
-        Refusal::ShortRoom => plain_report(5, 0, 0, 0),
-        Refusal::BadWord { place, list } => plain_report(6, place, list_number(list), 0),
-        Refusal::ZeroDenominator { row } => plain_report(7, row, 0, 0),
-        Refusal::NonZeroRootSum => plain_report(8, 0, 0, 0),
-        Refusal::SingleRow => plain_report(9, 0, 0, 0),
-        Refusal::ZeroRounds => plain_report(10, 0, 0, 0),
-        Refusal::TooManyRounds => plain_report(11, 0, 0, 0),
-        Refusal::BadVersion => plain_report(12, 0, 0, 0),
-        Refusal::BadLength => plain_report(13, 0, 0, 0),
-        Refusal::IncorrectLayerCount { expected, actual } => counts(14, expected, actual),
-        Refusal::IncorrectSumcheckPolyCount { expected, actual } => counts(15, expected, actual),
-        Refusal::ZeroCheckFailed { actual } => values(16, actual, Ext::ZERO),
-        Refusal::RootConsistencyCheckFailed { expected, actual } => values(17, expected, actual),
-        Refusal::IncorrectSubroundCount {
-            round,
-            expected,
-            actual,
-        } => plain_report(18, round, expected, actual),
-        Refusal::LayerConsistencyCheckFailed {
-            round,
-            expected,
-            actual,
-        } => element_report(19, round, expected, actual),
-        Refusal::InvalidZeroRoundValue { actual } => values(22, actual, Ext::ZERO),
-        Refusal::LogMismatch { place } => plain_report(24, place, 0, 0),
-        Refusal::LogShort { place } => plain_report(25, place, 0, 0),
-        Refusal::LogLong { place } => plain_report(26, place, 0, 0),
-        Refusal::ZeroRoot => plain_report(27, 0, 0, 0),
+    fn from(refusal: Refusal) -> Report {
+        match refusal {
+            Refusal::RaggedRows => plain(1, 0, 0, 0),
+            Refusal::TooManyRows => plain(2, 0, 0, 0),
+            Refusal::NotPowerOfTwo => plain(3, 0, 0, 0),
+            Refusal::ShortChallenges => plain(4, 0, 0, 0),
+            Refusal::ShortRoom => plain(5, 0, 0, 0),
+            Refusal::BadWord { place, list } => plain(6, place, list as usize, 0),
+            Refusal::ZeroDenominator { row } => plain(7, row, 0, 0),
+            Refusal::NonZeroRootSum => plain(8, 0, 0, 0),
+            Refusal::SingleRow => plain(9, 0, 0, 0),
+            Refusal::ZeroRounds => plain(10, 0, 0, 0),
+            Refusal::TooManyRounds => plain(11, 0, 0, 0),
+            Refusal::BadVersion => plain(12, 0, 0, 0),
+            Refusal::BadLength => plain(13, 0, 0, 0),
+            Refusal::IncorrectLayerCount { expected, actual } => plain(14, expected, actual, 0),
+            Refusal::IncorrectSumcheckPolyCount { expected, actual } => plain(
+                15, expected, actual, 0,
+            ),
+            Refusal::ZeroCheckFailed { actual } => elements(16, 0, actual, Ext::ZERO),
+            Refusal::RootConsistencyCheckFailed { expected, actual } => elements(
+                17, 0, expected, actual,
+            ),
+            Refusal::IncorrectSubroundCount {
+                round,
+                expected,
+                actual,
+            } => plain(18, round, expected, actual),
+            Refusal::LayerConsistencyCheckFailed {
+                round,
+                expected,
+                actual,
+            } => elements(19, round, expected, actual),
+            Refusal::InvalidZeroRoundValue { actual } => elements(22, 0, actual, Ext::ZERO),
+            Refusal::LogMismatch { place } => plain(24, place, 0, 0),
+            Refusal::LogShort { place } => plain(25, place, 0, 0),
+            Refusal::LogLong { place } => plain(26, place, 0, 0),
+            Refusal::ZeroRoot => plain(27, 0, 0, 0),
+        }
     }
 }
 
@@ -229,17 +206,5 @@ pub fn number_and_fields(refusal: Refusal) -> Report
 pub fn power_of_two(n: usize) -> bool
     ensures { result ≡ power_of_two n }
 {
-    if n == 0 {
-        return false;
-    }
-    let mut k: usize = 0;
-    let mut p: usize = 1;
-    while p < n {
-        if n - p < p {
-            return false;
-        }
-        p += p;
-        k += 1;
-    }
-    true
+    n.is_power_of_two()
 }

@@ -1,40 +1,24 @@
 // Replays recorded cases of the evaluation of a sheet: a case a line on standard input, its answer a line on standard output.
 #![tactic(auto)]
 
-use cases::print;
-use cases::read::{next_number, next_words};
+use cases::replay::replay_input;
+use cases::{Cases, print};
 
 fn call(rows: &[u32], point: &[u32]) {
-    let answer = evaluation::evaluate(rows, point);
-    print::report(evaluation::number_and_values(answer));
+    print::report(evaluation::number_and_values(evaluation::evaluate(rows, point)));
     print::end();
 }
 
-// Answers the case at a place, and where the next one begins.
-fn answer(text: &[u8], at: usize) -> usize {
+// Answers the next case.
+fn answer(cases: &mut Cases) {
     let mut rows = [0u32; 16400];
     let mut point = [0u32; 48];
-    let code = next_number(text, at);
-    let first = next_words(text, code.at, &mut rows);
-    let second = next_words(text, first.at, &mut point);
-    let n = first.count;
-    let k = second.count;
-    call(&rows[..n], &point[..k]);
-    second.at
-}
-
-fn replay(text: &[u8]) {
-    let mut at = 0;
-    for turn in 0..text.len() {
-        if text.len() <= at {
-            return;
-        }
-        at = answer(text, at);
-    }
+    cases.number(); // the code
+    let k = cases.list(&mut rows);
+    let n = cases.list(&mut point);
+    call(&rows[..k], &point[..n]);
 }
 
 fn main() {
-    let mut text = [0u8; 524288];
-    let n = io::read_full(0, &mut text);
-    replay(&text[..n]);
+    replay_input::<524288, _>(answer);
 }

@@ -1,89 +1,84 @@
 // Replays recorded cases of the functions on polynomials: a case a line on standard input, its answer a line on standard output.
 #![tactic(auto)]
 
-use cases::print;
-use cases::read::{next_ext, next_word};
-use field::Ext;
+use cases::replay::replay_input;
+use cases::{Cases, print};
+use field::{Ext, Field};
+use poly::eq::{eval_eq_mle, evals_eq_hypercube, evals_eq_hypercube_serial};
+use poly::eval::{eval_mle_evals_at_point, eval_mle_evals_by_halves};
+use poly::horner::{horner_eval, horner_eval_base};
 use poly::interpolate::{
     interpolate_cubic_at_0123, interpolate_linear_at_01, interpolate_quadratic_at_012,
 };
 use poly::report::{evaluated_number_and_values, outcome_number_and_values};
-use poly::{Evaluated, Outcome};
+use refusal::Refusal;
 
 mod lists; // the codes over one list, and over two
 mod round; // the code over five
 
-fn print_outcome(outcome: Outcome) {
+fn print_outcome(outcome: Result<(), Refusal>) {
     let r = outcome_number_and_values(outcome);
-    print::first(r.number as u64);
+    print::first(u64::from(r.number));
 }
 
-fn print_evaluated(evaluated: Evaluated) {
+fn print_evaluated(evaluated: Result<Ext, Refusal>) {
     let r = evaluated_number_and_values(evaluated);
-    print::first(r.number as u64);
+    print::first(u64::from(r.number));
     print::ext(r.left);
 }
 
-fn print_element(e: Ext) {
-    print_evaluated(Evaluated::Value(e));
+// The next N elements of the text.
+fn next_elements<const N: usize>(cases: &mut Cases) -> [Ext; N] {
+    let mut elements = [Ext::ZERO; N];
+    for element in &mut elements {
+        *element = cases.element();
+    }
+    elements
+}
+
+// The interpolations.
+// Stays: one function over a closure of N elements gets no proof, since its bound names a const parameter.
+fn linear(cases: &mut Cases) {
+    let [e0, e1, x] = next_elements::<3>(cases);
+    print_evaluated(Ok(interpolate_linear_at_01(e0, e1, x)));
     print::end();
 }
 
-// The interpolations. Each function from here on answers where the next case begins.
-fn linear(text: &[u8], at: usize) -> usize {
-    let e0 = next_ext(text, at);
-    let e1 = next_ext(text, e0.at);
-    let x = next_ext(text, e1.at);
-    print_element(interpolate_linear_at_01(e0.value, e1.value, x.value));
-    x.at
+fn quadratic(cases: &mut Cases) {
+    let [e0, e1, e2, x] = next_elements::<4>(cases);
+    print_evaluated(Ok(interpolate_quadratic_at_012(e0, e1, e2, x)));
+    print::end();
 }
 
-fn quadratic(text: &[u8], at: usize) -> usize {
-    let e0 = next_ext(text, at);
-    let e1 = next_ext(text, e0.at);
-    let e2 = next_ext(text, e1.at);
-    let x = next_ext(text, e2.at);
-    print_element(interpolate_quadratic_at_012(e0.value, e1.value, e2.value, x.value));
-    x.at
+fn cubic(cases: &mut Cases) {
+    let [e0, e1, e2, e3, x] = next_elements::<5>(cases);
+    print_evaluated(Ok(interpolate_cubic_at_0123(e0, e1, e2, e3, x)));
+    print::end();
 }
 
-fn cubic(text: &[u8], at: usize) -> usize {
-    let e0 = next_ext(text, at);
-    let e1 = next_ext(text, e0.at);
-    let e2 = next_ext(text, e1.at);
-    let e3 = next_ext(text, e2.at);
-    let x = next_ext(text, e3.at);
-    print_element(interpolate_cubic_at_0123(e0.value, e1.value, e2.value, e3.value, x.value));
-    x.at
-}
-
-fn answer(text: &[u8], at: usize) -> usize {
-    let c = next_word(text, at);
-    let code = c.value;
-    match code {
-        20 => linear(text, c.at),
-        21 => quadratic(text, c.at),
-        22 => cubic(text, c.at),
-        23 | 24 | 25 => lists::two_lists(text, c.at, code),
-        26 | 27 => lists::list_and_target(text, c.at, code),
-        28 | 29 => lists::list_and_element(text, c.at, code),
-        30 => lists::folded(text, c.at),
-        _ => round::round_evals(text, c.at),
-    }
-}
-
-fn replay(text: &[u8]) {
-    let mut at = 0;
-    for turn in 0..text.len() {
-        if text.len() <= at {
-            return;
-        }
-        at = answer(text, at);
+// Answers the next case.
+fn answer(cases: &mut Cases) {
+    match cases.word() {
+        20 => linear(cases),
+        21 => quadratic(cases),
+        22 => cubic(cases),
+        23 => lists::two_lists(cases, |x, y| print_evaluated(eval_eq_mle(x, y))),
+        24 => lists::two_lists(cases, |table, x| {
+            print_evaluated(eval_mle_evals_at_point(table, x));
+            print::list(table);
+        }),
+        25 => lists::two_lists(cases, |table, x| {
+            print_evaluated(eval_mle_evals_by_halves(table, x));
+        }),
+        26 => lists::list_and_target(cases, evals_eq_hypercube),
+        27 => lists::list_and_target(cases, evals_eq_hypercube_serial),
+        28 => lists::list_and_element(cases, horner_eval),
+        29 => lists::list_and_element(cases, horner_eval_base),
+        30 => lists::folded(cases),
+        _ => round::round_evals(cases),
     }
 }
 
 fn main() {
-    let mut text = [0u8; 524288];
-    let n = io::read_full(0, &mut text);
-    replay(&text[..n]);
+    replay_input::<524288, _>(answer);
 }

@@ -1,16 +1,11 @@
 // Replays recorded cases of the prover: a case a line on standard input, its answer a line on standard output.
 #![tactic(auto)]
 
-use cases::print;
-use cases::read::{fill_bytes, fill_words, next_number, next_word, next_words};
+use cases::read::fill;
+use cases::replay::replay_input;
+use cases::{Cases, print};
+use prover::Ending;
 use refusal::Proving;
-
-// The modes, and the place where the rows begin.
-#[derive(Clone, Copy)]
-struct Modes {
-    modes: Proving,
-    at: usize,
-}
 
 // The lengths of the four buffers, and what they hold before the call.
 #[derive(Clone, Copy)]
@@ -20,37 +15,26 @@ struct Rooms {
     log: u64,
     work: u64,
     fill: u32,
-    at: usize,
 }
 
 // The word of modes has 1 where live, 4 where challenges are drawn, and 8 where the proof binds its size.
-fn next_modes(text: &[u8], at: usize) -> Modes {
-    let word = next_number(text, at);
-    let asserted = next_number(text, word.at);
-    Modes {
-        modes: Proving {
-            live: word.value % 2 == 1,
-            assert_zero: asserted.value != 0,
-            drawn: word.value / 4 % 2 == 1,
-            sized: word.value / 8 % 2 == 1,
-        },
-        at: asserted.at,
+fn next_modes(cases: &mut Cases) -> Proving {
+    let word = cases.number();
+    Proving {
+        live: word % 2 == 1,
+        assert_zero: cases.number() != 0,
+        drawn: word / 4 % 2 == 1,
+        sized: word / 8 % 2 == 1,
     }
 }
 
-fn next_rooms(text: &[u8], at: usize) -> Rooms {
-    let proof = next_number(text, at);
-    let point = next_number(text, proof.at);
-    let log = next_number(text, point.at);
-    let work = next_number(text, log.at);
-    let fill = next_word(text, work.at);
+fn next_rooms(cases: &mut Cases) -> Rooms {
     Rooms {
-        proof: proof.value,
-        point: point.value,
-        log: log.value,
-        work: work.value,
-        fill: fill.value,
-        at: fill.at,
+        proof: cases.number(),
+        point: cases.number(),
+        log: cases.number(),
+        work: cases.number(),
+        fill: cases.word(),
     }
 }
 
@@ -63,16 +47,16 @@ fn call(
     log: &mut [u32],
     work: &mut [u32],
 ) {
-    let ending = prover::fractional_sumcheck(rows, modes, challenges, proof, point, log, work);
-    let answer = ending.answer;
-    let used = ending.used;
+    let Ending { answer, used } = prover::fractional_sumcheck(
+        rows, modes, challenges, proof, point, log, work,
+    );
     print::report(prover::number_and_values(answer));
     print::next(used.challenges as u64);
     print::next(used.words as u64);
-    print::bytes(proof);
-    print::words(point);
-    print::words(log);
-    print::words(work);
+    print::list(proof);
+    print::list(point);
+    print::list(log);
+    print::list(work);
     print::end();
 }
 
@@ -81,10 +65,10 @@ fn call_filled(rows: &[u32], modes: Proving, challenges: &[u32], rooms: Rooms) {
     let mut point = [0u32; 48];
     let mut log = [0u32; 1000];
     let mut work = [0u32; 32800];
-    let i = fill_bytes(&mut proof, rooms.proof, (rooms.fill % 256) as u8);
-    let j = fill_words(&mut point, rooms.point, rooms.fill);
-    let k = fill_words(&mut log, rooms.log, rooms.fill);
-    let l = fill_words(&mut work, rooms.work, rooms.fill);
+    let i = fill(&mut proof, rooms.proof, (rooms.fill % 256) as u8);
+    let j = fill(&mut point, rooms.point, rooms.fill);
+    let k = fill(&mut log, rooms.log, rooms.fill);
+    let l = fill(&mut work, rooms.work, rooms.fill);
     call(
         rows,
         modes,
@@ -96,33 +80,17 @@ fn call_filled(rows: &[u32], modes: Proving, challenges: &[u32], rooms: Rooms) {
     );
 }
 
-// Answers the case at a place, and where the next one begins.
-fn answer(text: &[u8], at: usize) -> usize {
+// Answers the next case.
+fn answer(cases: &mut Cases) {
     let mut rows = [0u32; 16400];
     let mut challenges = [0u32; 320];
-    let code = next_number(text, at);
-    let asked = next_modes(text, code.at);
-    let r = next_words(text, asked.at, &mut rows);
-    let c = next_words(text, r.at, &mut challenges);
-    let rooms = next_rooms(text, c.at);
-    let m = r.count;
-    let n = c.count;
-    call_filled(&rows[..m], asked.modes, &challenges[..n], rooms);
-    rooms.at
-}
-
-fn replay(text: &[u8]) {
-    let mut at = 0;
-    for turn in 0..text.len() {
-        if text.len() <= at {
-            return;
-        }
-        at = answer(text, at);
-    }
+    cases.number(); // the code
+    let modes = next_modes(cases);
+    let k = cases.list(&mut rows);
+    let n = cases.list(&mut challenges);
+    call_filled(&rows[..k], modes, &challenges[..n], next_rooms(cases));
 }
 
 fn main() {
-    let mut text = [0u8; 524288];
-    let n = io::read_full(0, &mut text);
-    replay(&text[..n]);
+    replay_input::<524288, _>(answer);
 }

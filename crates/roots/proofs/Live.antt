@@ -5,6 +5,7 @@ use mathlib.Core.Bool.{true, false}
 use mathlib.Core.List.{List}
 use mathlib.Core.Logic.{◌⊎◌, inl, inr}
 use Prim.Native.Nat.{ℕ, ◌^◌}
+use Rattle.std.specs.Prelude.{Err}
 use Rattle.field.specs.Ext as E
 use Rattle.field.specs.Element.{dec}
 use Rattle.field.specs.ElementLaws.{dec_enc}
@@ -13,9 +14,9 @@ use Rattle.step.specs.declared.Frac.{Frac}
 use Rattle.refusal.specs.Tests.{Tested, passed, refused}
 use Rattle.refusal.specs.declared.Refusal.TheVariants.{ZeroDenominator}
 use Rattle.sizes.specs.Sizes.{row_count}
-use Rattle.prover_gate.specs.Refusals.{Call, Rooms, first_refusal}
-use Rattle.prover.specs.declared.Answer.TheVariants.{Done, Refused}
-use Rattle.prover.specs.Proved.{rooms_of, entered, fronts, proved}
+use Rattle.prover_gate.specs.declared.Rooms.{Rooms}
+use Rattle.prover_gate.specs.Refusals.{Call, first_refusal}
+use Rattle.prover.specs.Proved.{rooms_of, entered, fronts, proved, summed}
 use Rattle.prover.specs.Companions.{in_mode, Sound, Lowest}
 use Rattle.prover.proofs.Modes.{live_mode}
 use Rattle.prover.proofs.Theorems.{done_refused}
@@ -25,7 +26,7 @@ use Rattle.roots.proofs.Sums.{Told, done_sum}
 
 module _ (c : Call) (r : Rooms) where
   -- a row over zero is refused in live mode, if not by 7 then before
-  live_sound : (n : ℕ) (s : Frac) → (fronts (in_mode true c) r).answer ≡ Done n s → Sound c.rows
+  live_sound : (n : ℕ) (s : Frac) → (fronts (in_mode true c) r).answer ≡ summed n s → Sound c.rows
   live_sound n s d = go (lowest_or_sound c.rows)
     where
       refuses : (i : ℕ) → Lowest c.rows i → (t : Tested) → first_refusal (in_mode false c) r ≡ t → ⊥
@@ -38,19 +39,19 @@ module _ (c : Call) (r : Rooms) where
 
   -- SEVEN: the sandbox takes the sheet, and the sum is over zero
 
-  sandbox_passes : (t : Tested) → first_refusal (in_mode false c) r ≡ t → (i : ℕ) → (fronts (in_mode true c) r).answer ≡ Refused (ZeroDenominator i) → t ≡ passed
+  sandbox_passes : (t : Tested) → first_refusal (in_mode false c) r ≡ t → (i : ℕ) → (fronts (in_mode true c) r).answer ≡ Err (ZeroDenominator i) → t ≡ passed
   unfolding fronts
   sandbox_passes passed h i e = refl
   sandbox_passes (refused x) h i e =
       absurd ((live_mode c r).sandbox i (ap (λ t. (entered (in_mode false c) t).answer) h ∙ sym (ap (λ o. o.answer) ((live_mode c r).earlier x h)) ∙ e))
 
   module _ (n : ℕ) (size : row_count c.rows ≡ 2 ^ n) where
-    to_sum : (i : ℕ) → (fronts (in_mode true c) r).answer ≡ Refused (ZeroDenominator i) → ((i : ℕ) × Lowest c.rows i) ⊎ Sound c.rows → OverZero c.rows n
+    to_sum : (i : ℕ) → (fronts (in_mode true c) r).answer ≡ Err (ZeroDenominator i) → ((i : ℕ) × Lowest c.rows i) ⊎ Sound c.rows → OverZero c.rows n
     to_sum i e (inl l) = lowest_sum c.rows n size l.0 l.1
     to_sum i e (inr s) = absurd ((live_mode c r).sandbox i (sym (ap (λ o. o.answer) ((live_mode c r).equal s)) ∙ e))
 
     from_sum : first_refusal (in_mode false c) r ≡ passed → OverZero c.rows n → ((i : ℕ) × Lowest c.rows i) ⊎ Sound c.rows
-        → (i : ℕ) × ((fronts (in_mode true c) r).answer ≡ Refused (ZeroDenominator i))
+        → (i : ℕ) × ((fronts (in_mode true c) r).answer ≡ Err (ZeroDenominator i))
     from_sum h z (inl l) = (l.0, ap (λ o. o.answer) ((live_mode c r).lowest l.0 l.1 h))
     from_sum h z (inr s) = absurd (sound_sum c.rows n size s z)
 

@@ -27,11 +27,11 @@ use Rattle.refusal.specs.declared.Proving.{Proving}
 use Rattle.refusal.specs.declared.Refusal.TheVariants.{NonZeroRootSum}
 use Rattle.prover_tree.specs.Nodes.{node}
 use Rattle.sizes.specs.Sizes.{row_count, rounds_from, rounds_of, needed_words}
-use Rattle.prover_gate.specs.Refusals.{Call, Rooms, first_refusal}
-use Rattle.prover.specs.declared.Answer.TheVariants.{Done}
-use Rattle.prover.specs.Proved.{Outcome, enc_frac, one_row, after, ran, entered, fronts}
+use Rattle.prover_gate.specs.declared.Rooms.{Rooms}
+use Rattle.prover_gate.specs.Refusals.{Call, first_refusal}
+use Rattle.prover.specs.Proved.{Outcome, enc_frac, one_row, after, ran, entered, fronts, summed}
 use Rattle.prover.proofs.Opening.{gate_opens}
-use Rattle.prover.proofs.Theorems.{done_refused}
+use Rattle.prover.proofs.Theorems.{done_refused, same_rounds, same_sum}
 
 -- the sum of no rows
 abbrev none : Frac E.Ext
@@ -43,7 +43,7 @@ Told rows n s = (s ≡ enc_frac none) ⊎ ((row_count rows ≡ 2 ^ n) × (s ≡ 
 
 -- where an outcome is done, so it is
 abbrev Tells : (rows : List ℕ) → Outcome → Type 0
-Tells rows o = (n : ℕ) (s : FracW) → o.answer ≡ Done n s → Told rows n s
+Tells rows o = (n : ℕ) (s : FracW) → o.answer ≡ summed n s → Told rows n s
 
 module _ (rows : List ℕ) where
   -- the sum of a model's run is the root
@@ -55,15 +55,15 @@ module _ (rows : List ℕ) where
   after_tells : (ch : Source E.Ext) (b : Bool) (m : ℕ) → row_count rows ≡ 2 ^ suc m → (a : Gkr.Answer Extension (Drawing ch))
       → ((P : Gkr.Proved Extension (Drawing ch)) → a ≡ done P → P.sum ≡ Tree.tree ExtRing (node rows) (suc m) 0) → Tells rows (after ch b (suc m) a)
   after_tells ch b m size (done P) h n s d =
-      let k : suc m ≡ n = cc in
-      let e : enc_frac P.sum ≡ s = cc in
+      let k = same_rounds d in
+      let e = same_sum d in
       inr (size ∙ ap (λ j. 2 ^ j) k, sym e ∙ ap enc_frac (h P refl) ∙ ap (λ j. enc_frac (Tree.tree ExtRing (node rows) j 0)) k)
   after_tells ch b m size non_zero_root_sum h n s d = absurd (done_refused n s NonZeroRootSum (sym d))
 
   ran_tells : (modes : Proving) (ch : List ℕ) (n : ℕ) → (n ≡ 0) ⊎ (row_count rows ≡ 2 ^ n) → Tells rows (ran rows modes ch n)
   ran_tells modes ch zero size =
       either (Tells rows) (eqb (row_count rows) 0) _ _
-      (λ z n s d. let e : enc_frac none ≡ s = cc in inl (sym e))
+      (λ z n s d. inl (sym (same_sum d)))
       (λ z n s d. absurd (done_refused n s (one_row rows modes.assert_zero) (sym d)))
   ran_tells modes ch (suc m) (inl z) = absurd (omega arith)
   ran_tells modes ch (suc m) (inr size) =
@@ -77,7 +77,7 @@ unfolding rounds_from
 sized zero h = inl refl
 sized (suc k) h = inr (h (λ e. omega arith))
 
-pub done_sum : (c : Call) (r : Rooms) (n : ℕ) (s : FracW) → (fronts c r).answer ≡ Done n s → Told c.rows n s
+pub done_sum : (c : Call) (r : Rooms) (n : ℕ) (s : FracW) → (fronts c r).answer ≡ summed n s → Told c.rows n s
 unfolding fronts
 done_sum c r = go (first_refusal c r) refl
   where

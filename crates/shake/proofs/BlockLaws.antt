@@ -1,12 +1,12 @@
 -- A block: filled lane by lane, xored into a state, and the same of two lists whose bytes are the same there.
 -- Assumes nothing.
-use mathlib.Core.Path.{◌≡◌, refl, sym, ap, ap₂, ◌∙◌}
+use mathlib.Core.Path.{◌≡◌, sym, ap, ap₂, ◌∙◌}
 use mathlib.Core.List.{List}
 use mathlib.Core.Logic.{◌⊎◌, inl, inr, ⊎_elim}
 use Prim.Native.Nat.{ℕ, zero, suc, ◌+◌, ◌*◌, ◌≤◌, ◌<◌, zero-le, suc-le-suc}
 use native.Mathlib.Omega.{arith}
-use lib.ListN.{length, get_or, set, replicate, length-set}
-use lib.Seq.{get_or-set_same, get_or-set_other, ext_get_or}
+use lib.ListN.{length, get_or}
+use lib.Seq.{ext_get_or}
 use Rattle.keccak.specs.Values.{values}
 use Rattle.keccak.specs.ValueLaws.{value_at, values_length, same_values, elements}
 use Rattle.keccak.specs.Keccak.{keccak}
@@ -26,24 +26,6 @@ pub record Filled (f : ℕ → ℕ) (j : ℕ) (b : List ℕ) (n : ℕ) : Type 0 
   pub held : (i : ℕ) → i < n → get_or b i 0 ≡ f (j + i)
 
 module _ (f : ℕ → ℕ) (j : ℕ) where
-  pub none_filled : Filled f j (replicate 21 0) 0
-  none_filled = record { len = refl; upto = omega arith; held = λ i h. absurd (omega arith) }
-
-  pub one_filled : {b : List ℕ} {n v : ℕ} → Filled f j b n → n < 21 → v ≡ f (j + n) → Filled f j (set b n v) (n + 1)
-  one_filled {b} {n} {v} w h e =
-      record {
-        len = length-set b n v ∙ w.len;
-        upto = omega arith;
-        held =
-            λ i k.
-            ⊎_elim
-            (λ l. get_or-set_other b n i v 0 (λ q. omega arith) ∙ w.held i l)
-            (λ g.
-            let q : i ≡ n = omega arith in
-            rw q (get_or-set_same b n v 0 (omega (arith, w.len)) ∙ e))
-            (lt_or_ge i n);
-      }
-
   pub all_filled : {b : List ℕ} {n : ℕ} → Filled f j b n → 21 ≤ n → b ≡ values f j 21
   all_filled {b} w h =
       ext_get_or 0 b (values f j 21) (w.len ∙ sym (values_length f j 21))

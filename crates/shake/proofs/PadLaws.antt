@@ -2,7 +2,7 @@
 -- Assumes nothing.
 use mathlib.Core.Path.{◌≡◌, refl, sym, ap, ◌∙◌}
 use mathlib.Core.List.{List, [], ◌∷◌, ◌++◌}
-use Prim.Native.Nat.{ℕ, zero, suc, ◌+◌, ◌-◌, ◌*◌, ◌/◌, ◌%◌, ◌^◌, ◌≤◌, ◌<◌}
+use Prim.Native.Nat.{ℕ, zero, suc, ◌+◌, ◌-◌, ◌*◌, ◌/◌, ◌%◌, ◌≤◌, ◌<◌}
 use native.Mathlib.Omega.{arith}
 use lib.ListN.{length, get_or, replicate, length-append, length-replicate, get_or-append}
 use lib.Seq.{get_or-set_same, get_or-set_other, get_or-append-add}
@@ -16,14 +16,6 @@ use Rattle.shake.specs.Drawn.{message}
 pub length_message : (l ws : List ℕ) → length (message l ws) ≡ length l + 4 * length ws
 unfolding message
 length_message l ws = length-append l (bytes_of ws) ∙ ap (λ (n : ℕ). length l + n) (bytes_length ws)
-
--- byte j of a word, as a shift has it
-pub shifted_byte : (w j : ℕ) → w < 2 ^ 32 → j < 4 → w / 2 ^ (24 - 8 * j) % 256 ≡ get_or (be4 w) j 0
-shifted_byte w zero h k = let e : w / 16777216 % 256 ≡ w / 16777216 = omega arith in e
-shifted_byte w (suc zero) h k = refl
-shifted_byte w (suc (suc zero)) h k = refl
-shifted_byte w (suc (suc (suc zero))) h k = let e : w / 1 % 256 ≡ w % 256 = omega arith in e
-shifted_byte w (suc (suc (suc (suc j)))) h k = absurd (omega arith)
 
 pub bytes_at : (ws : List ℕ) (j : ℕ) → j < 4 * length ws → get_or (bytes_of ws) j 0 ≡ get_or (be4 (get_or ws (j / 4) 0)) (j % 4) 0
 unfolding bytes_of

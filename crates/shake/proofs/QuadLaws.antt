@@ -5,6 +5,7 @@ use mathlib.Core.List.{List, [], ◌∷◌}
 use Prim.Native.Nat.{ℕ, suc, ◌+◌, ◌-◌, ◌*◌, ◌/◌, ◌%◌, ◌^◌, ◌≤◌, ◌<◌}
 use native.Mathlib.Omega.{arith}
 use lib.ListN.{length, get_or}
+use Rattle.std.specs.Int.{w32, w64, swap_bytes}
 use Rattle.wire.specs.Bytes.{bytes_of}
 use Rattle.keccak.specs.Values.{values}
 use Rattle.shake.specs.Sponge.{high_first, padded, lane_at, lane_byte}
@@ -31,23 +32,30 @@ eight b0 b1 b2 b3 b4 b5 b6 b7 =
 
 -- and turned: the first is the highest
 eight_turned : (b0 b1 b2 b3 b4 b5 b6 b7 : ℕ)
-    → (b0 * 2 ^ 24 + b1 * 2 ^ 16 + b2 * 2 ^ 8 + b3) * 2 ^ 32 + (b4 * 2 ^ 24 + b5 * 2 ^ 16 + b6 * 2 ^ 8 + b7)
+    → b0 * 2 ^ 56 + b1 * 2 ^ 48 + b2 * 2 ^ 40 + b3 * 2 ^ 32 + b4 * 2 ^ 24 + b5 * 2 ^ 16 + b6 * 2 ^ 8 + b7
     ≡ high_first (b0 ∷ b1 ∷ b2 ∷ b3 ∷ b4 ∷ b5 ∷ b6 ∷ b7 ∷ [])
 eight_turned b0 b1 b2 b3 b4 b5 b6 b7 =
-    let e : (b0 * 2 ^ 24 + b1 * 2 ^ 16 + b2 * 2 ^ 8 + b3) * 2 ^ 32 + (b4 * 2 ^ 24 + b5 * 2 ^ 16 + b6 * 2 ^ 8 + b7)
+    let e : b0 * 2 ^ 56 + b1 * 2 ^ 48 + b2 * 2 ^ 40 + b3 * 2 ^ 32 + b4 * 2 ^ 24 + b5 * 2 ^ 16 + b6 * 2 ^ 8 + b7
     ≡ b7 + b6 * 2 ^ 8 + b5 * 2 ^ 16 + b4 * 2 ^ 24 + (b3 + b2 * 2 ^ 8 + b1 * 2 ^ 16 + b0 * 2 ^ 24) * 2 ^ 32
     = omega arith in
     e ∙ sym (eight b7 b6 b5 b4 b3 b2 b1 b0)
 
-pub turned_lane : (a : ℕ)
-    → (a % 256 * 2 ^ 24 + a / 2 ^ 8 % 256 * 2 ^ 16 + a / 2 ^ 16 % 256 * 2 ^ 8 + a / 2 ^ 24 % 256) * 2 ^ 32
-    + (a / 2 ^ 32 % 256 * 2 ^ 24 + a / 2 ^ 40 % 256 * 2 ^ 16 + a / 2 ^ 48 % 256 * 2 ^ 8 + a / 2 ^ 56 % 256)
-    ≡ high_first (values (lane_byte a) 0 8)
-turned_lane a =
-    let e : a / 1 % 256 ≡ a % 256 = omega arith in
-    ap (λ (x : ℕ). (x * 2 ^ 24 + a / 2 ^ 8 % 256 * 2 ^ 16 + a / 2 ^ 16 % 256 * 2 ^ 8 + a / 2 ^ 24 % 256) * 2 ^ 32
-    + (a / 2 ^ 32 % 256 * 2 ^ 24 + a / 2 ^ 40 % 256 * 2 ^ 16 + a / 2 ^ 48 % 256 * 2 ^ 8 + a / 2 ^ 56 % 256)) (sym e)
+-- as std turns the bytes of a number
+pub swapped_lane : (a : ℕ) → swap_bytes w64 a ≡ high_first (values (lane_byte a) 0 8)
+swapped_lane a =
+    let e : a % 256 ≡ a / 1 % 256 = omega arith in
+    ap (λ (x : ℕ). x * 2 ^ 56 + a / 2 ^ 8 % 256 * 2 ^ 48 + a / 2 ^ 16 % 256 * 2 ^ 40 + a / 2 ^ 24 % 256 * 2 ^ 32 + a / 2 ^ 32 % 256 * 2 ^ 24
+    + a / 2 ^ 40 % 256 * 2 ^ 16 + a / 2 ^ 48 % 256 * 2 ^ 8 + a / 2 ^ 56 % 256) e
     ∙ eight_turned (a / 1 % 256) (a / 2 ^ 8 % 256) (a / 2 ^ 16 % 256) (a / 2 ^ 24 % 256) (a / 2 ^ 32 % 256) (a / 2 ^ 40 % 256) (a / 2 ^ 48 % 256) (a / 2 ^ 56 % 256)
+
+four_turned : (b0 b1 b2 b3 : ℕ) → b0 * 2 ^ 24 + b1 * 2 ^ 16 + b2 * 2 ^ 8 + b3 ≡ b3 + b2 * 2 ^ 8 + b1 * 2 ^ 16 + b0 * 2 ^ 24
+four_turned b0 b1 b2 b3 = omega arith
+
+pub swapped_quad : (y : ℕ) → y < 2 ^ 32 → swap_bytes w32 y ≡ y / 2 ^ 24 + y / 2 ^ 16 % 256 * 2 ^ 8 + y / 2 ^ 8 % 256 * 2 ^ 16 + y % 256 * 2 ^ 24
+swapped_quad y h =
+    let e : y / 2 ^ 24 % 256 ≡ y / 2 ^ 24 = omega arith in
+    four_turned (y % 256) (y / 2 ^ 8 % 256) (y / 2 ^ 16 % 256) (y / 2 ^ 24 % 256)
+    ∙ ap (λ (x : ℕ). x + y / 2 ^ 16 % 256 * 2 ^ 8 + y / 2 ^ 8 % 256 * 2 ^ 16 + y % 256 * 2 ^ 24) e
 
 pub lane_eq : {b0 b1 a0 a1 : ℕ} → b0 ≡ a0 → b1 ≡ a1 → b0 + b1 * 2 ^ 32 ≡ a0 + a1 * 2 ^ 32
 lane_eq e0 e1 = λ i. e0 i + e1 i * 2 ^ 32

@@ -7,6 +7,7 @@ use Prim.Native.Nat.{ℕ, zero, suc, ◌+◌, ◌-◌, ◌*◌, ◌/◌, ◌%◌
 use native.Mathlib.Omega.{arith}
 use lib.ListN.{length, get_or, set, take, length-append, length-set, get_or-append}
 use lib.Seq.{length-take-le, get_or-take, get_or-append-add, get_or-set_same, get_or-set_other, ext_get_or}
+use Rattle.std.specs.Int.{w64, to_le_bytes}
 use Rattle.keccak.specs.Keccak.{keccak}
 use Rattle.keccak.specs.State.{as_list}
 use Rattle.keccak.specs.declared.Lanes.{Lanes}
@@ -27,6 +28,18 @@ turns_out (suc j) s = turns_out j (keccak s)
 -- byte i of the output from s on
 abbrev pub byte_at : List ℕ → ℕ → ℕ
 byte_at s i = lane_byte (get_or (turns (i / 168) s) (i % 168 / 8) 0) (i % 168 % 8)
+
+-- a byte of a lane, as std has it
+pub lane_bytes : (a j : ℕ) → j < 8 → get_or (to_le_bytes w64 a) j 0 ≡ lane_byte a j
+lane_bytes a zero h = let e : a % 256 ≡ a / 1 % 256 = omega arith in e
+lane_bytes a (suc zero) h = refl
+lane_bytes a (suc (suc zero)) h = refl
+lane_bytes a (suc (suc (suc zero))) h = refl
+lane_bytes a (suc (suc (suc (suc zero)))) h = refl
+lane_bytes a (suc (suc (suc (suc (suc zero))))) h = refl
+lane_bytes a (suc (suc (suc (suc (suc (suc zero)))))) h = refl
+lane_bytes a (suc (suc (suc (suc (suc (suc (suc zero))))))) h = refl
+lane_bytes a (suc (suc (suc (suc (suc (suc (suc (suc j)))))))) h = absurd (omega arith)
 
 length_bytes : (s : List ℕ) → length (bytes s) ≡ 8 * length s
 length_bytes [] = refl

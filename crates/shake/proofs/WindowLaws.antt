@@ -14,9 +14,6 @@ use Rattle.shake.proofs.QuadLaws.{quad_eq}
 abbrev pub turned_quad : ℕ → ℕ
 turned_quad y = y / 2 ^ 24 + y / 2 ^ 16 % 256 * 2 ^ 8 + y / 2 ^ 8 % 256 * 2 ^ 16 + y % 256 * 2 ^ 24
 
-pub turned_small : (y : ℕ) → y < 2 ^ 32 → turned_quad y < 2 ^ 32
-turned_small y h = omega arith
-
 -- 32 bits of two words side by side, from byte r of the first on
 abbrev pub across : ℕ → ℕ → ℕ → ℕ
 across v w r = (v * 2 ^ 32 + w) / 2 ^ (32 - 8 * r) % 2 ^ 32

@@ -5,10 +5,10 @@ ghost use Rattle.std.specs.Prelude.{◌≡◌, List, ℕ, ◌+◌, ◌*◌, ◌/
 ghost use Rattle.field.specs.Base.{P};
 ghost use Rattle.keccak.specs.Values.{values};
 ghost use Rattle.keccak.specs.State.{as_list};
-ghost use Rattle.shake.specs.Sponge.{padded, xored, absorb_block, lane_byte, high_first, final, shake128};
+ghost use Rattle.shake.specs.Sponge.{padded, xored, absorb_block, final, shake128};
 ghost use Rattle.shake.specs.Drawn.{message, drawn, Holds};
 
-use crate::padded::block_lanes;
+use crate::padded::Message;
 use field::Base;
 use keccak::{Lanes, permute};
 
@@ -55,11 +55,11 @@ fn xor_block(s: Lanes, b: [u64; 21]) -> Lanes
 }
 
 // Block k of the padded message, absorbed.
-fn absorb_block(s: Lanes, label: &[u8], words: &[u32], k: usize) -> Lanes
-    requires { (length label.now < 2 ^ 62) × (k ≤ (length label.now + 4 * length words.now) / 168) }
-    ensures { as_list result ≡ absorb_block (as_list s) (padded (message label.now words.now)) k }
+fn absorb_block(s: Lanes, m: Message, k: usize) -> Lanes
+    requires { k ≤ (length m.label.now + 4 * length m.words.now) / 168 }
+    ensures { as_list result ≡ absorb_block (as_list s) (padded (message m.entry.label.now m.entry.words.now)) k }
 {
-    permute(xor_block(s, block_lanes(label, words, k)))
+    permute(xor_block(s, m.block(k)))
 }
 
 // A sponge that has absorbed nothing, of whatever message.
@@ -67,33 +67,7 @@ pub fn start() -> Sponge
     ensures { (m : List ℕ) → Holds result m }
 {
     Sponge {
-        lanes: Lanes {
-            a0: 0,
-            a1: 0,
-            a2: 0,
-            a3: 0,
-            a4: 0,
-            a5: 0,
-            a6: 0,
-            a7: 0,
-            a8: 0,
-            a9: 0,
-            a10: 0,
-            a11: 0,
-            a12: 0,
-            a13: 0,
-            a14: 0,
-            a15: 0,
-            a16: 0,
-            a17: 0,
-            a18: 0,
-            a19: 0,
-            a20: 0,
-            a21: 0,
-            a22: 0,
-            a23: 0,
-            a24: 0,
-        },
+        lanes: Lanes::ZERO,
         blocks: 0,
     }
 }
@@ -104,58 +78,31 @@ pub fn absorb(s: Sponge, label: &[u8], words: &[u32]) -> Sponge
     ensures holds { Holds result (message label.now words.now) }
     ensures blocks_value { result.blocks ≡ (length label.now + 4 * length words.now) / 168 }
 {
-    let end = (label.len() + 4 * words.len()) / 168;
-    let mut t = s.lanes;
-    let mut k = s.blocks;
-    while k < end {
-        t = absorb_block(t, label, words, k);
-        k += 1;
+    let m = Message { label, words };
+    let end = m.size() / 168;
+    let mut lanes = s.lanes;
+    for k in s.blocks..end {
+        lanes = absorb_block(lanes, m, k);
     }
-    Sponge {
-        lanes: t,
-        blocks: end,
-    }
+    Sponge { lanes, blocks: end }
 }
 
 // The state after the whole padded message, of which s has absorbed some blocks.
-fn finish(s: Sponge, label: &[u8], words: &[u32]) -> Lanes
-    requires { (length label.now < 2 ^ 62) × Holds s (message label.now words.now) }
-    ensures { as_list result ≡ final (message label.now words.now) }
+fn finish(s: Sponge, m: Message) -> Lanes
+    requires { Holds s (message m.label.now m.words.now) }
+    ensures { as_list result ≡ final (message m.entry.label.now m.entry.words.now) }
 {
-    let t = absorb(s, label, words);
-    absorb_block(t.lanes, label, words, t.blocks)
+    let t = absorb(s, m.label, m.words);
+    absorb_block(t.lanes, m, t.blocks)
 }
 
-// The bytes of a lane as a number, the first the highest.
-fn turned(a: u64) -> u64
-    ensures { result ≡ high_first (values (lane_byte a) 0 8) }
-{
-    let high = a % 256 * 0x100_0000
-        + a / 0x100 % 256 * 0x1_0000
-        + a / 0x1_0000 % 256 * 0x100
-        + a / 0x100_0000 % 256;
-    let low = a / 0x1_0000_0000 % 256 * 0x100_0000
-        + a / 0x100_0000_0000 % 256 * 0x1_0000
-        + a / 0x1_0000_0000_0000 % 256 * 0x100
-        + a / 0x100_0000_0000_0000 % 256;
-    high * 0x1_0000_0000 + low
-}
-
-// The word drawn from a label and words, of which s has absorbed some blocks.
+// The word drawn from a label and words, of which s has absorbed some blocks: the first 8 bytes of their hash, the first the highest, modulo the prime.
 pub fn draw(s: Sponge, label: &[u8], words: &[u32]) -> u32
     requires { (length label.now < 2 ^ 62) × Holds s (message label.now words.now) }
     ensures { (result ≡ drawn label.now words.now) × (result < P) }
 {
-    let v = finish(s, label, words);
-    (turned(v.a0) % Base::ORDER_U64) as u32
-}
-
-// Byte j of a lane, 0 the lowest.
-fn lane_byte(a: u64, j: usize) -> u8
-    requires { j < 8 }
-    ensures { result ≡ lane_byte a j }
-{
-    ((a >> (8 * j)) % 256) as u8
+    let v = finish(s, Message { label, words });
+    (v.a0.swap_bytes() % Base::ORDER_U64) as u32
 }
 
 // The lanes that are squeezed out of a state.
@@ -173,17 +120,14 @@ pub fn hash(label: &[u8], words: &[u32], out: &mut [u8])
     requires { length label.now < 2 ^ 62 }
     ensures { out.new ≡ shake128 (message label.now words.now) (length out.old) }
 {
-    let mut s = finish(start(), label, words);
+    let mut s = finish(start(), Message { label, words });
     let mut b = squeezed_lanes(s);
-    let mut i: usize = 0;
-    while i < out.len() {
+    for (i, byte) in out.iter_mut().enumerate() {
         let at = i % 168;
-        out[i] = lane_byte(b[at / 8], at % 8);
-        i += 1;
-        if i % 168 == 0 {
+        *byte = b[at / 8].to_le_bytes()[at % 8];
+        if at == 167 {
             s = permute(s);
-            let c = squeezed_lanes(s);
-            b = c;
+            b = squeezed_lanes(s);
         }
     }
 }

@@ -1,4 +1,5 @@
 -- The laws of the text.
 pub mod Scanning
-pub mod Composing
+pub mod Finding
+pub mod Placing
 pub mod Listing

@@ -1,177 +1,107 @@
--- The turns of the loops over a line's bytes and over the lines, and what a line puts into the words.
+-- The lines of a text, and the turns of the loop over them.
 -- Assumes nothing.
-use Rattle.std.proofs.Common.{◌≡◌, ℕ, suc, ◌+◌, ◌-◌, ◌<◌, ◌≤◌, min, Bool, true, false, eqb, leb, List, [], ◌∷◌, length, get_or, take, drop, set, sym, refl, ap, ◌∙◌, subst, add-one, arith, drop_of_length-le, drop-cons, drop-drop, eq-eqb, ne_eqb, le-leb, leb-false, leb-true}
-use borrow.Author.Tests.{lt-leb}
-use lib.Seq.{sets, length-sets}
-use Rattle.field.specs.declared.Ext.{Ext}
-use Rattle.wire.specs.Words.{ext_words}
-use Rattle.sheet_text.specs.declared.Line.{Line}
-use Rattle.sheet_text.specs.declared.Line.TheVariants as Line
-use Rattle.sheet_text.specs.declared.Placed.{Placed}
-use Rattle.sheet_text.specs.declared.Placed.TheVariants.{At, Other, Full}
-use Rattle.sheet_text.specs.declared.ListAnswer.TheVariants as Ends
+use Rattle.std.proofs.Common.{◌≡◌, ℕ, ◌+◌, ◌<◌, ◌≤◌, Bool, true, false, eqb, List, [], ◌∷◌, ◌++◌, length, get_or, drop, Option, Some, None, Bor, arith, Result, Ok, Err, MatchResult, ◌⊎◌, inl, inr, sym, refl, ap, ◌∙◌, add-one, drop_of_length-le, drop-cons}
+use Rattle.std.specs.List.{slice_split, onto_first, enumerate_from}
+use Rattle.std.specs.Iterator.{Yields}
+use Rattle.std.specs.Iterator.Adapters.{enumerate_source, enumerate_count, enumerate_steps}
+use Rattle.std.specs.declared.iter.Enumerate.{Enumerate}
+use Rattle.std.proofs.lemmas.Iterator.{YieldsList}
+use Rattle.std.proofs.lemmas.Iterator.Consumers.{YieldsList-from_enumerate, YieldsList-turn, YieldsList-end}
+use Rattle.std.proofs.lemmas.List.FromFn.{get_or-enumerate_from, length-enumerate_from}
+use Rattle.sheet_text.specs.declared.ListError.{ListError}
+use Rattle.sheet_text.specs.declared.PlaceError.{PlaceError}
+use Rattle.sheet_text.specs.Scan.{spaces_at, spaces_from}
 use Rattle.sheet_text.specs.Lines.{line_of}
-use Rattle.sheet_text.specs.Reading.{length_to, longer, lines_of, Left, put_single, put_fraction, put_line, Ended, go_on, read_lines}
+use Rattle.sheet_text.specs.Reading.{longer, lines_of, Left, put_line, error_at, Ended, go_on, read_lines, list_read}
 
-module _ (text : List ℕ) (i : ℕ) where
-  next : i < length text → drop i text ≡ get_or text i 0 ∷ drop (i + 1) text
-  next h = rw (add-one, drop-cons text i 0)
+-- ---- the parts at the line feeds are the lines, and an empty part after a last line feed
+abbrev pub parts_of : List ℕ → List (List ℕ)
+parts_of = slice_split (λ b. eqb b 10)
 
-  pub line_stops : (b : ℕ) → i < length text → get_or text i 0 ≡ b → length_to b (drop i text) ≡ 0
-  unfolding length_to
-  line_stops b h e = rw (next h, eq-eqb (get_or text i 0) b e)
+abbrev LinesOf : List (List ℕ) → List (List ℕ) → Type 0
+LinesOf parts lines = (parts ≡ lines) ⊎ (parts ≡ lines ++ [] ∷ [])
 
-  pub line_more : (b : ℕ) → i < length text → (get_or text i 0 ≡ b → ⊥) → length_to b (drop i text) ≡ suc (length_to b (drop (i + 1) text))
-  unfolding length_to
-  line_more b h e = rw (next h, ne_eqb (get_or text i 0) b e)
+onto_longer : (b : ℕ) (lines : List (List ℕ)) → onto_first b lines ≡ longer b lines
+unfolding longer
+onto_longer b [] = refl
+onto_longer b (l ∷ ls) = refl
 
-  pub line_ends : (b : ℕ) → length text ≤ i → length_to b (drop i text) ≡ 0
-  unfolding length_to
-  line_ends b h = rw (drop_of_length-le text h)
+after_feed : (parts lines : List (List ℕ)) → LinesOf parts lines → LinesOf ([] ∷ parts) ([] ∷ lines)
+after_feed parts lines (inl e) = inl (ap (λ (l : List (List ℕ)). [] ∷ l) e)
+after_feed parts lines (inr e) = inr (ap (λ (l : List (List ℕ)). [] ∷ l) e)
 
--- A text with a byte is its first line, and the lines after it.
-abbrev Cut : List ℕ → Type 0
-Cut [] = Unit {0}
-Cut (b ∷ rest) = lines_of (b ∷ rest) ≡ take (length_to 10 (b ∷ rest)) (b ∷ rest) ∷ lines_of (drop (suc (length_to 10 (b ∷ rest))) (b ∷ rest))
+after_other : (b : ℕ) (parts lines : List (List ℕ)) → LinesOf parts lines → LinesOf (onto_first b parts) (longer b lines)
+unfolding longer
+after_other b parts lines (inl e) = inl (ap (onto_first b) e ∙ onto_longer b lines)
+after_other b parts [] (inr e) = inl (ap (onto_first b) e)
+after_other b parts (l ∷ ls) (inr e) = inr (ap (onto_first b) e)
 
-cut_on : (b : ℕ) (rest : List ℕ) (t : Bool) → eqb b 10 ≡ t → Cut rest → Cut (b ∷ rest)
-unfolding lines_of length_to longer
-cut_on b rest true e h = rw e
-cut_on b [] false e h = rw e
-cut_on b (d ∷ rest) false e h = rw (e, h)
+part_on : (b : ℕ) (text : List ℕ) (t : Bool) → eqb b 10 ≡ t → LinesOf (parts_of text) (lines_of text) → LinesOf (parts_of (b ∷ text)) (lines_of (b ∷ text))
+unfolding lines_of
+part_on b text true e h = rw e (after_feed _ _ h)
+part_on b text false e h = rw e (after_other b _ _ h)
 
-cut : (l : List ℕ) → Cut l
-cut [] = tt
-cut (b ∷ rest) = cut_on b rest (eqb b 10) refl (cut rest)
+parts : (text : List ℕ) → LinesOf (parts_of text) (lines_of text)
+unfolding lines_of
+parts [] = inr refl
+parts (b ∷ text) = part_on b text (eqb b 10) refl (parts text)
 
--- Four stores one by one.
-pub four_sets : (l : List ℕ) (at : ℕ) (e : Ext) → set (set (set (set l at e.c0) (at + 1) e.c1) (at + 2) e.c2) (at + 3) e.c3 ≡ sets l at (ext_words e)
-four_sets l at e =
-    let e1 : at + 1 ≡ suc at = omega arith in
-    let e2 : at + 2 ≡ suc (suc at) = omega arith in
-    let e3 : at + 3 ≡ suc (suc (suc at)) = omega arith in
-    rw (e1, e2, e3)
+-- an empty line after the last changes nothing
+read_last : (pairs : Bool) (n put : ℕ) (ws : List ℕ) (lines : List (List ℕ)) → read_lines pairs n put ws (lines ++ [] ∷ []) ≡ read_lines pairs n put ws lines
+unfolding read_lines go_on put_line line_of spaces_at spaces_from
+read_last pairs n put ws [] = refl
+read_last pairs n put ws (l ∷ ls) = λ i. go_on (n + 1) (put_line pairs put ws (line_of l)) (λ put' ws'. read_last pairs (n + 1) put' ws' ls i)
 
-module _ (at : ℕ) (ws ws' : List ℕ) where
-  pub single_full : (e : Ext) → at ≤ length ws → length ws - at < 4 → record { answer = Full; words = ws } ≡ put_single at ws e
-  unfolding put_single
-  single_full e l h = rw (lt-leb (at + 4) (length ws) (omega arith))
+pub parts_read : (pairs : Bool) (ws text : List ℕ) → read_lines pairs 0 0 ws (parts_of text) ≡ list_read pairs text ws
+parts_read pairs ws text = elim (parts text) [ inl e ↦ ap (read_lines pairs 0 0 ws) e | inr e ↦ ap (read_lines pairs 0 0 ws) e ∙ read_last pairs 0 0 ws (lines_of text) ]
 
-  pub single_put : (e : Ext) → at ≤ length ws → 4 ≤ length ws - at → ws' ≡ sets ws at (ext_words e) → record { answer = At (at + 4); words = ws' } ≡ put_single at ws e
-  unfolding put_single
-  single_put e l h s = rw (le-leb (at + 4) (length ws) (omega arith), s)
+-- ---- the turns of the loop
+-- What came of a line, by what is told of it under its number.
+abbrev pub Numbered : ℕ → Result ℕ PlaceError → Result ℕ ListError → Type 0
+Numbered n r s = MatchResult r (λ k. s ≡ Ok k) (λ e. s ≡ Err (error_at n e))
 
-  pub fraction_full : (p q : Ext) → at ≤ length ws → length ws - at < 8 → record { answer = Full; words = ws } ≡ put_fraction at ws p q
-  unfolding put_fraction
-  fraction_full p q l h = rw (lt-leb (at + 8) (length ws) (omega arith))
+pub went_on : (r : Result ℕ PlaceError) (s : Result ℕ ListError) (n : ℕ) → Numbered n r s → (k : ℕ) → s ≡ Ok k → r ≡ Ok k
+went_on (Ok x) s n m k h = cc
+went_on (Err e) s n m k h = cc
 
-  pub fraction_put : (p q : Ext) (ws₁ : List ℕ) → at ≤ length ws → 8 ≤ length ws - at → ws₁ ≡ sets ws at (ext_words p) → ws' ≡ sets ws₁ (at + 4) (ext_words q) → record { answer = At (at + 8); words = ws' } ≡ put_fraction at ws p q
-  unfolding put_fraction
-  fraction_put p q ws₁ l h s t = rw (le-leb (at + 8) (length ws) (omega arith), t, s)
+pub failed : (r : Result ℕ PlaceError) (s : Result ℕ ListError) (i n : ℕ) → i ≡ n → Numbered (i + 1) r s → (d : ListError) → s ≡ Err d → (e : PlaceError) × (r ≡ Err e) × (d ≡ error_at (n + 1) e)
+failed (Ok x) s i n q m d h = cc
+failed (Err e) s i n q m d h = let u : d ≡ error_at (i + 1) e = cc in (e, refl, u ∙ ap (λ k. error_at (k + 1) e) q)
 
--- Each kind of line.
-module _ (pairs : Bool) (at : ℕ) (ws : List ℕ) (line : Line) where
-  pub put_skipped : line ≡ Line.Skipped → record { answer = At at; words = ws } ≡ put_line pairs at ws line
-  unfolding put_line
-  put_skipped e = rw e
+-- an item of the numbered parts is the next of them, under its number
+module _ {S : Type 0} {steps : S → Option (Bor (List ℕ)) → S → Type 0} {s₀ : S} {all : List (List ℕ)} (s : Enumerate S) (items : List (ℕ × Bor (List ℕ))) (t : Enumerate S) (ran : Yields (enumerate_steps steps) s items t)
+    (r : Option (ℕ × Bor (List ℕ))) (u : Enumerate S) (step : enumerate_steps steps t r u) (source : enumerate_source s ≡ s₀) (count : enumerate_count s ≡ 0) (p : YieldsList steps (λ x. x.now) s₀ all) where
+  numbered : YieldsList {B = ℕ × List ℕ} (enumerate_steps steps) (λ x. (x.0, x.1.now)) s (enumerate_from 0 all)
+  numbered = YieldsList-from_enumerate (rw (← source) at p) count
 
-  pub put_malformed : line ≡ Line.Malformed → record { answer = Other; words = ws } ≡ put_line pairs at ws line
-  unfolding put_line
-  put_malformed e = rw e
+  pub line_at : (i : ℕ) (line : Bor (List ℕ)) → r ≡ Some (i, line) → (i ≡ length items) × (length items < length all) × (line.now ≡ get_or all (length items) line.now)
+  line_at i line e =
+      let y = YieldsList-turn numbered items t ran r u (i, line) e step in
+      let h : length items < length all = rw length-enumerate_from at y.0 in
+      let q : (i, line.now) ≡ (0 + length items, get_or all (length items) line.now) = y.1 ∙ get_or-enumerate_from 0 all (length items) (i, line.now) h in
+      (omega (arith, ap (λ x. x.0) q), h, ap (λ x. x.1) q)
 
-  pub no_pair : (x : Ext) → line ≡ Line.Single x → pairs ≡ true → record { answer = Other; words = ws } ≡ put_line pairs at ws line
-  unfolding put_line
-  no_pair x e t = rw (e, t)
+  pub all_read : r ≡ None → length items ≡ length all
+  all_read e = (YieldsList-end numbered items t ran r u e step).1 ∙ length-enumerate_from 0 all
 
-  pub is_one : (x : Ext) (l : Left) → line ≡ Line.Single x → pairs ≡ false → l ≡ put_single at ws x → l ≡ put_line pairs at ws line
-  unfolding put_line
-  is_one x l e t s = rw (e, t) s
+-- what was read so far, and the parts that are left, give the end of the reading
+module _ (pairs : Bool) (n put : ℕ) (ws : List ℕ) (all : List (List ℕ)) (end : Ended) (given : read_lines pairs n put ws (drop n all) ≡ end) where
+  pub lines_end : n ≡ length all → record { answer = Ok put; words = ws } ≡ end
+  unfolding read_lines
+  lines_end e = let h : length all ≤ n = omega arith in rw (← given, drop_of_length-le all h)
 
-  pub is_pair : (p q : Ext) (l : Left) → line ≡ Line.Fraction p q → pairs ≡ true → l ≡ put_fraction at ws p q → l ≡ put_line pairs at ws line
-  unfolding put_line
-  is_pair p q l e t s = rw (e, t) s
+  module _ (line : List ℕ) (h : n < length all) (e : line ≡ get_or all n line) (r : Result ℕ PlaceError) (ws' : List ℕ) (er : ◌≡◌ {A = Left} (record { answer = r; words = ws' }) (put_line pairs put ws (line_of line))) where
+    next : drop n all ≡ line ∷ drop (n + 1) all
+    next = rw (add-one, drop-cons all n line, ← e)
 
-  pub no_one : (p q : Ext) → line ≡ Line.Fraction p q → pairs ≡ false → record { answer = Other; words = ws } ≡ put_line pairs at ws line
-  unfolding put_line
-  no_one p q e t = rw (e, t)
-
--- Where the words go on is within them.
-fits_in : Left → Type 0
-fits_in left = by left.answer left.words where
-  by : Placed → List ℕ → Type 0
-  by (At k) ws = k ≤ length ws
-  by Other ws = Unit {0}
-  by Full ws = Unit {0}
-
-single_fits : (at : ℕ) (ws : List ℕ) (e : Ext) (t : Bool) → leb (at + 4) (length ws) ≡ t → fits_in (put_single at ws e)
-unfolding put_single fits_in
-single_fits at ws e true h = rw h (rw (length-sets ws at (ext_words e)) (leb-true (at + 4) (length ws) h))
-single_fits at ws e false h = rw h tt
-
-fraction_fits : (at : ℕ) (ws : List ℕ) (p q : Ext) (t : Bool) → leb (at + 8) (length ws) ≡ t → fits_in (put_fraction at ws p q)
-unfolding put_fraction fits_in
-fraction_fits at ws p q true h = rw h (rw (length-sets (sets ws at (ext_words p)) (at + 4) (ext_words q), length-sets ws at (ext_words p)) (leb-true (at + 8) (length ws) h))
-fraction_fits at ws p q false h = rw h tt
-
-line_fits : (pairs : Bool) (at : ℕ) (ws : List ℕ) (line : Line) → at ≤ length ws → fits_in (put_line pairs at ws line)
-unfolding put_line fits_in
-line_fits pairs at ws Line.Skipped h = h
-line_fits true at ws (Line.Single e) h = tt
-line_fits false at ws (Line.Single e) h = single_fits at ws e (leb (at + 4) (length ws)) refl
-line_fits true at ws (Line.Fraction p q) h = fraction_fits at ws p q (leb (at + 8) (length ws)) refl
-line_fits false at ws (Line.Fraction p q) h = tt
-line_fits pairs at ws Line.Malformed h = tt
-
-pub put_fits : (pairs : Bool) (at k : ℕ) (ws ws' : List ℕ) (line : Line) (r : Placed) → ◌≡◌ {A = Left} (record { answer = r; words = ws' }) (put_line pairs at ws line) → r ≡ At k → at ≤ length ws → k ≤ length ws'
-unfolding fits_in
-put_fits pairs at k ws ws' line r e d h =
-    let f : fits_in (record { answer = r; words = ws' }) = subst (λ (x : Left). fits_in x) (sym e) (line_fits pairs at ws line h) in
-    subst (λ (x : Placed). fits_in (record { answer = x; words = ws' })) d f
-
--- What begins after one byte more begins there, or at the end.
-pub started : (text : List ℕ) (end start : ℕ) (t : Bool) → leb (length text) end ≡ t → end ≤ length text → start ≡ min (end + 1) (length text) → drop start text ≡ drop (end + 1) text
-started text end start true l h e =
-    let g : length text ≤ end = leb-true (length text) end l in
-    let a : length text ≤ start = omega arith in
-    let b : length text ≤ end + 1 = omega arith in
-    drop_of_length-le text a ∙ sym (drop_of_length-le text b)
-started text end start false l h e =
-    let g : end < length text = leb-false (length text) end l in
-    let a : start ≡ end + 1 = omega arith in
-    rw a
-
-module _ (pairs : Bool) (n put : ℕ) (ws text : List ℕ) (i : ℕ) where
-  pub lines_end : length text ≤ i → record { answer = Ends.Done put; words = ws } ≡ read_lines pairs n put ws (lines_of (drop i text))
-  unfolding read_lines lines_of
-  lines_end h = rw (drop_of_length-le text h)
-
-  module _ (end : ℕ) (h : i < length text) (e : end ≡ i + length_to 10 (drop i text)) where
-    -- what is read from here on is what the line leaves, and the lines after it
-    turn : read_lines pairs n put ws (lines_of (drop i text)) ≡ go_on (n + 1) (put_line pairs put ws (line_of (take (end - i) (drop i text)))) (λ put' ws'. read_lines pairs (n + 1) put' ws' (lines_of (drop (end + 1) text)))
+    turn : (x : Result ℕ PlaceError) → r ≡ x → read_lines pairs n put ws (drop n all) ≡ go_on (n + 1) (record { answer = x; words = ws' }) (λ put' ws'. read_lines pairs (n + 1) put' ws' (drop (n + 1) all))
     unfolding read_lines
-    turn =
-        let l = drop (i + 1) text in
-        let b = get_or text i 0 in
-        let d : drop i text ≡ b ∷ l = next text i h in
-        let k₀ : end - i ≡ length_to 10 (drop i text) = omega arith in
-        let k : end - i ≡ length_to 10 (b ∷ l) = rw d at k₀ in
-        let q : i + suc (length_to 10 (drop i text)) ≡ end + 1 = omega arith in
-        let m₀ : drop (suc (length_to 10 (drop i text))) (drop i text) ≡ drop (end + 1) text = rw (← q) (drop-drop (suc (length_to 10 (drop i text))) i text) in
-        let m : drop (suc (length_to 10 (b ∷ l))) (b ∷ l) ≡ drop (end + 1) text = rw d at m₀ in
-        rw (k, ← m, d, cut (b ∷ l))
+    turn x d = rw (next, ← er, d)
 
-    module _ (line : Line) (r : Placed) (ws' : List ℕ) (el : line ≡ line_of (take (end - i) (drop i text))) (er : ◌≡◌ {A = Left} (record { answer = r; words = ws' }) (put_line pairs put ws line)) where
-      left : (x : Placed) → r ≡ x → put_line pairs put ws (line_of (take (end - i) (drop i text))) ≡ record { answer = x; words = ws' }
-      left x d = ap (put_line pairs put ws) (sym el) ∙ sym er ∙ ap (λ (y : Placed). record { answer = y; words = ws' }) d
+    pub line_on : (k : ℕ) → r ≡ Ok k → read_lines pairs (n + 1) k ws' (drop (n + 1) all) ≡ end
+    unfolding go_on
+    line_on k d = sym (turn (Ok k) d) ∙ given
 
-      pub line_on : (k start : ℕ) → r ≡ At k → end ≤ length text → start ≡ min (end + 1) (length text) → read_lines pairs (n + 1) k ws' (lines_of (drop start text)) ≡ read_lines pairs n put ws (lines_of (drop i text))
-      unfolding go_on
-      line_on k start d l s = sym (rw (turn, left (At k) d, started text end start (leb (length text) end) refl l s))
-
-      pub line_other : r ≡ Other → record { answer = Ends.Malformed (n + 1); words = ws' } ≡ read_lines pairs n put ws (lines_of (drop i text))
-      unfolding go_on
-      line_other d = sym (rw (turn, left Other d))
-
-      pub line_full : r ≡ Full → record { answer = Ends.Full (n + 1); words = ws' } ≡ read_lines pairs n put ws (lines_of (drop i text))
-      unfolding go_on
-      line_full d = sym (rw (turn, left Full d))
+    pub line_ends : (x : PlaceError) → r ≡ Err x → record { answer = Err (error_at (n + 1) x); words = ws' } ≡ end
+    unfolding go_on
+    line_ends x d = sym (turn (Err x) d) ∙ given

@@ -1,6 +1,6 @@
 -- Words and elements at a place of a text.
 -- Assumes nothing.
-use Rattle.std.specs.Prelude.{ℕ, ◌+◌, ◌-◌, ◌*◌, ◌%◌, min, Bool, true, false, cond, ◌&&◌, List, [], ◌∷◌, length, drop, ◌==◌, nat_lt, slice_index}
+use Rattle.std.specs.Prelude.{ℕ, ◌+◌, ◌-◌, ◌*◌, ◌%◌, min, Bool, true, cond, ◌&&◌, List, [], ◌∷◌, length, drop, ◌==◌, nat_lt, slice_index, Option, Some, None, option_and_then}
 use Rattle.field.specs.Base.{P}
 use Rattle.sheet_text.specs.declared.Number.{Number}
 use Rattle.sheet_text.specs.declared.Word.{Word}
@@ -42,33 +42,42 @@ after_byte b text at = cond (nat_lt at (length text)) (cond (slice_index text at
 unfoldable pub signed_word : Bool → ℕ → ℕ
 signed_word minus v = cond minus ((P - v % P) % P) (v % P)
 
+-- what follows a part, if the part is there
+infixl 10 ◌>>=◌
+abbrev pub ◌>>=◌ : {A B : Type 0} → Option A → (A → Option B) → Option B
+o >>= f = option_and_then f o
+
 -- there are digits, and their number is below the prime
-unfoldable pub is_word : ℕ → ℕ → ℕ → Bool
-is_word from at v = cond (nat_lt from at) (nat_lt v P) false
+abbrev pub is_word : ℕ → Number → Bool
+is_word from n = nat_lt from n.at && nat_lt n.value P
 
-abbrev pub word_of : ℕ → ℕ → Number → Word
-word_of at from n = record { value = signed_word (nat_lt at from) n.value; at = n.at; good = is_word from n.at n.value }
+abbrev pub word_of : ℕ → ℕ → Number → Option Word
+word_of at from n = cond (is_word from n) (Some (record { value = signed_word (nat_lt at from) n.value; at = n.at })) None
 
-unfoldable pub word_at : List ℕ → ℕ → Word
+-- a word, if one stands at a place
+unfoldable pub word_at : List ℕ → ℕ → Option Word
 word_at text at = word_of at (after_byte 45 text at) (number_at text (after_byte 45 text at))
 
-abbrev pub after : Word → ℕ → Word → Word
-after w from n = record { value = n.value; at = n.at; good = (w.good && nat_lt w.at from) && n.good }
-
 -- the word after another one and a comma
-unfoldable pub next_word : List ℕ → Word → Word
-next_word text w = after w (after_byte 44 text w.at) (word_at text (after_byte 44 text w.at))
+unfoldable pub next_word : List ℕ → Word → Option Word
+next_word text w = cond (nat_lt w.at (after_byte 44 text w.at)) (word_at text (after_byte 44 text w.at)) None
 
 abbrev pub single : Word → Element
-single a = record { value = record { c0 = a.value; c1 = 0; c2 = 0; c3 = 0 }; at = a.at; good = a.good }
+single a = record { value = record { c0 = a.value; c1 = 0; c2 = 0; c3 = 0 }; at = a.at }
 
 abbrev pub four : Word → Word → Word → Word → Element
-four a b c d = record { value = record { c0 = a.value; c1 = b.value; c2 = c.value; c3 = d.value }; at = d.at; good = d.good }
+four a b c d = record { value = record { c0 = a.value; c1 = b.value; c2 = c.value; c3 = d.value }; at = d.at }
+
+-- a word with the three after it
+unfoldable pub four_from : List ℕ → Word → Option Element
+four_from text a = do
+  b ← next_word text a
+  c ← next_word text b
+  d ← next_word text c
+  Some (four a b c d)
 
 -- one word, or four with commas between them
-unfoldable pub element_at : List ℕ → ℕ → Element
-element_at text at =
-    let a : Word = word_at text at in
-    let b : Word = next_word text a in
-    let c : Word = next_word text b in
-    cond (after_byte 44 text a.at == a.at) (single a) (four a b c (next_word text c))
+unfoldable pub element_at : List ℕ → ℕ → Option Element
+element_at text at = do
+  a ← word_at text at
+  cond (after_byte 44 text a.at == a.at) (Some (single a)) (four_from text a)

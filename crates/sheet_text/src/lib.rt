@@ -10,48 +10,44 @@ pub mod list; // all lines of a text, into words
 use field::Ext;
 
 // A number, and the place after its digits.
+// Stays: three structs and not one with a type parameter, since clauses name a word and an element, and an alias is no name there.
 #[derive(Clone, Copy)]
 pub struct Number {
     pub value: u64,
     pub at: usize,
 }
 
-// A word or an element, the place after it, and whether one stands there at all.
+// A word or an element, and the place after it.
 #[derive(Clone, Copy)]
 pub struct Word {
     pub value: u32,
     pub at: usize,
-    pub good: bool,
 }
 
 #[derive(Clone, Copy)]
 pub struct Element {
     pub value: Ext,
     pub at: usize,
-    pub good: bool,
 }
 
-// What a line says.
+// What a good line says.
 #[derive(Clone, Copy)]
 pub enum Line {
     Skipped,
     Single(Ext),
     Fraction { p: Ext, q: Ext },
-    Malformed,
 }
 
-// What a line does to the words: the place where they go on, or why they do not.
-#[derive(Clone, Copy)]
-pub enum Placed {
-    At(usize),
+// Why a line is not put into the words: it is none of their kind, or it finds no room.
+#[derive(Clone, Copy, Debug, PartialEq, Eq)]
+pub enum PlaceError {
     Other,
     Full,
 }
 
-// What reading a list ends with: the words read; the number of the first line, from 1, that is none of its kind, or that finds no room.
-#[derive(Clone, Copy)]
-pub enum ListAnswer {
-    Done(usize),
+// Why a list is not read: the number, from 1, of the first line that is none of its kind, or that finds no room.
+#[derive(Clone, Copy, Debug, PartialEq, Eq)]
+pub enum ListError {
     Malformed(usize),
     Full(usize),
 }

@@ -1,50 +1,33 @@
 // What a line says.
 ghost use Rattle.std.specs.Prelude.{◌≡◌};
-ghost use Rattle.sheet_text.specs.Lines.{line_of, single_of, fraction_of};
+ghost use Rattle.sheet_text.specs.Lines.{line_of};
 
-use crate::scan::{after, both, element_at, skip_spaces};
-use crate::{Element, Line};
+use crate::Line;
+use crate::scan::{after, element_at, skip_spaces};
 
-fn single(e: Element) -> Line
-    ensures { result ≡ single_of e }
-{
-    if e.good {
-        let v = e.value;
-        return Line::Single(v);
-    }
-    Line::Malformed
-}
-
-// Two elements, where something parts them and nothing follows them.
-fn fraction(p: Element, from: usize, q: Element, whole: bool) -> Line
-    ensures { result ≡ fraction_of p from q whole }
-{
-    if both(both(p.good, p.at < from), both(q.good, whole)) {
-        let a = p.value;
-        let b = q.value;
-        return Line::Fraction { p: a, q: b };
-    }
-    Line::Malformed
-}
-
-// A line without its end.
-pub fn read_line(line: &[u8]) -> Line
+// A line without its end; none where it is neither skipped, an element nor a fraction.
+#[tactic(auto, unfolding(crate::specs::Lines::line_of, crate::specs::Lines::rest_of, crate::specs::Lines::second_of))]
+pub fn read_line(line: &[u8]) -> Option<Line>
     ensures { result ≡ line_of line.now }
 {
     let start = skip_spaces(line, 0);
-    if line.len() <= start {
-        return Line::Skipped;
+    if line.len() <= start || line[start] == b'#' {
+        return Some(Line::Skipped);
     }
-    if line[start] == b'#' {
-        return Line::Skipped;
-    }
-    let p = element_at(line, start);
+    let p = element_at(line, start)?;
     let gap = skip_spaces(line, p.at);
     if line.len() <= gap {
-        return single(p);
+        return Some(Line::Single(p.value));
     }
     let from = skip_spaces(line, after(line, gap, b'/'));
-    let q = element_at(line, from);
+    let q = element_at(line, from)?;
     let end = skip_spaces(line, q.at);
-    fraction(p, from, q, line.len() <= end)
+    if p.at < from && line.len() <= end {
+        Some(Line::Fraction {
+            p: p.value,
+            q: q.value,
+        })
+    } else {
+        None
+    }
 }

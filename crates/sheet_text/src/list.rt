@@ -1,81 +1,78 @@
 // All lines of a text, into words.
-ghost use Rattle.std.specs.Prelude.{◌≡◌, ◌+◌, ◌≤◌, min, length, drop};
+ghost use Rattle.std.specs.Prelude.{◌≡◌, ◌+◌, ◌<◌, ◌≤◌, ◌==◌, min, length, drop, position, IfSome, IfOk, MatchResult};
 ghost use Rattle.std.proofs.lemmas.List.Edits.{sets};
 ghost use Rattle.wire.specs.Words.{ext_words};
-ghost use Rattle.sheet_text.specs.Reading.{length_to, put_single, put_fraction, put_line, list_read, Within};
+ghost use Rattle.sheet_text.specs.Lines.{line_of};
+ghost use Rattle.sheet_text.specs.Reading.{length_to, put_single, put_fraction, put_line, error_at, list_read};
 
 use crate::lines::read_line;
-use crate::{Line, ListAnswer, Placed};
+use crate::{Line, ListError, PlaceError};
 use field::Ext;
+
+// The place of the first byte b.
+fn first(text: &[u8], b: u8) -> Option<usize>
+    ensures place { result ≡ position (λ x. x == b) text.now }
+    ensures within { IfSome result (λ n. n < length text.now) }
+{
+    text.iter().position(|x| *x == b)
+}
 
 // The place of the next byte b from `at` on, or the length.
 pub fn find(text: &[u8], at: usize, b: u8) -> usize
     requires { at ≤ length text.now }
     ensures { (result ≡ at + length_to b (drop at text.now)) × (result ≤ length text.now) }
 {
-    let mut i = at;
-    while i < text.len() {
-        if text[i] == b {
-            return i;
-        }
-        i += 1;
+    // Stays: the length where none follows, as its contract and the definition `length_to` have it; `first` answers whether there is one.
+    match first(&text[at..], b) {
+        Some(n) => at + n,
+        None => text.len(),
     }
-    i
 }
 
 fn put_element(words: &mut [u32], at: usize, e: Ext)
     requires { at + 4 ≤ length words.old }
     ensures { words.new ≡ sets words.old at (ext_words e) }
 {
-    words[at] = e.c0;
-    words[at + 1] = e.c1;
-    words[at + 2] = e.c2;
-    words[at + 3] = e.c3;
+    words[at..at + 4].copy_from_slice(&[e.c0, e.c1, e.c2, e.c3]);
 }
 
-fn put_single(words: &mut [u32], at: usize, e: Ext) -> Placed
+#[tactic(auto, unfolding(crate::specs::Reading::put_single))]
+fn put_single(words: &mut [u32], at: usize, e: Ext) -> Result<usize, PlaceError>
     requires { at ≤ length words.old }
     ensures { record { answer = result; words = words.new } ≡ put_single at words.old e }
 {
     if words.len() - at < 4 {
-        return Placed::Full;
+        return Err(PlaceError::Full);
     }
     put_element(words, at, e);
-    Placed::At(at + 4)
+    Ok(at + 4)
 }
 
-fn put_fraction(words: &mut [u32], at: usize, p: Ext, q: Ext) -> Placed
+// Stays: not two calls of `put_single`, since a fraction that does not fit leaves the words as they are (`Reading.put_fraction`).
+#[tactic(auto, unfolding(crate::specs::Reading::put_fraction))]
+fn put_fraction(words: &mut [u32], at: usize, p: Ext, q: Ext) -> Result<usize, PlaceError>
     requires { at ≤ length words.old }
     ensures { record { answer = result; words = words.new } ≡ put_fraction at words.old p q }
 {
     if words.len() - at < 8 {
-        return Placed::Full;
+        return Err(PlaceError::Full);
     }
     put_element(words, at, p);
     put_element(words, at + 4, q);
-    Placed::At(at + 8)
+    Ok(at + 8)
 }
 
-// A line into the words from a place on: a fraction where pairs are read, an element where they are not.
-fn put_line(words: &mut [u32], at: usize, line: Line, pairs: bool) -> Placed
+// A line into the words from a place on: a fraction where pairs are read, an element where they are not; the place after it.
+#[tactic(auto, unfolding(crate::specs::Reading::put_line))]
+fn put_line(words: &mut [u32], at: usize, line: &[u8], pairs: bool) -> Result<usize, PlaceError>
     requires { at ≤ length words.old }
-    ensures { record { answer = result; words = words.new } ≡ put_line pairs at words.old line }
+    ensures { record { answer = result; words = words.new } ≡ put_line pairs at words.old (line_of line.now) }
 {
-    match line {
-        Line::Skipped => Placed::At(at),
-        Line::Single(e) => {
-            if pairs {
-                return Placed::Other;
-            }
-            put_single(words, at, e)
-        }
-        Line::Fraction { p, q } => {
-            if pairs {
-                return put_fraction(words, at, p, q);
-            }
-            Placed::Other
-        }
-        Line::Malformed => Placed::Other,
+    match read_line(line) {
+        Some(Line::Skipped) => Ok(at),
+        Some(Line::Single(e)) if !pairs => put_single(words, at, e),
+        Some(Line::Fraction { p, q }) if pairs => put_fraction(words, at, p, q),
+        _ => Err(PlaceError::Other),
     }
 }
 
@@ -83,26 +80,27 @@ fn put_line(words: &mut [u32], at: usize, line: Line, pairs: bool) -> Placed
 pub fn beyond(at: usize, length: usize) -> usize
     ensures { result ≡ min (at + 1) «length» }
 {
-    if at < length { at + 1 } else { length }
+    at.saturating_add(1).min(length)
 }
 
-// Every line of a text, fractions or single elements, into the words from the front on.
-pub fn read_list(text: &[u8], words: &mut [u32], pairs: bool) -> ListAnswer
-    ensures words_after { record { answer = result; words = words.new } ≡ list_read pairs text.now words.old }
-    ensures within { Within result words.new }
+// The same of a list: why a line is not put, with its number.
+fn numbered(placed: Result<usize, PlaceError>, line: usize) -> Result<usize, ListError>
+    ensures { MatchResult placed (λ put. result ≡ Ok put) (λ e. result ≡ Err (error_at line e)) }
 {
-    let mut at = 0;
-    let mut line = 0;
+    placed.map_err(|e| match e {
+        PlaceError::Other => ListError::Malformed(line),
+        PlaceError::Full => ListError::Full(line),
+    })
+}
+
+// Every line of a text, fractions or single elements, into the words from the front on: how many words they are.
+pub fn read_list(text: &[u8], words: &mut [u32], pairs: bool) -> Result<usize, ListError>
+    ensures words_after { record { answer = result; words = words.new } ≡ list_read pairs text.now words.old }
+    ensures within { IfOk result (λ count. count ≤ length words.new) }
+{
     let mut put = 0;
-    while at < text.len() {
-        let end = find(text, at, b'\n');
-        line += 1;
-        match put_line(words, put, read_line(&text[at..end]), pairs) {
-            Placed::At(next) => put = next,
-            Placed::Other => return ListAnswer::Malformed(line),
-            Placed::Full => return ListAnswer::Full(line),
-        }
-        at = beyond(end, text.len());
+    for (i, line) in text.split(|b| *b == b'\n').enumerate() {
+        put = numbered(put_line(words, put, line, pairs), i + 1)?;
     }
-    ListAnswer::Done(put)
+    Ok(put)
 }

@@ -14,22 +14,17 @@ fn put_word(args: &mut [u8], at: usize, word: &[u8]) -> usize
     if args.len() - at <= word.len() {
         return at;
     }
-    let n = word.len();
-    for i in 0..n {
-        args[at + i] = word[i];
-    }
-    args[at + n] = 0;
-    at + n + 1
+    let end = at + word.len();
+    args[at..end].copy_from_slice(word);
+    args[end] = 0;
+    end + 1
 }
 
 // Argument i goes to the front of the word; 0 bytes where it is longer.
 fn read_argument(env: &impl Env, i: usize, word: &mut [u8]) -> usize
     ensures { IsPrefixLen result word.new }
 {
-    match env.arg(i, word) {
-        Ok(n) => n,
-        Err(_) => 0,
-    }
+    env.arg(i, word).unwrap_or(0)
 }
 
 fn put_argument(env: &impl Env, args: &mut [u8], at: usize, i: usize) -> usize
@@ -45,10 +40,8 @@ fn put_argument(env: &impl Env, args: &mut [u8], at: usize, i: usize) -> usize
 fn argument_count(env: &impl Env) -> usize {
     let mut word = [0u8; 1];
     for i in 0..usize::MAX {
-        match env.arg(i, &mut word) {
-            Err(FillError::NotPresent) => return i,
-            Err(FillError::TooLong) => {}
-            Ok(_) => {}
+        if matches!(env.arg(i, &mut word), Err(FillError::NotPresent)) {
+            return i;
         }
     }
     usize::MAX

@@ -3,90 +3,99 @@
 
 use agreement::Joint;
 use answers::counting::count_up;
-use answers::{print_accepted, print_number, print_sum};
-use refusal::{Proving, Refusal, Verifying};
-use stored_sheet::SheetAnswer;
-use verifier_round::Verdict;
+use answers::{Accepted, Proved, say};
+use prover::Done;
+use refusal::{Proving, Refusal, Report, Verifying};
+use step::Frac;
+use verifier_round::{Claims, Verdict};
 
 // `refused` and the refusal's number.
-pub fn print_refusal(refusal: Refusal) {
-    print_number(
-        b"refused ",
-        refusal::number_and_fields(refusal).number as u64,
-    );
+pub fn say_refusal(rt: &impl Print, refusal: Refusal) {
+    say(rt, format_args!("refused {}", Report::from(refusal).number));
 }
 
-fn print_verdict(verdict: Verdict, point: &[u32], n: usize) {
+fn say_verdict(rt: &impl Print, verdict: Verdict, point: &[u32], rounds: usize) {
     match verdict {
-        Verdict::Accepted { numer, denom } => print_accepted(numer, denom, point, n),
-        Verdict::Refused(refusal) => print_number(
-            b"verdict ",
-            refusal::number_and_fields(refusal).number as u64,
+        Ok(Claims { numer, denom }) => say(
+            rt,
+            Accepted {
+                stated: Frac { p: numer, q: denom },
+                point,
+                rounds,
+            },
         ),
+        Err(refusal) => say(rt, format_args!("verdict {}", Report::from(refusal).number)),
     }
 }
 
-// Proves and verifies so many rows. The rooms are those of 64 rows: six rounds.
-fn show_rows(rows: &[u32], count: usize, work: &mut [u32]) {
+// Proves the rows and verifies the proof, whose point is left. The rooms are those of 64 rows: six rounds.
+fn prove(rows: &[u32], work: &mut [u32], point_again: &mut [u32; 24]) -> Result<Joint, Refusal> {
+    let modes = Proving {
+        live: false,
+        assert_zero: true,
+        drawn: false,
+        sized: false,
+    };
+    let how = Verifying {
+        live: false,
+        drawn: false,
+        empty: false,
+    };
     let mut challenges = [0u32; 104];
+    count_up(&mut challenges);
     let mut proof = [0u8; 1132];
     let mut point = [0u32; 24];
     let mut log = [0u32; 384];
-    let mut point_again = [0u32; 24];
     let mut log_again = [0u32; 384];
-    count_up(&mut challenges);
-    match agreement::prove_and_verify(
+    agreement::prove_and_verify(
         rows,
-        Proving {
-            live: false,
-            assert_zero: true,
-            drawn: false,
-            sized: false,
-        },
-        Verifying {
-            live: false,
-            drawn: false,
-            empty: false,
-        },
+        modes,
+        how,
         &challenges,
         &mut proof,
         &mut point,
         &mut log,
         work,
-        &mut point_again,
+        point_again,
         &mut log_again,
-    ) {
-        Joint::Proved {
+    )
+}
+
+// What was proved and the verdict on it, or why there is no proof.
+fn show_rows(
+    rt: &impl Print,
+    sheet: &[u8],
+    rows: &mut [u32],
+    work: &mut [u32],
+) -> Result<(), Refusal> {
+    let count = stored_sheet::read_sheet(sheet, rows)?;
+    let mut point = [0u32; 24];
+    let joint = prove(&rows[..8 * count], work, &mut point)?;
+    let Done { rounds, sum } = joint.done;
+    say(
+        rt,
+        Proved {
+            rows: count,
             rounds,
             sum,
-            used,
-            verified,
-        } => {
-            print_number(b"rows ", count as u64);
-            print_number(b"rounds ", rounds as u64);
-            print_sum(sum);
-            let verdict = verified.verdict;
-            print_verdict(verdict, &point_again, rounds);
-        }
-        Joint::Refused(refusal) => print_refusal(refusal),
-    }
+        },
+    );
+    say_verdict(rt, joint.verified.verdict, &point, rounds);
+    Ok(())
 }
 
 // A sheet of at most 64 rows, read into lent words and proved in a lent workspace.
-pub fn show_sheet(sheet: &[u8], rows: &mut [u32], work: &mut [u32]) {
-    match stored_sheet::read_sheet(sheet, rows) {
-        SheetAnswer::Done(count) => {
-            let k = 8 * count;
-            show_rows(&rows[..k], count, work);
-        }
-        SheetAnswer::Refused(refusal) => print_refusal(refusal),
+pub fn show_sheet(rt: &impl Print, sheet: &[u8], rows: &mut [u32], work: &mut [u32]) {
+    if let Err(refusal) = show_rows(rt, sheet, rows, work) {
+        say_refusal(rt, refusal);
     }
 }
 
 // What a reader of at most 2,051 bytes, 64 rows, was given: all of it, or less than that.
-pub fn show_input(sheet: &[u8], more: bool, rows: &mut [u32], work: &mut [u32]) {
+pub fn show_input(rt: &impl Print, sheet: &[u8], more: bool, rows: &mut [u32], work: &mut [u32]) {
     if more {
-        return print_refusal(Refusal::TooManyRows);
+        say_refusal(rt, Refusal::TooManyRows);
+    } else {
+        show_sheet(rt, sheet, rows, work);
     }
-    show_sheet(sheet, rows, work);
 }

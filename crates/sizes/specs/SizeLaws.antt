@@ -1,13 +1,12 @@
 -- Rounds are never more than the limit, 2 ^ n rows take n of them, and no second size fits.
 -- Assumes nothing.
-use Rattle.std.specs.Prelude.{◌≡◌, refl, Bool, true, false, cond, ◌||◌, List, ℕ, zero, suc, ◌+◌, ◌*◌, ◌%◌, ◌/◌, ◌^◌, ◌<◌, ◌≤◌, eqb, leb, length}
+use Rattle.std.specs.Prelude.{◌≡◌, refl, Bool, true, false, cond, ◌||◌, List, ℕ, zero, suc, ◌+◌, ◌*◌, ◌%◌, ◌^◌, ◌<◌, ◌≤◌, eqb, leb, length}
 use Rattle.std.proofs.Common.{sym, ◌∙◌, ap, ⊎_elim, eq-or-lt_of_le, arith, le-leb, eq-eqb, ne_eqb, eqb-true}
 use Rattle.std.proofs.Math.Nat.{pow-succ', one-le-pow, pow-le-pow_right}
 use Rattle.std.proofs.Math.Bridge.{le_by_compare, IsLe}
 use Rattle.std.proofs.lemmas.Bool.{lt-leb}
 use Rattle.gkr.specs.Tests.{pass, fail}
 use Rattle.refusal.specs.Limits.{max_rounds}
-use Rattle.sizes.specs.declared.Size.{Size}
 use Rattle.sizes.specs.Sizes.{row_count, rounds_from, rounds_of, is_size}
 
 -- never more than the limit
@@ -72,7 +71,5 @@ module _ (rows : List ℕ) (n : ℕ) (h : length rows ≡ 8 * 2 ^ n) where
 
 -- NO SECOND SIZE
 
-pub size_unique : (count : ℕ) {r s : Size} → (r.n ≡ rounds_of count) × (r.rows ≡ 2 ^ r.n) × (r.n ≤ max_rounds) → (s.n ≡ rounds_of count) × (s.rows ≡ 2 ^ s.n) × (s.n ≤ max_rounds) → r ≡ s
-size_unique count h k =
-    let e = h.0 ∙ sym k.0 in
-    λ i. record { n = e i; rows = (h.1 ∙ ap (λ (n : ℕ). 2 ^ n) e ∙ sym k.1) i }
+pub size_unique : (count : ℕ) {n m rows more : ℕ} → (n ≡ rounds_of count) × (rows ≡ 2 ^ n) × (n ≤ max_rounds) → (m ≡ rounds_of count) × (more ≡ 2 ^ m) × (m ≤ max_rounds) → (n ≡ m) × (rows ≡ more)
+size_unique count h k = let e = h.0 ∙ sym k.0 in (e, h.1 ∙ ap (λ n. 2 ^ n) e ∙ sym k.1)

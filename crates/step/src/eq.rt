@@ -4,7 +4,7 @@ ghost use Rattle.field.specs.ExtRing.{ExtRing};
 ghost use Rattle.field.specs.Element.{dec, Canon, Is};
 ghost use Rattle.multilinear.specs.Forms as Forms;
 
-use field::Ext;
+use field::{Ext, Field};
 
 // eq·(x·y + (1 - x)·(1 - y)): two products.
 pub fn eq_step(eq: Ext, x: Ext, y: Ext) -> Ext

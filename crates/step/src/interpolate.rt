@@ -5,7 +5,7 @@ ghost use Rattle.field.specs.Element.{dec, Canon, Is};
 ghost use Rattle.multilinear.specs.Interpolate as Interpolate;
 ghost use Rattle.step.specs.Values.{minus};
 
-use field::{Base, Ext};
+use field::{Base, Ext, Field};
 
 // One step of Horner's rule: a·x + b.
 pub fn horner_step(a: Ext, x: Ext, b: Ext) -> Ext

@@ -11,6 +11,7 @@ ghost use Rattle.step.specs.Values.{CanonFrac, IsFrac, dec_frac, CanonEntry, IsE
 
 use field::Ext;
 use field::sums::sum_of_products;
+use std::ops::Add;
 
 pub mod eq; // eq, one coordinate more
 pub mod interpolate; // values at x of the polynomials through given values
@@ -46,13 +47,18 @@ pub struct Doubled {
 }
 
 // The sum of two fractions, not reduced.
-pub fn add_fractions(a: Frac, b: Frac) -> Frac
-    requires { CanonFrac a × CanonFrac b }
-    ensures { IsFrac result (Tree.compute_recursive_relations ExtRing (record { p0 = dec a.p; q0 = dec a.q; p1 = dec b.p; q1 = dec b.q })) }
-{
-    Frac {
-        p: sum_of_products(a.p, b.q, b.p, a.q),
-        q: a.q.times(b.q),
+impl Add for Frac {
+    type Output = Frac;
+
+    ghost can_add = { λ a b. CanonFrac a × CanonFrac b };
+
+    ghost add_gives = { λ a b result. IsFrac result (Tree.compute_recursive_relations ExtRing (record { p0 = dec a.p; q0 = dec a.q; p1 = dec b.p; q1 = dec b.q })) };
+
+    fn add(self, other: Frac) -> Frac {
+        Frac {
+            p: sum_of_products(self.p, other.q, other.p, self.q),
+            q: self.q.times(other.q),
+        }
     }
 }
 
@@ -64,49 +70,32 @@ pub fn line_at(a: Ext, b: Ext, r: Ext) -> Ext
     b.minus(a).times_plus(r, a)
 }
 
-// Sums of numerators and of denominators: two entries of two columns, not a sum of fractions.
-pub fn pair_plus(a: Frac, b: Frac) -> Frac
-    requires { CanonFrac a × CanonFrac b }
-    ensures { IsFrac result (zip_frac E.add (dec_frac a) (dec_frac b)) }
-{
-    Frac {
-        p: a.p.plus(b.p),
-        q: a.q.plus(b.q),
+impl Frac {
+    // An operation on numerators, and the same on denominators: two entries of two columns, not a sum of fractions.
+    pub fn zip<F: Fn(Ext, Ext) -> Ext>(self, other: Frac, f: F) -> Frac
+        requires { F.pre f self.p other.p × F.pre f self.q other.q }
+        ensures { F.post f self.p other.p result.p × F.post f self.q other.q result.q }
+    {
+        Frac {
+            p: f(self.p, other.p),
+            q: f(self.q, other.q),
+        }
     }
 }
 
-// Differences of numerators and of denominators.
-pub fn pair_minus(a: Frac, b: Frac) -> Frac
-    requires { CanonFrac a × CanonFrac b }
-    ensures { IsFrac result (zip_frac minus (dec_frac a) (dec_frac b)) }
-{
-    Frac {
-        p: a.p.minus(b.p),
-        q: a.q.minus(b.q),
-    }
-}
-
-// All five columns added.
-pub fn entry_plus(a: Entry, b: Entry) -> Entry
-    requires { CanonEntry a × CanonEntry b }
-    ensures { IsEntry result (E.add (dec a.e) (dec b.e)) (zip E.add (dec_claims a) (dec_claims b)) }
-{
-    Entry {
-        e: a.e.plus(b.e),
-        l: pair_plus(a.l, b.l),
-        r: pair_plus(a.r, b.r),
-    }
-}
-
-// All five columns subtracted.
-pub fn entry_minus(a: Entry, b: Entry) -> Entry
-    requires { CanonEntry a × CanonEntry b }
-    ensures { IsEntry result (minus (dec a.e) (dec b.e)) (zip minus (dec_claims a) (dec_claims b)) }
-{
-    Entry {
-        e: a.e.minus(b.e),
-        l: pair_minus(a.l, b.l),
-        r: pair_minus(a.r, b.r),
+impl Entry {
+    // An operation on all five columns.
+    fn zip<F: Fn(Ext, Ext) -> Ext + Copy>(self, other: Entry, f: F) -> Entry
+        requires { F.pre f self.e other.e × F.pre f self.l.p other.l.p × F.pre f self.l.q other.l.q × F.pre f self.r.p other.r.p × F.pre f self.r.q other.r.q }
+        ensures e { F.post f self.e other.e result.e }
+        ensures l { F.post f self.l.p other.l.p result.l.p × F.post f self.l.q other.l.q result.l.q }
+        ensures r { F.post f self.r.p other.r.p result.r.p × F.post f self.r.q other.r.q result.r.q }
+    {
+        Entry {
+            e: f(self.e, other.e),
+            l: self.l.zip(other.l, f),
+            r: self.r.zip(other.r, f),
+        }
     }
 }
 
@@ -115,14 +104,10 @@ pub fn weigh_entry(t: Entry, lambda: Ext) -> Entry
     requires { CanonEntry t × Canon lambda }
     ensures { IsEntry result (dec t.e) (weigh (dec lambda) (dec_claims t)) }
 {
-    let e = t.e;
-    let l = t.l;
-    let q = t.r.q;
-    let w = q.times_plus(lambda, t.r.p);
+    let p = t.r.q.times_plus(lambda, t.r.p);
     Entry {
-        e,
-        l,
-        r: Frac { p: w, q },
+        r: Frac { p, ..t.r },
+        ..t
     }
 }
 
@@ -131,9 +116,7 @@ pub fn weighed_summand(t: Entry) -> Ext
     requires { CanonEntry t }
     ensures { Is result (E.mul (dec t.e) (numerator (dec_claims t))) }
 {
-    let a = t.l;
-    let b = t.r;
-    t.e.times(sum_of_products(a.p, b.q, a.q, b.p))
+    t.e.times(sum_of_products(t.l.p, t.r.q, t.l.q, t.r.p))
 }
 
 // eq times numerator and denominator of the parent, batched by lambda: four products.
@@ -151,9 +134,9 @@ pub fn weighed_summands(t0: Entry, t1: Entry) -> Three
         (weighed_at two (dec t0.e) (dec t1.e) (dec_claims t0) (dec_claims t1))
         (weighed_at three (dec t0.e) (dec t1.e) (dec_claims t0) (dec_claims t1)) }
 {
-    let d = entry_minus(t1, t0);
-    let t2 = entry_plus(t1, d);
-    let t3 = entry_plus(t2, d);
+    let d = t1.zip(t0, Ext::minus);
+    let t2 = t1.zip(d, Ext::plus);
+    let t3 = t2.zip(d, Ext::plus);
     Three {
         s1: weighed_summand(t1),
         s2: weighed_summand(t2),
@@ -172,14 +155,19 @@ pub fn summands(t0: Entry, t1: Entry, lambda: Ext) -> Three
 }
 
 // The values at 1, 2 and 3 added.
-pub fn three_plus(a: Three, b: Three) -> Three
-    requires { CanonThree a × CanonThree b }
-    ensures { IsThree result (E.add (dec a.s1) (dec b.s1)) (E.add (dec a.s2) (dec b.s2)) (E.add (dec a.s3) (dec b.s3)) }
-{
-    Three {
-        s1: a.s1.plus(b.s1),
-        s2: a.s2.plus(b.s2),
-        s3: a.s3.plus(b.s3),
+impl Add for Three {
+    type Output = Three;
+
+    ghost can_add = { λ a b. CanonThree a × CanonThree b };
+
+    ghost add_gives = { λ a b result. IsThree result (E.add (dec a.s1) (dec b.s1)) (E.add (dec a.s2) (dec b.s2)) (E.add (dec a.s3) (dec b.s3)) };
+
+    fn add(self, other: Three) -> Three {
+        Three {
+            s1: self.s1.plus(other.s1),
+            s2: self.s2.plus(other.s2),
+            s3: self.s3.plus(other.s3),
+        }
     }
 }
 

@@ -1,11 +1,11 @@
 -- A proof of elements is got back from its words, and canonical words are got back from their elements; where a root is over zero.
 -- Assumes nothing.
 use Rattle.std.specs.Prelude.{◌≡◌, refl, true, false, ◌&&◌, List, [], ◌∷◌, ◌++◌, map, ℕ, ◌<◌, ◌≤◌, leb, length}
-use Rattle.std.proofs.Common.{sym, ◌∙◌, ap, ap₂, le-leb}
+use Rattle.std.proofs.Common.{◌∙◌, ap, ap₂, le-leb}
 use Rattle.std.proofs.Math.Bool.{and-eq-true_iff}
 use Rattle.std.proofs.lemmas.Bool.{lt-leb}
 use Rattle.field.specs.Ext as E
-use Rattle.field.specs.Element.{dec, enc, Canon}
+use Rattle.field.specs.Element.{dec, enc}
 use Rattle.field.specs.ElementLaws.{dec_enc, enc_dec, canon_enc}
 use Rattle.field.specs.ExtRing.{same_true}
 use Rattle.field.specs.declared.Ext.{Ext}
@@ -14,7 +14,6 @@ use Rattle.gkr.specs.Run.{Cubic, Proof}
 use Rattle.wire.specs.Words.{all_canonical, ext_words}
 use Rattle.wire.specs.WordLaws.{elem_canonical, canonical_append}
 use Rattle.stored.specs.Layout.{claim_words, cubic_words, claims_words, cubics_words, polys_words, proof_words}
-use Rattle.stored.specs.ReadWords.{CanonClaims, CanonCubic}
 use Rattle.stored.proofs.ReadWords.{claims_head, claims_tail, cubics_head, cubics_tail, polys_head, polys_tail, proof_q0, proof_claims, proof_polys}
 use Rattle.stored.specs.Parse.{proof_of}
 use Rattle.stored.specs.Elements.{map_claims, map_cubic, encoded, decoded, over_zero}

@@ -4,7 +4,7 @@ use Rattle.std.specs.Prelude.{◌≡◌, Bool, true, false, cond, ◌||◌, eqb,
 use Rattle.std.proofs.Math.Path.{refl, sym, ap, ap₂}
 use Rattle.std.proofs.Common.{◌∙◌, add-one, take-append-drop, drop_of_length-le, drop-cons, drop-drop, get_or-drop, drop_at}
 use mathlib.Core.List.{List, [], ◌∷◌, ◌++◌}
-use Prim.Native.Nat.{ℕ, zero, suc, ◌+◌, ◌*◌, ◌-◌, ◌<◌, ◌≤◌}
+use Prim.Native.Nat.{ℕ, zero, suc, ◌+◌, ◌*◌, ◌<◌, ◌≤◌}
 use native.Mathlib.Omega.{arith}
 use borrow.Author.Tests.{eqb-true, le-leb}
 use Rattle.std.proofs.Math.ListN.{length, get_or, drop, length-append, length-drop}
@@ -14,10 +14,10 @@ use Rattle.multilinear.specs.RoundSum.{Claims}
 use Rattle.gkr.specs.Run.{Cubic, Proof}
 use Rattle.wire.specs.Bytes.{be4, word, words_from, elem, bytes_of, Bytes}
 use Rattle.wire.specs.Words.{ext_words}
-use Rattle.wire.proofs.ByteLaws.{bytes_drop, bytes_back, bytes_length, word_back, elem_words}
+use Rattle.wire.proofs.ByteLaws.{bytes_drop, bytes_back, word_back, elem_words}
 use Rattle.stored.specs.Layout.{claim_words, cubic_words, claims_words, cubics_words, entries_bytes, body, version_of, layout}
 use Rattle.stored.specs.Parse.{claims_of, cubic_of, claims_from, cubics_from, entry_size, entries_from, entries_fit, known, sized, count_of_layers, count_of_entries, polys_at, proof_of, parsed, parse}
-use Rattle.stored.specs.ParseLaws.{cubics_count, claims_count, entries_count, entries_step, entry_fits, known_version, Reads, reads_parse, Answered, parse_reads}
+use Rattle.stored.specs.ParseLaws.{cubics_count, claims_count, entries_count, entries_step, entry_fits, known_version, Reads, reads_parse, parse_reads}
 use Rattle.stored.proofs.ReadWords.{cubics_words_is, claims_words_is}
 
 -- BYTES, READ, AND WRITTEN AGAIN

@@ -1,125 +1,145 @@
 -- The search for a bad word through the polynomial entries, and through the whole proof.
 -- Assumes nothing.
-use mathlib.Core.Path.{◌≡◌, refl, sym, ◌∙◌, ap, ap₂, subst}
+use mathlib.Core.Path.{◌≡◌, sym, ◌∙◌, ap, ap₂, subst}
 use mathlib.Core.Bool.{true}
-use mathlib.Core.List.{List, [], ◌∷◌, ◌++◌, append_assoc}
-use Prim.Native.Nat.{ℕ, zero, suc, ◌+◌, ◌*◌, ◌-◌, ◌/◌, ◌<◌, ◌≤◌}
+use mathlib.Core.List.{List, ◌++◌, append_assoc}
+use Prim.Native.Nat.{ℕ, suc, ◌+◌, ◌*◌, ◌-◌, ◌/◌, ◌<◌, ◌≤◌}
 use native.Mathlib.Omega.{arith}
-use lib.ListN.{length, get_or, drop}
+use lib.ListN.{length, length-append, get_or, drop}
 use lib.Seq.{drop-drop}
-use Rattle.field.specs.declared.Ext.{Ext}
-use Rattle.wire.specs.Bytes.{words_from, elem}
-use Rattle.wire.specs.Words.{first_bad, ext_words}
+use Rattle.std.specs.Prelude.{Some, None}
+use Rattle.wire.specs.Bytes.{words_from}
+use Rattle.wire.specs.Words.{first_bad, bad_place}
+use Rattle.wire.specs.WordLaws.{bad_past}
+use Rattle.wire.specs.PlaceLaws.{place_at, place_past, past_place, at_place, place_here, place_later, place_nowhere}
 use Rattle.wire.proofs.ByteLaws.{elem_words, words_add, words_length}
-use Rattle.wire.specs.WordLaws.{bad_le, bad_here, bad_past}
 use Rattle.stored.specs.declared.Outline.{Outline}
-use Rattle.stored.specs.Layout.{claims_words, polys_words, proof_words}
-use Rattle.stored.specs.Parse.{claims_from, entries_from, entries_fit, count_of_layers, count_of_entries, polys_at, proof_of}
-use Rattle.stored.specs.ParseLaws.{entry_fits, Reads, Shaped}
+use Rattle.stored.specs.Layout.{polys_words, proof_words}
+use Rattle.stored.specs.Parse.{entries_from, entries_fit, count_of_layers, proof_of}
+use Rattle.stored.specs.ParseLaws.{Entry, entry_fits, Shaped}
 use Rattle.stored.proofs.ReadWords.{claims_words_is, entries_words, proof_size}
 
--- THE ENTRIES: `place` words are passed, and what is left of the search is at `at`
+-- THE ENTRIES: `passed` words are canonical, and what is left of the search is at `at`
 module _ (bs W : List ℕ) (n : ℕ) where
+  -- the words of the entries from entry k on
+  abbrev pub words_left : (at k : ℕ) → List ℕ
+  words_left at k = polys_words (entries_from (n - k) (drop at bs))
+
   -- before entry k
-  pub record Outer (place at k : ℕ) : Type 0 where
+  pub record Passed (passed at k : ℕ) : Type 0 where
     pub upto : k ≤ n
     pub within : at ≤ length bs
-    pub small : 4 * place ≤ at
+    pub small : 4 * passed ≤ at
     pub fit : entries_fit (n - k) (drop at bs) ≡ true
-    pub left : first_bad W ≡ place + first_bad (polys_words (entries_from (n - k) (drop at bs)))
+    pub left : first_bad W ≡ passed + first_bad (words_left at k)
+    pub long : length W ≡ passed + length (words_left at k)
+
+  pub start : (from : ℕ) → W ≡ polys_words (entries_from n (drop from bs)) → from ≤ length bs → entries_fit n (drop from bs) ≡ true → Passed 0 from 0
+  start from w l h =
+      let e : n - 0 ≡ n = omega arith in
+      record { upto = omega arith; within = l; small = omega arith; fit = rw e h; left = ap first_bad w ∙ rw e (omega arith); long = ap length w ∙ rw e (omega arith) }
 
   -- in entry k, with q sub-rounds of it left
-  pub record Inner (place at k q : ℕ) : Type 0 where
+  abbrev pub words_ahead : (at k q : ℕ) → List ℕ
+  words_ahead at k q = words_from (12 * q) (drop at bs) ++ words_left (at + 48 * q) (k + 1)
+
+  pub record Inner (passed at k q : ℕ) : Type 0 where
     pub more : k < n
     pub within : at + 48 * q ≤ length bs
-    pub small : 4 * place ≤ at
+    pub small : 4 * passed ≤ at
     pub fit : entries_fit (n - (k + 1)) (drop (at + 48 * q) bs) ≡ true
-    pub left : first_bad W ≡ place + first_bad (words_from (12 * q) (drop at bs) ++ polys_words (entries_from (n - (k + 1)) (drop (at + 48 * q) bs)))
+    pub left : first_bad W ≡ passed + first_bad (words_ahead at k q)
+    pub long : length W ≡ passed + length (words_ahead at k q)
 
-  pub outer_start : (from : ℕ) → W ≡ polys_words (entries_from n (drop from bs)) → from ≤ length bs → entries_fit n (drop from bs) ≡ true → Outer 0 from 0
-  outer_start from w l h =
-      let e : n - 0 ≡ n = omega arith in
-      record { upto = omega arith; within = l; small = omega arith; fit = rw e h; left = ap first_bad w ∙ rw e (omega arith) }
-
-  module _ (place at k : ℕ) (o : Outer place at k) (h : k < n) where
+  module _ (passed at k : ℕ) (o : Passed passed at k) (h : k < n) where
     left_one : n - k ≡ suc (n - (k + 1))
     left_one = omega arith
 
-    pub enter : (c : ℕ) → c ≡ get_or bs at 0 → Inner place (at + 1) k c
-    enter c d =
-        let s = entry_fits (n - (k + 1)) at bs o.within (rw left_one at o.fit) in
-        record {
-          more = h;
-          within = omega (arith, s.room, d);
-          small = omega (arith, o.small);
-          fit = rw d s.fit;
-          left = o.left ∙ rw (left_one, d) (ap (λ l. place + first_bad l) (entries_words (n - (k + 1)) at bs));
-        }
+    entry : Entry (n - (k + 1)) at bs
+    entry = entry_fits (n - (k + 1)) at bs o.within (rw left_one at o.fit)
 
     pub here : at < length bs
-    here = let s = entry_fits (n - (k + 1)) at bs o.within (rw left_one at o.fit) in omega (arith, s.room)
+    here = omega (arith, entry.room)
 
-  module _ (place at k q : ℕ) (i : Inner place at k (suc q)) (b : ℕ) (e : b ≡ first_bad (words_from 12 (drop at bs))) where
-    ahead : List ℕ
-    ahead = words_from (12 * q) (drop (at + 48) bs) ++ polys_words (entries_from (n - (k + 1)) (drop (at + 48 * suc q) bs))
+    pub enter : (c : ℕ) → c ≡ get_or bs at 0 → Inner passed (at + 1) k c
+    enter c d =
+        let e : words_left at k ≡ words_ahead (at + 1) k c = ap (λ m. polys_words (entries_from m (drop at bs))) left_one ∙ entries_words (n - (k + 1)) at bs ∙ ap (λ m. words_ahead (at + 1) k m) (sym d) in
+        record {
+          more = h;
+          within = omega (arith, entry.room, d);
+          small = omega (arith, o.small);
+          fit = rw d entry.fit;
+          left = o.left ∙ ap (λ l. passed + first_bad l) e;
+          long = o.long ∙ ap (λ l. passed + length l) e;
+        }
 
-    opened : first_bad W ≡ place + first_bad (words_from 12 (drop at bs) ++ ahead)
-    unfolding ahead
+  module _ (passed at k q : ℕ) (i : Inner passed at k (suc q)) where
+    abbrev now : List ℕ
+    now = words_from 12 (drop at bs)
+
+    abbrev then : List ℕ
+    then = words_from (12 * q) (drop (at + 48) bs) ++ words_left (at + 48 * suc q) (k + 1)
+
+    opened : words_ahead at k (suc q) ≡ now ++ then
     opened =
         let f : 12 * suc q ≡ 12 + 12 * q = omega arith in
-        let a : words_from (12 * suc q) (drop at bs) ≡ words_from 12 (drop at bs) ++ words_from (12 * q) (drop (at + 48) bs) =
-        ap (λ m. words_from m (drop at bs)) f ∙ words_add 12 (12 * q) (drop at bs) ∙ ap (λ l. words_from 12 (drop at bs) ++ words_from (12 * q) l) (drop-drop 48 at bs) in
-        let R = polys_words (entries_from (n - (k + 1)) (drop (at + 48 * suc q) bs)) in
-        i.left
-        ∙ ap (λ l. place + first_bad (l ++ R)) a
-        ∙ ap (λ l. place + first_bad l) (append_assoc (words_from 12 (drop at bs)) (words_from (12 * q) (drop (at + 48) bs)) R)
+        let a : words_from (12 * suc q) (drop at bs) ≡ now ++ words_from (12 * q) (drop (at + 48) bs) =
+        ap (λ m. words_from m (drop at bs)) f ∙ words_add 12 (12 * q) (drop at bs) ∙ ap (λ l. now ++ words_from (12 * q) l) (drop-drop 48 at bs) in
+        ap (λ l. l ++ words_left (at + 48 * suc q) (k + 1)) a ∙ append_assoc now (words_from (12 * q) (drop (at + 48) bs)) (words_left (at + 48 * suc q) (k + 1))
 
-    pub go : 12 ≤ b → Inner (place + b) (at + 48) k q
-    unfolding ahead
-    go h =
+    go : None ≡ bad_place now → Inner (passed + 12) (at + 48) k q
+    go e =
         let l = words_length 12 (drop at bs) in
-        let m = bad_le (words_from 12 (drop at bs)) in
-        let p = bad_past (words_from 12 (drop at bs)) ahead (omega (arith, l, e)) in
+        let p = bad_past now then (past_place now e) in
+        let f = ap first_bad opened in
+        let g = ap length opened ∙ length-append now then in
         let z : at + 48 * suc q ≡ at + 48 + 48 * q = omega arith in
-        let t : first_bad W ≡ place + b + first_bad ahead = omega (arith, opened, p, e, l, m) in
-        record { more = i.more; within = omega (arith, i.within); small = omega (arith, i.small, e, l, m); fit = rw z at i.fit; left = rw z at t }
+        let t : first_bad W ≡ passed + 12 + first_bad then = omega (arith, i.left, f, p, l) in
+        let u : length W ≡ passed + 12 + length then = omega (arith, i.long, g, l) in
+        record { more = i.more; within = omega (arith, i.within); small = omega (arith, i.small); fit = rw z at i.fit; left = rw z at t; long = rw z at u }
 
-    pub stop : b < 12 → first_bad W ≡ place + b
-    stop h = let l = words_length 12 (drop at bs) in let p = bad_here (words_from 12 (drop at bs)) ahead (omega (arith, l, e)) in omega (arith, opened, p, e)
+    stop : (b : ℕ) → Some b ≡ bad_place now → Some (passed + b) ≡ bad_place W
+    stop b e =
+        let t = at_place (words_ahead at k (suc q)) b (place_here now then b e ∙ ap bad_place (sym opened)) in
+        let g : passed + b ≡ first_bad W = omega (arith, i.left, t.0) in
+        ap Some g ∙ sym (place_at W (omega (arith, i.long, t.0, t.1)))
 
-    pub stop_small : b < 12 → 4 * (place + b) ≤ length bs
-    stop_small h = omega (arith, i.within, i.small)
+    stop_small : (b : ℕ) → Some b ≡ bad_place now → passed + b ≤ length bs
+    stop_small b e = let t = at_place now b e in omega (arith, t.0, t.1, words_length 12 (drop at bs), i.small, i.within)
 
   -- the same where j of c sub-rounds are passed
-  module _ (place at k c j : ℕ) (h : j < c) (i : Inner place at k (c - j)) (b : ℕ) (e : b ≡ first_bad (words_from 12 (drop at bs))) where
-    inner : Inner place at k (suc (c - (j + 1)))
-    inner = let z : c - j ≡ suc (c - (j + 1)) = omega arith in subst (Inner place at k) z i
+  module _ (passed at k c j : ℕ) (h : j < c) (i : Inner passed at k (c - j)) where
+    inner : Inner passed at k (suc (c - (j + 1)))
+    inner = let z : c - j ≡ suc (c - (j + 1)) = omega arith in subst (Inner passed at k) z i
 
-    pub turn : 12 ≤ b → Inner (place + b) (at + 48) k (c - (j + 1))
-    turn l = go place at k (c - (j + 1)) inner b e l
+    pub room : at + 48 ≤ length bs
+    room = omega (arith, inner.within)
 
-    pub hit : b < 12 → (place + b ≡ first_bad W) × (4 * (place + b) ≤ length bs)
-    hit l = (sym (stop place at k (c - (j + 1)) inner b e l), stop_small place at k (c - (j + 1)) inner b e l)
+    pub turn : None ≡ bad_place (words_from 12 (drop at bs)) → Inner (passed + 12) (at + 48) k (c - (j + 1))
+    turn e = go passed at k (c - (j + 1)) inner e
 
-    pub at_most : place + b ≤ length bs
-    at_most = omega (arith, e, bad_le (words_from 12 (drop at bs)), words_length 12 (drop at bs), i.within, i.small)
+    pub hit : (b : ℕ) → Some b ≡ bad_place (words_from 12 (drop at bs)) → Some (passed + b) ≡ bad_place W
+    hit b e = stop passed at k (c - (j + 1)) inner b e
 
-  pub leave : (place at k q : ℕ) → q ≡ 0 → Inner place at k q → Outer place at (k + 1)
+    pub hit_small : (b : ℕ) → Some b ≡ bad_place (words_from 12 (drop at bs)) → passed + b ≤ length bs
+    hit_small b e = stop_small passed at k (c - (j + 1)) inner b e
+
+  pub leave : (passed at k q : ℕ) → q ≡ 0 → Inner passed at k q → Passed passed at (k + 1)
   unfolding words_from
-  leave place at k q e i₀ =
-      let i = subst (Inner place at k) e i₀ in
+  leave passed at k q e i₀ =
+      let i = subst (Inner passed at k) e i₀ in
       let z : at + 48 * 0 ≡ at = omega arith in
-      record { upto = omega (arith, i.more); within = omega (arith, i.within); small = i.small; fit = rw z at i.fit; left = rw z at i.left }
+      record { upto = omega (arith, i.more); within = omega (arith, i.within); small = i.small; fit = rw z at i.fit; left = rw z at i.left; long = rw z at i.long }
 
-  pub finish : (place at k : ℕ) → Outer place at k → n ≤ k → first_bad W ≡ place
+  pub finish : (passed at k : ℕ) → Passed passed at k → n ≤ k → None ≡ bad_place W
   unfolding entries_from polys_words first_bad
-  finish place at k o h = let z : n - k ≡ 0 = omega arith in let t = rw z at o.left in omega (arith, t)
+  finish passed at k i h =
+      let z : n - k ≡ 0 = omega arith in
+      let t = rw z at i.left in
+      let l = rw z at i.long in
+      sym (place_past W (omega (arith, t, l)))
 
 -- THE WHOLE PROOF
-pub entries_room : (bs : List ℕ) (o : Outline) → Shaped bs o → (o.polys ≤ length bs) × (entries_fit o.entries (drop o.polys bs) ≡ true)
-entries_room bs o s =
-    (omega (arith, s.polys, s.reads.room), ap₂ (λ (n m : ℕ). entries_fit n (drop m bs)) s.entries s.polys ∙ s.reads.fit)
-
 pub size_most : (bs : List ℕ) (o : Outline) → Shaped bs o → 7 + o.entries ≤ length bs
 size_most bs o s = omega (arith, proof_size bs s.reads, s.entries)
 
@@ -137,27 +157,46 @@ module _ (bs : List ℕ) (o : Outline) (s : Shaped bs o) where
       let r : polys_words (proof_of bs).polys ≡ R = ap₂ (λ (n m : ℕ). polys_words (entries_from n (drop m bs))) (sym s.entries) (sym s.polys) in
       ap₂ ◌++◌ (elem_words (drop 5 bs)) (ap₂ ◌++◌ c r)
 
-  module _ (a : ℕ) (p : a ≡ first_bad (words_from 4 (drop 5 bs))) where
-    pub bad_root : a < 4 → a ≡ first_bad (proof_words (proof_of bs))
-    bad_root h = p ∙ sym (ap first_bad whole ∙ bad_here (words_from 4 (drop 5 bs)) (C ++ R) (omega (arith, words_length 4 (drop 5 bs), p)))
+  -- found in the root, in the claims, in the entries, or nowhere
+  pub bad_root : (a : ℕ) → Some a ≡ bad_place (words_from 4 (drop 5 bs)) → Some a ≡ bad_place (proof_words (proof_of bs))
+  bad_root a p = place_here (words_from 4 (drop 5 bs)) (C ++ R) a p ∙ ap bad_place (sym whole)
 
-    past_root : 4 ≤ a → first_bad (proof_words (proof_of bs)) ≡ 4 + first_bad (C ++ R)
-    past_root h =
-        let l = words_length 4 (drop 5 bs) in
-        let b = bad_past (words_from 4 (drop 5 bs)) (C ++ R) (omega (arith, l, p)) in
-        let w = ap first_bad whole in
-        omega (arith, w, b, l)
+  module _ (p : None ≡ bad_place (words_from 4 (drop 5 bs))) where
+    pub bad_claim : (a : ℕ) → Some a ≡ bad_place (words_from (16 * o.layers) (drop 22 bs)) → Some (4 + a) ≡ bad_place (proof_words (proof_of bs))
+    unfolding C
+    bad_claim a q =
+        ap (λ n. Some (n + a)) (sym (words_length 4 (drop 5 bs)))
+        ∙ place_later (words_from 4 (drop 5 bs)) (C ++ R) a p (place_here C R a q)
+        ∙ ap bad_place (sym whole)
 
-    module _ (h : 4 ≤ a) (b : ℕ) (q : b ≡ first_bad (words_from (16 * o.layers) (drop 22 bs))) where
-      pub bad_claim : b < 16 * o.layers → 4 + b ≡ first_bad (proof_words (proof_of bs))
-      unfolding C
-      bad_claim k = omega (arith, past_root h, bad_here C R (omega (arith, words_length (16 * o.layers) (drop 22 bs), q)), q)
-
-      pub bad_entry : 16 * o.layers ≤ b → (c : ℕ) → c ≡ first_bad (polys_words (entries_from o.entries (drop o.polys bs))) → 4 + 16 * o.layers + c ≡ first_bad (proof_words (proof_of bs))
+    module _ (q : None ≡ bad_place (words_from (16 * o.layers) (drop 22 bs))) where
+      pub bad_entry : (a : ℕ) → Some a ≡ bad_place (polys_words (entries_from o.entries (drop o.polys bs))) → Some (4 + 16 * o.layers + a) ≡ bad_place (proof_words (proof_of bs))
       unfolding C R
-      bad_entry k c r =
-          let l = words_length (16 * o.layers) (drop 22 bs) in
-          omega (arith, past_root h, bad_past C R (omega (arith, l, q)), l, r)
+      bad_entry a r =
+          let l = words_length 4 (drop 5 bs) in
+          let m = words_length (16 * o.layers) (drop 22 bs) in
+          let e : 4 + 16 * o.layers + a ≡ length (words_from 4 (drop 5 bs)) + (length C + a) = omega (arith, l, m) in
+          ap Some e
+          ∙ place_later (words_from 4 (drop 5 bs)) (C ++ R) (length C + a) p (place_later C R a q r)
+          ∙ ap bad_place (sym whole)
+
+      pub none_bad : None ≡ bad_place (polys_words (entries_from o.entries (drop o.polys bs))) → None ≡ bad_place (proof_words (proof_of bs))
+      unfolding C R
+      none_bad r = place_nowhere (words_from 4 (drop 5 bs)) (C ++ R) p (place_nowhere C R q r) ∙ ap bad_place (sym whole)
+
+  -- the words there are few, so that a place among them is
+  pub claim_small : (a : ℕ) → Some a ≡ bad_place (words_from (16 * o.layers) (drop 22 bs)) → 4 + a ≤ length bs
+  claim_small a q =
+      let t = at_place (words_from (16 * o.layers) (drop 22 bs)) a q in
+      omega (arith, t.0, t.1, words_length (16 * o.layers) (drop 22 bs), s.reads.room, s.layers)
+
+  pub entry_small : (a : ℕ) → Some a ≡ bad_place (polys_words (entries_from o.entries (drop o.polys bs))) → 4 + 16 * o.layers + a ≤ length bs
+  unfolding C R
+  entry_small a r =
+      let t = at_place (polys_words (entries_from o.entries (drop o.polys bs))) a r in
+      let w = ap length whole ∙ length-append (words_from 4 (drop 5 bs)) (C ++ R) in
+      let x = length-append C R in
+      omega (arith, t.0, t.1, w, x, words_length 4 (drop 5 bs), words_length (16 * o.layers) (drop 22 bs), proof_size bs s.reads)
 
 -- how many words there are
 pub word_total : (bs : List ℕ) (o : Outline) → Shaped bs o → (length bs - 7 - o.entries) / 4 ≡ length (proof_words (proof_of bs))

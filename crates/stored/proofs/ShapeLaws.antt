@@ -1,25 +1,25 @@
 -- The answers of the shape reader, and the turns of its loop over entries.
 -- Assumes nothing.
-use mathlib.Core.Path.{◌≡◌, refl, sym, ◌∙◌, ap, ap₂}
+use mathlib.Core.Path.{◌≡◌, refl, sym, ◌∙◌, ap, ap₂, subst}
 use mathlib.Core.Bool.{Bool, true, false, cond}
-use mathlib.Core.List.{List, [], ◌∷◌}
-use Prim.Native.Nat.{ℕ, zero, suc, ◌+◌, ◌*◌, ◌-◌, ◌<◌, ◌≤◌}
+use mathlib.Core.List.{List, ◌∷◌}
+use Prim.Native.Nat.{ℕ, suc, ◌+◌, ◌*◌, ◌-◌, ◌<◌, ◌≤◌}
 use native.Mathlib.Omega.{arith}
-use borrow.Author.Tests.{eq-eqb, ne_eqb, lt-leb, le-leb, eqb-true, eqb-false}
+use Rattle.std.proofs.lemmas.List.{take_all}
+use Rattle.std.proofs.Math.Numerals.{one-add}
+use Rattle.std.specs.Prelude.{Ok, Err}
+use borrow.Author.Tests.{ne_eqb, lt-leb, le-leb}
 use lib.Dec.{eqb, leb}
-use lib.ListN.{length, get_or, drop, length-drop, get_or-eq_default}
-use lib.Seq.{drop-drop, get_or-drop}
+use lib.ListN.{length, get_or, take, drop, length-drop}
+use lib.Seq.{drop-drop}
 use Rattle.field.specs.declared.Ext.{Ext}
 use Rattle.multilinear.specs.RoundSum.{Claims}
-use Rattle.gkr.specs.Run.{Cubic, Proof}
+use Rattle.gkr.specs.Run.{Cubic}
 use Rattle.wire.specs.Bytes.{word, elem}
 use Rattle.refusal.specs.declared.Refusal.TheVariants.{BadVersion, BadLength}
-use Rattle.stored.specs.declared.Outline.{Outline}
-use Rattle.stored.specs.declared.Shape.{Shape}
-use Rattle.stored.specs.declared.Shape.TheVariants.{Good, Refused}
-use Rattle.stored.specs.Shapes.{shape_of, outline_of}
-use Rattle.stored.specs.Parse.{claims_of, cubic_of, entry_size, entries_fit, known, sized, count_of_layers, count_of_entries, polys_at, fits, proof_of, parsed, parse}
-use Rattle.stored.specs.ParseLaws.{claims_count, entries_count, Reads, reads_parse, front_byte, entry_past}
+use Rattle.stored.specs.Shapes.{shape_of}
+use Rattle.stored.specs.Parse.{claims_of, cubic_of, entry_size, entries_fit, known, count_of_layers, count_of_entries, polys_at, fits, parse}
+use Rattle.stored.specs.ParseLaws.{claims_count, entries_count, reads_parse}
 
 cond_false : (a : Bool) → cond a false false ≡ false
 cond_false true = refl
@@ -29,94 +29,63 @@ cond_twice : (a b : Bool) → cond a (cond b false false) false ≡ false
 cond_twice true b = cond_false b
 cond_twice false b = refl
 
--- two tests that hold together are one
-same_test : (a b c d : ℕ) → (a ≡ b → c ≡ d) → (c ≡ d → a ≡ b) → eqb a b ≡ eqb c d
-same_test a b c d f g = by (eqb a b) refl
-  where
-    by : (t : Bool) → eqb a b ≡ t → t ≡ eqb c d
-    by true e = sym (eq-eqb c d (f (eqb-true a b e)))
-    by false e = sym (ne_eqb c d (λ q. eqb-false a b e (g q)))
-
--- THE VERSION
-module _ (bs : List ℕ) where
-  first_none : length bs ≡ 0 → get_or bs 0 0 ≡ 0
-  first_none h = get_or-eq_default bs 0 {n = 0} (omega arith)
-
-  pub unknown_none : length bs ≡ 0 → false ≡ known bs
-  unknown_none h = rw (first_none h)
-
-  pub unsized_none : length bs ≡ 0 → false ≡ sized bs
-  unsized_none h = rw (first_none h)
-
-  pub known_one : get_or bs 0 0 ≡ 1 → true ≡ known bs
-  known_one h = rw h
-
-  pub known_two : (get_or bs 0 0 ≡ 1 → ⊥) → eqb (get_or bs 0 0) 2 ≡ known bs
-  known_two h = rw (ne_eqb (get_or bs 0 0) 1 h)
-
 -- ENTRIES
 module _ (bs : List ℕ) (from n : ℕ) where
-  -- k entries are passed, and the next starts at `at`
-  pub record Fitting (at k : ℕ) : Type 0 where
+  -- k entries are passed, and `rest` is what is left of the bytes
+  pub record Fitting (rest : List ℕ) (k : ℕ) : Type 0 where
     pub upto : k ≤ n
-    pub within : at ≤ length bs
-    pub left : entries_fit n (drop from bs) ≡ entries_fit (n - k) (drop at bs)
+    pub left : entries_fit n (drop from bs) ≡ entries_fit (n - k) rest
 
-  pub fitting_start : from ≤ length bs → Fitting from 0
-  fitting_start h = let e : n - 0 ≡ n = omega arith in record { upto = omega arith; within = h; left = rw e }
-
-  module _ (at k : ℕ) (i : Fitting at k) (h : k < n) where
-    turn : entries_fit n (drop from bs) ≡ cond (leb (entry_size (drop at bs)) (length (drop at bs))) (entries_fit (n - (k + 1)) (drop (entry_size (drop at bs)) (drop at bs))) false
-    unfolding entries_fit
-    turn = let e : n - k ≡ suc (n - (k + 1)) = omega arith in i.left ∙ rw e
-
-    none : (a b : ℕ) → b < a → (x : Bool) → cond (leb a b) x false ≡ false
-    none a b l x = rw (lt-leb a b l)
-
-    pub fitting_none : length bs ≤ at → false ≡ entries_fit n (drop from bs)
-    fitting_none l = sym (turn ∙ none (entry_size (drop at bs)) (length (drop at bs)) (omega (arith, length-drop at bs)) _)
-
-    pub fitting_short : (c : ℕ) → c ≡ get_or bs at 0 → length bs - at < 1 + 48 * c → false ≡ entries_fit n (drop from bs)
-    fitting_short c d l = sym (turn ∙ none (entry_size (drop at bs)) (length (drop at bs)) (omega (arith, length-drop at bs, front_byte at bs, d)) _)
-
-    pub fitting_next : (c : ℕ) → c ≡ get_or bs at 0 → 1 + 48 * c ≤ length bs - at → at < length bs → Fitting (at + (1 + 48 * c)) (k + 1)
-    fitting_next c d l m =
-        let e = front_byte at bs in
-        let f : at + 1 + 48 * c ≡ at + (1 + 48 * c) = omega arith in
-        let t : leb (entry_size (drop at bs)) (length (drop at bs)) ≡ true = le-leb (entry_size (drop at bs)) (length (drop at bs)) (omega (arith, length-drop at bs, e, d)) in
-        record {
-          upto = omega arith;
-          within = omega arith;
-          left = turn ∙ rw t (ap (entries_fit (n - (k + 1))) (entry_past at c bs (e ∙ sym d) ∙ ap (λ m. drop m bs) f));
-        }
-
-  pub fitting_end : (at k : ℕ) → Fitting at k → n ≤ k → eqb at (length bs) ≡ entries_fit n (drop from bs)
+  turn : (rest : List ℕ) (k : ℕ) → Fitting rest k → k < n → entries_fit n (drop from bs) ≡ cond (leb (entry_size rest) (length rest)) (entries_fit (n - (k + 1)) (drop (entry_size rest) rest)) false
   unfolding entries_fit
-  fitting_end at k i h =
-      let e : n - k ≡ 0 = omega arith in
-      sym (i.left ∙ rw e (same_test (length (drop at bs)) 0 at (length bs) (λ q. omega (arith, length-drop at bs, i.within)) (λ q. omega (arith, length-drop at bs))))
+  turn rest k i h = let e : n - k ≡ suc (n - (k + 1)) = omega arith in i.left ∙ rw e
+
+  none : (a b : ℕ) → b < a → (x : Bool) → cond (leb a b) x false ≡ false
+  none a b l x = rw (lt-leb a b l)
+
+  pub fitting_none : (rest : List ℕ) (k : ℕ) → Fitting rest k → k < n → length rest ≡ 0 → false ≡ entries_fit n (drop from bs)
+  fitting_none rest k i h l = sym (turn rest k i h ∙ none (entry_size rest) (length rest) (omega arith) _)
+
+  -- the first byte left is b, with `after` past it
+  module _ (b c : ℕ) (rest after : List ℕ) (k : ℕ) (i : Fitting rest k) (h : k < n) (e : rest ≡ b ∷ after) (d : c ≡ b) where
+    front : Fitting (c ∷ after) k
+    front = subst (λ r. Fitting r k) (e ∙ ap (λ x. x ∷ after) (sym d)) i
+
+    pub fitting_short : length after < 48 * c → false ≡ entries_fit n (drop from bs)
+    fitting_short l = sym (turn (c ∷ after) k front h ∙ none (entry_size (c ∷ after)) (length (c ∷ after)) (omega arith) _)
+
+    pub fitting_next : 48 * c ≤ length after → Fitting (take (length after - 48 * c) (drop (48 * c) after)) (k + 1)
+    fitting_next l =
+        let t : leb (entry_size (c ∷ after)) (length (c ∷ after)) ≡ true = le-leb (entry_size (c ∷ after)) (length (c ∷ after)) (omega arith) in
+        let all : take (length after - 48 * c) (drop (48 * c) after) ≡ drop (48 * c) after = take_all _ (drop (48 * c) after) (omega (arith, length-drop (48 * c) after)) in
+        let past : drop (1 + 48 * c) (c ∷ after) ≡ drop (48 * c) after = rw (one-add (48 * c)) in
+        record { upto = omega arith; left = turn (c ∷ after) k front h ∙ rw (t, all) (ap (entries_fit (n - (k + 1))) past) }
+
+  pub fitting_end : (rest : List ℕ) (k : ℕ) → Fitting rest k → n ≤ k → eqb (length rest) 0 ≡ entries_fit n (drop from bs)
+  unfolding entries_fit
+  fitting_end rest k i h = let e : n - k ≡ 0 = omega arith in sym (i.left ∙ rw e)
 
 -- THE ANSWERS
 module _ (bs : List ℕ) where
-  pub no_version : {k : Bool} → k ≡ known bs → k ≡ false → Refused BadVersion ≡ shape_of (parse bs)
+  pub no_version : {k : Bool} → k ≡ known bs → k ≡ false → Err BadVersion ≡ shape_of (parse bs)
   unfolding parse
   no_version e h = sym (rw (sym e ∙ h))
 
   module _ (v : known bs ≡ true) where
-    no_fit : fits bs ≡ false → Refused BadLength ≡ shape_of (parse bs)
+    no_fit : fits bs ≡ false → Err BadLength ≡ shape_of (parse bs)
     unfolding parse
     no_fit h = sym (rw (v, h))
 
-    pub too_short : length bs < 23 → Refused BadLength ≡ shape_of (parse bs)
+    pub too_short : length bs < 23 → Err BadLength ≡ shape_of (parse bs)
     unfolding fits
     too_short h = no_fit (rw (lt-leb (polys_at bs) (length bs) (omega arith)) (cond_false (eqb (5 + word (drop 1 bs)) (length bs))))
 
-    pub wrong_length : (w : ℕ) → w ≡ word (drop 1 bs) → (w ≡ length bs - 5 → ⊥) → Refused BadLength ≡ shape_of (parse bs)
+    pub wrong_length : (w : ℕ) → w ≡ word (drop 1 bs) → (w ≡ length bs - 5 → ⊥) → Err BadLength ≡ shape_of (parse bs)
     unfolding fits
     wrong_length w e h = no_fit (rw (ne_eqb (5 + word (drop 1 bs)) (length bs) (λ q. h (omega (arith, e)))))
 
     module _ (l : ℕ) (a : l ≡ count_of_layers bs) where
-      pub claims_over : length bs < 23 + 64 * l → Refused BadLength ≡ shape_of (parse bs)
+      pub claims_over : length bs < 23 + 64 * l → Err BadLength ≡ shape_of (parse bs)
       unfolding fits
       claims_over h = no_fit (rw (lt-leb (polys_at bs) (length bs) (omega (arith, a))) (cond_false (eqb (5 + word (drop 1 bs)) (length bs))))
 
@@ -127,17 +96,17 @@ module _ (bs : List ℕ) where
         fit_is : r ≡ entries_fit (count_of_entries bs) (drop (polys_at bs) bs)
         fit_is = f ∙ ap₂ (λ (k n : ℕ). entries_fit k (drop (23 + 64 * n) bs)) entry_count_is a
 
-        pub entries_over : r ≡ false → Refused BadLength ≡ shape_of (parse bs)
+        pub entries_over : r ≡ false → Err BadLength ≡ shape_of (parse bs)
         unfolding fits
         entries_over h = no_fit (rw (sym fit_is ∙ h) (cond_twice (eqb (5 + word (drop 1 bs)) (length bs)) (leb (polys_at bs) (length bs))))
 
         pub all_fits : r ≡ true → 23 ≤ length bs → (w : ℕ) → w ≡ word (drop 1 bs) → w ≡ length bs - 5 → 23 + 64 * l ≤ length bs
-            → Good (record { layers = l; entries = e; polys = 23 + 64 * l }) ≡ shape_of (parse bs)
+            → Ok (record { layers = l; entries = e; polys = 23 + 64 * l }) ≡ shape_of (parse bs)
         all_fits t h w x y m =
             let p = reads_parse bs (record { version = v; stored = omega (arith, x, y); room = omega (arith, a); fit = sym fit_is ∙ t }) in
             let c = a ∙ sym (claims_count (count_of_layers bs) (drop 22 bs)) in
             let n = entry_count_is ∙ sym (entries_count (count_of_entries bs) (drop (polys_at bs) bs)) in
-            ap Good (λ i. record { layers = c i; entries = n i; polys = 23 + 64 * c i }) ∙ sym (ap shape_of p)
+            ap Ok (λ i. record { layers = c i; entries = n i; polys = 23 + 64 * c i }) ∙ sym (ap shape_of p)
 
 -- elements read one by one
 pub claims_read : (bs : List ℕ) (at : ℕ) (a b c d : Ext) → a ≡ elem (drop at bs) → b ≡ elem (drop (at + 16) bs) → c ≡ elem (drop (at + 32) bs) → d ≡ elem (drop (at + 48) bs)

@@ -1,16 +1,16 @@
 -- No second answer fits what the public functions promise, for any input.
 -- Assumes nothing.
-use Rattle.std.specs.Prelude.{◌≡◌, Bool, List, ℕ}
+use Rattle.std.specs.Prelude.{◌≡◌, Option, Result, Bool, List, ℕ}
 use Rattle.std.proofs.Common.{sym, ◌∙◌}
-use Rattle.wire.specs.Words.{all_canonical, first_bad}
-use Rattle.stored.specs.declared.Shape.{Shape}
+use Rattle.wire.specs.Words.{all_canonical, bad_place}
+use Rattle.stored.specs.declared.Outline.{Outline}
+use Rattle.refusal.specs.declared.Refusal.{Refusal}
 use Rattle.stored.specs.declared.LayerClaims.{LayerClaims}
 use Rattle.stored.specs.declared.SubroundEvals.{SubroundEvals}
-use Rattle.stored.specs.Layout.{proof_words}
-use Rattle.stored.specs.Parse.{known, sized, parse, claims_of, cubic_of, proof_of}
+use Rattle.stored.specs.Parse.{known, sized, parse, claims_of, cubic_of}
 use Rattle.stored.specs.Shapes.{shape_of, claims_in, cubic_in}
 
-pub one_shape : (bs : List ℕ) (r r' : Shape) → r ≡ shape_of (parse bs) → r' ≡ shape_of (parse bs) → r ≡ r'
+pub one_shape : (bs : List ℕ) (r r' : Result Outline Refusal) → r ≡ shape_of (parse bs) → r' ≡ shape_of (parse bs) → r ≡ r'
 one_shape bs r r' e e' = e ∙ sym e'
 
 pub one_known : (bs : List ℕ) (r r' : Bool) → r ≡ known bs → r' ≡ known bs → r ≡ r'
@@ -19,7 +19,7 @@ one_known bs r r' e e' = e ∙ sym e'
 pub one_sized : (bs : List ℕ) (r r' : Bool) → r ≡ sized bs → r' ≡ sized bs → r ≡ r'
 one_sized bs r r' e e' = e ∙ sym e'
 
-pub one_place : (ws : List ℕ) (r r' : ℕ) → r ≡ first_bad ws → r' ≡ first_bad ws → r ≡ r'
+pub one_place : (ws : List ℕ) (r r' : Option ℕ) → r ≡ bad_place ws → r' ≡ bad_place ws → r ≡ r'
 one_place ws r r' e e' = e ∙ sym e'
 
 pub one_test : (ws : List ℕ) (r r' : Bool) → r ≡ all_canonical ws → r' ≡ all_canonical ws → r ≡ r'

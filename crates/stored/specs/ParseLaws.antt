@@ -1,13 +1,11 @@
 -- Laws of reading: what bytes that parse are, the counts, and the lists one step on, for a reader that walks by byte places.
 -- Assumes nothing.
-use Rattle.std.specs.Prelude.{◌≡◌, refl, Bool, true, false, cond, ◌||◌, List, [], ◌∷◌, ◌++◌, ℕ, zero, suc, ◌+◌, ◌*◌, ◌<◌, ◌≤◌, eqb, leb, length, get_or, drop}
+use Rattle.std.specs.Prelude.{◌≡◌, refl, Ok, Bool, true, false, cond, ◌||◌, List, ◌∷◌, ℕ, zero, suc, ◌+◌, ◌*◌, ◌≤◌, eqb, leb, length, get_or, drop}
 use Rattle.std.proofs.Common.{sym, ◌∙◌, ap, ap₂, arith, eqb-true, eq-eqb, leb-true, le-leb, length-drop, drop-drop, get_or-drop}
 use Rattle.field.specs.declared.Ext.{Ext}
 use Rattle.gkr.specs.Run.{Cubic, Proof}
-use Rattle.wire.specs.Bytes.{word, elem}
+use Rattle.wire.specs.Bytes.{word}
 use Rattle.stored.specs.declared.Outline.{Outline}
-use Rattle.stored.specs.declared.Shape.{Shape}
-use Rattle.stored.specs.declared.Shape.TheVariants.{Good, Refused}
 use Rattle.stored.specs.Shapes.{shape_of, outline_of}
 use Rattle.stored.specs.Layout.{version_of}
 use Rattle.stored.specs.Parse.{claims_of, cubic_of, claims_from, cubics_from, entry_size, entries_from, entries_fit, known, sized, count_of_layers, count_of_entries, polys_at, fits, proof_of, Parsed, bad_version, bad_length, parsed, parse}
@@ -135,7 +133,7 @@ pub record Shaped (bs : List ℕ) (o : Outline) : Type 0 where
   pub polys : o.polys ≡ polys_at bs
   pub reads : Reads bs
 
-shaped_by : (bs : List ℕ) (o : Outline) (p : Parsed) → parse bs ≡ p → Good o ≡ shape_of p → Shaped bs o
+shaped_by : (bs : List ℕ) (o : Outline) (p : Parsed) → parse bs ≡ p → Ok o ≡ shape_of p → Shaped bs o
 shaped_by bs o bad_version e g = absurd (let z : ◌≡◌ {A = ℕ} 0 1 = cc in omega arith)
 shaped_by bs o bad_length e g = absurd (let z : ◌≡◌ {A = ℕ} 0 1 = cc in omega arith)
 shaped_by bs o (parsed s π) e g =
@@ -151,5 +149,5 @@ shaped_by bs o (parsed s π) e g =
       reads = a.reads;
     }
 
-pub good_shape : (bs : List ℕ) (o : Outline) → Good o ≡ shape_of (parse bs) → Shaped bs o
+pub good_shape : (bs : List ℕ) (o : Outline) → Ok o ≡ shape_of (parse bs) → Shaped bs o
 good_shape bs o g = shaped_by bs o (parse bs) refl g

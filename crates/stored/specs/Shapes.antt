@@ -1,13 +1,12 @@
 -- What the shape reader answers, and the struct of claims and of a sub-round as the model's.
 -- Assumes nothing.
-use Rattle.std.specs.Prelude.{ℕ, ◌+◌, ◌*◌, length}
+use Rattle.std.specs.Prelude.{Result, Ok, Err, ◌+◌, ◌*◌, length}
 use Rattle.field.specs.declared.Ext.{Ext}
 use Rattle.multilinear.specs.RoundSum.{Claims}
 use Rattle.gkr.specs.Run.{Cubic, Proof}
+use Rattle.refusal.specs.declared.Refusal.{Refusal}
 use Rattle.refusal.specs.declared.Refusal.TheVariants.{BadVersion, BadLength}
 use Rattle.stored.specs.declared.Outline.{Outline}
-use Rattle.stored.specs.declared.Shape.{Shape}
-use Rattle.stored.specs.declared.Shape.TheVariants.{Good, Refused}
 use Rattle.stored.specs.declared.LayerClaims.{LayerClaims}
 use Rattle.stored.specs.declared.SubroundEvals.{SubroundEvals}
 use Rattle.stored.specs.Parse.{Parsed, bad_version, bad_length, parsed}
@@ -16,10 +15,10 @@ use Rattle.stored.specs.Parse.{Parsed, bad_version, bad_length, parsed}
 abbrev pub outline_of : Proof Ext → Outline
 outline_of π = record { layers = length π.claims; entries = length π.polys; polys = 23 + 64 * length π.claims }
 
-abbrev pub shape_of : Parsed → Shape
-shape_of bad_version = Refused BadVersion
-shape_of bad_length = Refused BadLength
-shape_of (parsed sized π) = Good (outline_of π)
+abbrev pub shape_of : Parsed → Result Outline Refusal
+shape_of bad_version = Err BadVersion
+shape_of bad_length = Err BadLength
+shape_of (parsed sized π) = Ok (outline_of π)
 
 abbrev pub claims_in : LayerClaims → Claims Ext
 claims_in c = record { p0 = c.p_xi_0; q0 = c.q_xi_0; p1 = c.p_xi_1; q1 = c.q_xi_1 }

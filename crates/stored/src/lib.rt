@@ -2,14 +2,14 @@
 #![tactic(auto)]
 
 ghost use Rattle.std.specs.Prelude.{◌≡◌, true, ◌+◌, ◌*◌, ◌≤◌, length, drop};
-ghost use Rattle.wire.specs.Words.{first_bad};
+ghost use Rattle.wire.specs.Words.{bad_place};
 ghost use Rattle.stored.specs.Elements.{over_zero};
 ghost use Rattle.stored.specs.Layout.{polys_words, proof_words};
 ghost use Rattle.stored.specs.Parse.{known, sized, parse, entries_fit, entries_from, proof_of, claims_of, cubic_of};
 ghost use Rattle.stored.specs.ParseLaws.{Shaped};
 ghost use Rattle.stored.specs.Shapes.{shape_of, claims_in, cubic_in};
 
-use field::Ext;
+use field::{Ext, Field};
 use refusal::Refusal;
 
 // The counts of the two lists, and the place of the first polynomial entry.
@@ -18,12 +18,6 @@ pub struct Outline {
     pub layers: usize,
     pub entries: usize,
     pub polys: usize,
-}
-
-#[derive(Clone, Copy)]
-pub enum Shape {
-    Good(Outline),
-    Refused(Refusal),
 }
 
 // The claims of a layer, and the polynomial of a sub-round, their words not yet checked.
@@ -47,67 +41,54 @@ fn entries_fit(proof: &[u8], from: usize, count: usize) -> bool
     requires { from ≤ length proof.now }
     ensures { result ≡ entries_fit count (drop from proof.now) }
 {
-    let mut at = from;
+    let mut rest = &proof[from..];
     for k in 0..count {
-        if proof.len() <= at {
+        let Some((subrounds, after)) = rest.split_first() else {
+            return false;
+        };
+        let size = 48 * usize::from(*subrounds);
+        if after.len() < size {
             return false;
         }
-        let size = 1 + 48 * (wire::wide(proof[at]) as usize);
-        if proof.len() - at < size {
-            return false;
-        }
-        at += size;
+        rest = &after[size..];
     }
-    at == proof.len()
+    rest.is_empty()
 }
 
 // Whether the first byte is a version that is read: 1 or 2.
 pub fn is_known(proof: &[u8]) -> bool
     ensures { result ≡ known proof.now }
 {
-    if proof.len() == 0 {
-        return false;
-    }
-    let version = proof[0];
-    if version == 1 {
-        return true;
-    }
-    version == 2
+    matches!(proof, [1 | 2, ..])
 }
 
 // Whether a proof binds its size: its version is 2.
 pub fn is_sized(proof: &[u8]) -> bool
     ensures { result ≡ sized proof.now }
 {
-    if proof.len() == 0 {
-        return false;
-    }
-    proof[0] == 2
+    matches!(proof, [2, ..])
 }
 
 // The counts of a stored proof and where its polynomials start, if the bytes are some proof's; otherwise 12 or 13.
-pub fn read_shape(proof: &[u8]) -> Shape
+pub fn read_shape(proof: &[u8]) -> Result<Outline, Refusal>
     ensures { result ≡ shape_of (parse proof.now) }
 {
     if !is_known(proof) {
-        return Shape::Refused(Refusal::BadVersion);
+        return Err(Refusal::BadVersion);
     }
-    if proof.len() < 23 {
-        return Shape::Refused(Refusal::BadLength);
+    if proof.len() < 23 || wire::word_at(proof, 1) as usize != proof.len() - 5 {
+        return Err(Refusal::BadLength);
     }
-    if wire::word_at(proof, 1) as usize != proof.len() - 5 {
-        return Shape::Refused(Refusal::BadLength);
-    }
-    let layers = wire::wide(proof[21]) as usize;
+    let layers = usize::from(proof[21]);
     let polys = 23 + 64 * layers;
     if proof.len() < polys {
-        return Shape::Refused(Refusal::BadLength);
+        return Err(Refusal::BadLength);
     }
-    let entries = wire::wide(proof[polys - 1]) as usize;
+    let entries = usize::from(proof[polys - 1]);
     if !entries_fit(proof, polys, entries) {
-        return Shape::Refused(Refusal::BadLength);
+        return Err(Refusal::BadLength);
     }
-    Shape::Good(Outline {
+    Ok(Outline {
         layers,
         entries,
         polys,
@@ -139,43 +120,44 @@ pub fn read_subround(proof: &[u8], at: usize) -> SubroundEvals
     }
 }
 
-// The place of the first bad word among the polynomial entries from a place on: left by the label at that word's sub-round.
-fn first_bad_in_entries(proof: &[u8], from: usize, count: usize) -> usize
+// The place of the first bad word among the polynomial entries from a place on, if there is one: left by the label at that word's sub-round.
+fn first_bad_in_entries(proof: &[u8], from: usize, count: usize) -> Option<usize>
     requires { (from ≤ length proof.now) × (entries_fit count (drop from proof.now) ≡ true) }
-    ensures { (result ≡ first_bad (polys_words (entries_from count (drop from proof.now)))) × (4 * result ≤ length proof.now) }
+    ensures { result ≡ bad_place (polys_words (entries_from count (drop from proof.now))) }
 {
-    let mut place = 0;
+    let mut passed = 0;
     let mut at = from;
+    let mut found = None;
+    // Stays: document 01 has nested loops here that are left by a label.
     'entries: for k in 0..count {
-        let subrounds = wire::wide(proof[at]) as usize;
+        let subrounds = usize::from(proof[at]);
         at += 1;
         for j in 0..subrounds {
-            let bad = wire::first_bad_stored(proof, at, 12);
-            place += bad;
-            if bad < 12 {
+            if let Some(place) = wire::first_bad_stored(proof, at, 12) {
+                found = Some(passed + place);
                 break 'entries;
             }
+            passed += 12;
             at += 48;
         }
     }
-    place
+    found
 }
 
-// The place of the first bad word of a proof, counted over the words of its elements; their number if there is none.
-pub fn first_bad_in_proof(proof: &[u8], outline: Outline) -> usize
+// The place of the first bad word of a proof, counted over the words of its elements, if there is one.
+pub fn first_bad_in_proof(proof: &[u8], outline: Outline) -> Option<usize>
     requires { Shaped proof.now outline }
-    ensures { result ≡ first_bad (proof_words (proof_of proof.now)) }
+    ensures { result ≡ bad_place (proof_words (proof_of proof.now)) }
 {
-    let root = wire::first_bad_stored(proof, 5, 4);
-    if root < 4 {
-        return root;
+    if let Some(place) = wire::first_bad_stored(proof, 5, 4) {
+        return Some(place);
     }
     let words = 16 * outline.layers;
-    let claims = wire::first_bad_stored(proof, 22, words);
-    if claims < words {
-        return 4 + claims;
+    if let Some(place) = wire::first_bad_stored(proof, 22, words) {
+        return Some(4 + place);
     }
-    4 + words + first_bad_in_entries(proof, outline.polys, outline.entries)
+    let place = first_bad_in_entries(proof, outline.polys, outline.entries)?;
+    Some(4 + words + place)
 }
 
 // How many words the elements of a proof have: its bytes but for version, length, the two counts and each entry's count, in fours.

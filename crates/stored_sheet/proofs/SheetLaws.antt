@@ -1,29 +1,28 @@
 -- Sheets: what a sheet that is read says of its bytes, and that rows and their stored form are one thing.
 -- Assumes nothing.
-use Rattle.std.specs.Prelude.{◌≡◌, refl, Bool, true, cond, ℕ, suc, ◌+◌, ◌*◌, ◌-◌, ◌/◌, ◌%◌, ◌<◌, ◌≤◌, eqb, get_or, take, drop}
-use Rattle.std.proofs.Common.{sym, ◌∙◌, ap₂, add-one, arith, eqb-true, eq-eqb, ltb-false, le-ltb, length-drop, length-append, drop-cons, drop-drop, get_or-drop, take_all}
+use Rattle.std.specs.Prelude.{Result, Ok, Err, ◌≡◌, refl, Bool, true, cond, ℕ, ◌+◌, ◌*◌, ◌/◌, ◌%◌, ◌<◌, ◌≤◌, eqb, get_or, take, drop}
+use Rattle.std.proofs.Common.{sym, ◌∙◌, ap₂, add-one, arith, eqb-true, eq-eqb, ltb-false, le-ltb, length-drop, length-append, drop-cons, drop-drop, take_all}
 use Rattle.std.proofs.Math.Path.{ap}
 use mathlib.Core.List.{List, [], ◌∷◌, ◌++◌, append-nil}
 use Rattle.std.proofs.lemmas.Bool.{not-false}
 use Rattle.std.proofs.Math.ListN.{length}
 use Rattle.refusal.specs.Limits.{max_rows}
 use Rattle.refusal.specs.Powers.{power_of_two}
+use Rattle.refusal.specs.declared.Refusal.{Refusal}
 use Rattle.refusal.specs.Tests.{Test, Tested, passed, refused, first_of}
 use Rattle.refusal.specs.TestLaws.{NoneMet, passed_all}
-use Rattle.wire.specs.Bytes.{be2, half, words_from, bytes_of, Bytes}
+use Rattle.wire.specs.Bytes.{be2, words_from, bytes_of, Bytes}
 use Rattle.wire.specs.Words.{all_canonical}
 use Rattle.wire.proofs.ByteLaws.{bytes_drop, bytes_back, bytes_length, half_back, half_digits, words_back, words_length}
-use Rattle.stored_sheet.specs.declared.SheetAnswer.{SheetAnswer}
-use Rattle.stored_sheet.specs.declared.SheetAnswer.TheVariants.{Done, Refused}
 use Rattle.stored_sheet.specs.Sheet.{sheet, row_count, row_words}
 use Rattle.stored_sheet.specs.SheetReads.{tested, read_answer, write_answer, SheetEnd, sheet_end, sheet_read}
 
 -- done has passed all tests
-was_passed : (n k : ℕ) (t : Tested) → tested n t ≡ Done k → (t ≡ passed) × (n ≡ k)
+was_passed : (n k : ℕ) (t : Tested) → tested n t ≡ Ok k → (t ≡ passed) × (n ≡ k)
 was_passed n k passed h = (refl, cc h)
 was_passed n k (refused e) h = absurd (let z : ◌≡◌ {A = ℕ} 0 1 = cc in omega arith)
 
-tests_passed : (n k : ℕ) (ts : List Test) → tested n (first_of ts) ≡ Done k → NoneMet ts × (n ≡ k)
+tests_passed : (n k : ℕ) (ts : List Test) → tested n (first_of ts) ≡ Ok k → NoneMet ts × (n ≡ k)
 tests_passed n k ts h = let w = was_passed n k (first_of ts) h in (passed_all ts w.0, w.1)
 
 -- the test on a row count
@@ -40,7 +39,7 @@ pub record IsRead (bs : List ℕ) (space n : ℕ) : Type 0 where
   pub canonical : all_canonical (row_words bs) ≡ true
   pub count : row_count bs ≡ n
 
-pub read_done : (bs : List ℕ) (room n : ℕ) → read_answer bs room ≡ Done n → IsRead bs room n
+pub read_done : (bs : List ℕ) (room n : ℕ) → read_answer bs room ≡ Ok n → IsRead bs room n
 unfolding read_answer
 read_done bs room n h =
     let (none, count) = tests_passed (row_count bs) n _ h in
@@ -55,18 +54,18 @@ read_done bs room n h =
       count = count;
     }
 
-pub read_ok : (bs : List ℕ) (room n : ℕ) → IsRead bs room n → read_answer bs room ≡ Done n
+pub read_ok : (bs : List ℕ) (room n : ℕ) → IsRead bs room n → read_answer bs room ≡ Ok n
 unfolding read_answer first_of
 read_ok bs room n r =
-    rw (eq-eqb (get_or bs 0 0) 1 r.version, eq-eqb (3 + 32 * row_count bs) (length bs) r.size, le-ltb max_rows (row_count bs) r.most, r.power, le-ltb room (8 * row_count bs) r.room, r.canonical) (ap Done r.count)
+    rw (eq-eqb (get_or bs 0 0) 1 r.version, eq-eqb (3 + 32 * row_count bs) (length bs) r.size, le-ltb max_rows (row_count bs) r.most, r.power, le-ltb room (8 * row_count bs) r.room, r.canonical) (ap Ok r.count)
 
 -- what is read of a sheet, by the reader's end: its buffer begins with the rows
-answered : (a : SheetAnswer) (ws old : List ℕ) → (sheet_end a ws old).answer ≡ a
-answered (Done n) ws old = refl
-answered (Refused e) ws old = refl
+answered : (a : Result ℕ Refusal) (ws old : List ℕ) → (sheet_end a ws old).answer ≡ a
+answered (Ok n) ws old = refl
+answered (Err e) ws old = refl
 
-module _ (bs old new : List ℕ) (n : ℕ) {r : SheetAnswer} (e : ◌≡◌ {A = SheetEnd} (record { answer = r; buffer = new }) (sheet_read bs old)) (d : r ≡ Done n) where
-  done : read_answer bs (length old) ≡ Done n
+module _ (bs old new : List ℕ) (n : ℕ) {r : Result ℕ Refusal} (e : ◌≡◌ {A = SheetEnd} (record { answer = r; buffer = new }) (sheet_read bs old)) (d : r ≡ Ok n) where
+  done : read_answer bs (length old) ≡ Ok n
   done = sym (answered (read_answer bs (length old)) (row_words bs) old) ∙ sym (ap (λ o. o.answer) e) ∙ d
 
   pub is_read : IsRead bs (length old) n
@@ -93,7 +92,7 @@ pub record IsWritten (ws : List ℕ) (space n : ℕ) : Type 0 where
   pub canonical : all_canonical ws ≡ true
   pub size : 3 + 4 * length ws ≡ n
 
-pub write_done : (ws : List ℕ) (room n : ℕ) → write_answer ws room ≡ Done n → IsWritten ws room n
+pub write_done : (ws : List ℕ) (room n : ℕ) → write_answer ws room ≡ Ok n → IsWritten ws room n
 unfolding write_answer
 write_done ws room n h =
     let (none, size) = tests_passed (3 + 4 * length ws) n _ h in
@@ -107,10 +106,10 @@ write_done ws room n h =
       size = size;
     }
 
-pub write_ok : (ws : List ℕ) (room n : ℕ) → IsWritten ws room n → write_answer ws room ≡ Done n
+pub write_ok : (ws : List ℕ) (room n : ℕ) → IsWritten ws room n → write_answer ws room ≡ Ok n
 unfolding write_answer first_of
 write_ok ws room n r =
-    rw (eq-eqb (length ws % 8) 0 r.whole, le-ltb max_rows (length ws / 8) r.most, r.power, le-ltb room (3 + 4 * length ws) r.room, r.canonical) (ap Done r.size)
+    rw (eq-eqb (length ws % 8) 0 r.whole, le-ltb max_rows (length ws / 8) r.most, r.power, le-ltb room (3 + 4 * length ws) r.room, r.canonical) (ap Ok r.size)
 
 -- BYTES, READ, AND WRITTEN AGAIN
 next : (bs : List ℕ) (i : ℕ) → i < length bs → get_or bs i 0 ∷ drop (i + 1) bs ≡ drop i bs
@@ -155,7 +154,7 @@ first ws = refl
 
 -- what the writer writes, the reader reads: the same rows, into any buffer that has room for them
 pub sheet_read_is : (ws : List ℕ) (room n : ℕ) → IsWritten ws room n → (old : List ℕ) → length ws ≤ length old
-    → sheet_read (sheet ws) old ≡ record { answer = Done (length ws / 8); buffer = ws ++ drop (length ws) old }
+    → sheet_read (sheet ws) old ≡ record { answer = Ok (length ws / 8); buffer = ws ++ drop (length ws) old }
 sheet_read_is ws room n r old h =
     let c = sheet_count ws r.whole in
     let s = sheet_rows ws r.whole in

@@ -1,164 +1,114 @@
 // The stored form of a sheet: read into words, and written from them.
 #![tactic(auto)]
 
-ghost use Rattle.std.specs.Prelude.{◌≡◌, true, cond, ◌++◌, ◌+◌, ◌*◌, ◌<◌, ◌≤◌, eqb, length, drop};
+ghost use Rattle.std.specs.Prelude.{◌≡◌, true, cond, [], ◌+◌, ◌*◌, ◌<◌, ◌≤◌, eqb, length, MatchResult};
 ghost use Rattle.refusal.specs.Powers.{power_of_two};
-ghost use Rattle.wire.specs.Bytes.{words_from, bytes_of};
+ghost use Rattle.refusal.specs.Tests.{passed, refused, first_of};
 ghost use Rattle.wire.specs.Written.{Wrote};
 ghost use Rattle.stored_sheet.specs.Report.{sheet_report};
 ghost use Rattle.stored_sheet.specs.Sheet.{sheet};
-ghost use Rattle.stored_sheet.specs.SheetReads.{read_answer, write_answer, sheet_read, sheet_written, sheet_end};
+ghost use Rattle.stored_sheet.specs.SheetReads.{sized, read_answer, write_answer, sheet_read, sheet_written, sheet_end};
 
-use field::Ext;
+use field::{Ext, Field};
 use refusal::{Refusal, Report, Words};
 
-// What reading or writing a sheet ends with.
-#[derive(Clone, Copy)]
-pub enum SheetAnswer {
-    Done(usize),
-    Refused(Refusal),
-}
-
-// The answer as document 01 has it: its number, and its values.
-pub fn number_and_values(answer: SheetAnswer) -> Report
+// The answer of reader or writer as document 01 has it: its number, and its values.
+pub fn number_and_values(answer: Result<usize, Refusal>) -> Report
     ensures { result ≡ sheet_report answer }
 {
     match answer {
-        SheetAnswer::Done(count) => refusal::done(count, Ext::ZERO, Ext::ZERO),
-        SheetAnswer::Refused(refusal) => refusal::number_and_fields(refusal),
+        Ok(count) => refusal::done(count, Ext::ZERO, Ext::ZERO),
+        Err(refusal) => Report::from(refusal),
     }
 }
 
+// Stays: sizes::is_size is false of each power of two above the limit, and this is the table's test on any count.
 fn zero_or_power(count: usize) -> bool
     ensures { result ≡ cond (eqb count 0) true (power_of_two count) }
 {
-    if count == 0 {
-        return true;
+    count == 0 || refusal::power_of_two(count)
+}
+
+// The tests that reader and writer share: on the count of rows, and on the room for what they need.
+fn check_size(count: usize, need: usize, room: usize) -> Result<(), Refusal>
+    ensures { MatchResult result (λ _. first_of (sized count need room []) ≡ passed) (λ e. first_of (sized count need room []) ≡ refused e) }
+{
+    if refusal::MAX_ROWS < count {
+        Err(Refusal::TooManyRows)
+    } else if !zero_or_power(count) {
+        Err(Refusal::NotPowerOfTwo)
+    } else if room < need {
+        Err(Refusal::ShortRoom)
+    } else {
+        Ok(())
     }
-    refusal::power_of_two(count)
 }
 
 // The reader's answer for a buffer of so many words.
-fn check_sheet(bytes: &[u8], room: usize) -> SheetAnswer
+fn check_sheet(bytes: &[u8], room: usize) -> Result<usize, Refusal>
     ensures { result ≡ read_answer bytes.now room }
 {
-    if bytes.len() == 0 {
-        return SheetAnswer::Refused(Refusal::BadVersion);
-    }
-    if bytes[0] != 1 {
-        return SheetAnswer::Refused(Refusal::BadVersion);
-    }
-    if bytes.len() < 3 {
-        return SheetAnswer::Refused(Refusal::BadLength);
-    }
-    let count = (wire::wide(bytes[1]) * 256 + wire::wide(bytes[2])) as usize;
+    let count = match bytes {
+        [1, high, low, ..] => usize::from(u16::from_be_bytes([*high, *low])),
+        [1, ..] => return Err(Refusal::BadLength),
+        _ => return Err(Refusal::BadVersion),
+    };
     if bytes.len() != 3 + 32 * count {
-        return SheetAnswer::Refused(Refusal::BadLength);
+        return Err(Refusal::BadLength);
     }
-    if refusal::MAX_ROWS < count {
-        return SheetAnswer::Refused(Refusal::TooManyRows);
-    }
-    if !zero_or_power(count) {
-        return SheetAnswer::Refused(Refusal::NotPowerOfTwo);
-    }
-    let words = 8 * count;
-    if room < words {
-        return SheetAnswer::Refused(Refusal::ShortRoom);
-    }
-    let place = wire::first_bad_stored(bytes, 3, words);
-    if place < words {
-        return SheetAnswer::Refused(Refusal::BadWord {
+    check_size(count, 8 * count, room)?;
+    if let Some(place) = wire::first_bad_stored(bytes, 3, 8 * count) {
+        return Err(Refusal::BadWord {
             place,
             list: Words::Rows,
         });
     }
-    SheetAnswer::Done(count)
+    Ok(count)
 }
 
-// The n words after the row count, to the front of the rows.
-fn copy_words(bytes: &[u8], rows: &mut [u32], n: usize)
-    requires { (3 + 4 * n ≤ length bytes.now) × (n ≤ length rows.old) }
-    ensures { rows.new ≡ words_from n (drop 3 bytes.now) ++ drop n rows.old }
-{
-    for i in 0..n {
-        rows[i] = wire::word_at(bytes, 3 + 4 * i);
-    }
-}
-
-// Done answers the row count.
-pub fn read_sheet(bytes: &[u8], rows: &mut [u32]) -> SheetAnswer
+// Reads a stored sheet into the rows; Ok has the row count.
+pub fn read_sheet(bytes: &[u8], rows: &mut [u32]) -> Result<usize, Refusal>
     ensures { record { answer = result; buffer = rows.new } ≡ sheet_read bytes.now rows.old }
 {
-    let answer = check_sheet(bytes, rows.len());
-    match answer {
-        SheetAnswer::Done(count) => {
-            copy_words(bytes, rows, 8 * count);
-            SheetAnswer::Done(count)
-        }
-        SheetAnswer::Refused(refusal) => SheetAnswer::Refused(refusal),
-    }
+    let count = check_sheet(bytes, rows.len())?;
+    wire::copy_words(bytes, 3, rows, 8 * count);
+    Ok(count)
 }
 
 // The writer's answer for a buffer of so many bytes.
-fn check_rows(rows: &[u32], room: usize) -> SheetAnswer
+fn check_rows(rows: &[u32], room: usize) -> Result<usize, Refusal>
     ensures { result ≡ write_answer rows.now room }
 {
     if rows.len() % 8 != 0 {
-        return SheetAnswer::Refused(Refusal::RaggedRows);
-    }
-    let count = rows.len() / 8;
-    if refusal::MAX_ROWS < count {
-        return SheetAnswer::Refused(Refusal::TooManyRows);
-    }
-    if !zero_or_power(count) {
-        return SheetAnswer::Refused(Refusal::NotPowerOfTwo);
+        return Err(Refusal::RaggedRows);
     }
     let bytes = 3 + 4 * rows.len();
-    if room < bytes {
-        return SheetAnswer::Refused(Refusal::ShortRoom);
-    }
-    let place = wire::first_bad_word(rows);
-    if place < rows.len() {
-        return SheetAnswer::Refused(Refusal::BadWord {
+    check_size(rows.len() / 8, bytes, room)?;
+    if let Some(place) = wire::first_bad_word(rows) {
+        return Err(Refusal::BadWord {
             place,
             list: Words::Rows,
         });
     }
-    SheetAnswer::Done(bytes)
-}
-
-fn put_words(out: &mut [u8], at: usize, words: &[u32]) -> usize
-    requires { at + 4 * length words.now ≤ length out.old }
-    ensures { Wrote out.old out.new at result (bytes_of words.now) }
-{
-    let mut p = at;
-    for i in 0..words.len() {
-        p = wire::put_word(out, p, words[i]);
-    }
-    p
+    Ok(bytes)
 }
 
 fn put_sheet(out: &mut [u8], rows: &[u32]) -> usize
     requires { (3 + 4 * length rows.now ≤ length out.old) × (length rows.now < 65536) }
     ensures { Wrote out.old out.new 0 result (sheet rows.now) }
 {
-    let count = rows.len() / 8;
+    let [high, low] = ((rows.len() / 8) as u16).to_be_bytes();
     let a = wire::put_byte(out, 0, 1);
-    let b = wire::put_byte(out, a, (count / 256) as u8);
-    let c = wire::put_byte(out, b, (count % 256) as u8);
-    put_words(out, c, rows)
+    let b = wire::put_byte(out, a, high);
+    let c = wire::put_byte(out, b, low);
+    wire::put_words(out, c, rows)
 }
 
-// Done answers the number of bytes.
-pub fn write_sheet(rows: &[u32], out: &mut [u8]) -> SheetAnswer
+// Writes the rows as a stored sheet; Ok has the number of bytes.
+pub fn write_sheet(rows: &[u32], out: &mut [u8]) -> Result<usize, Refusal>
     ensures { record { answer = result; buffer = out.new } ≡ sheet_written rows.now out.old }
 {
-    let answer = check_rows(rows, out.len());
-    match answer {
-        SheetAnswer::Done(bytes) => {
-            put_sheet(out, rows);
-            SheetAnswer::Done(bytes)
-        }
-        SheetAnswer::Refused(refusal) => SheetAnswer::Refused(refusal),
-    }
+    let bytes = check_rows(rows, out.len())?;
+    put_sheet(out, rows);
+    Ok(bytes)
 }

@@ -2,30 +2,23 @@
 // A case is its size, the operation, the room of the buffer, and bytes or words: all decimal.
 #![tactic(auto)]
 
-use field::Ext;
-use refusal::Refusal;
-use stored::{LayerClaims, Outline, Shape, SubroundEvals};
-use stored_sheet::SheetAnswer;
+use refusal::{Refusal, Report};
 
 mod text; // numbers, read and printed
 mod proofs; // what is asked of a proof's bytes
 
-fn number_of(r: Refusal) -> u32 {
-    refusal::number_and_fields(r).number
+// The number of a refusal, or 0.
+fn number_of<T: Drop>(answer: Result<T, Refusal>) -> u64 {
+    match answer {
+        Ok(_) => 0,
+        Err(refusal) => u64::from(Report::from(refusal).number),
+    }
 }
 
 // The number of a sheet's answer, and what done says.
-fn show(answer: SheetAnswer) {
-    match answer {
-        SheetAnswer::Done(n) => {
-            text::number(0);
-            text::number(n as u64);
-        }
-        SheetAnswer::Refused(r) => {
-            text::number(number_of(r) as u64);
-            text::number(0);
-        }
-    }
+fn show(answer: Result<usize, Refusal>) {
+    text::number(number_of(answer));
+    text::number(answer.unwrap_or(0) as u64);
 }
 
 // Into the first words of a buffer.
@@ -57,10 +50,7 @@ fn write_sheet(words: &[u32], room: usize) {
 fn sheet_prefix(bytes: &[u8], k: usize) {
     let mut rows = [7u32; 64];
     if k <= bytes.len() {
-        match stored_sheet::read_sheet(&bytes[..k], &mut rows) {
-            SheetAnswer::Done(_) => text::number(0),
-            SheetAnswer::Refused(r) => text::number(number_of(r) as u64),
-        }
+        text::number(number_of(stored_sheet::read_sheet(&bytes[..k], &mut rows)));
     }
 }
 
@@ -88,13 +78,8 @@ fn on_words(op: u32, room: usize, words: &[u32]) {
 
 fn run_case(op: u32, room: usize, given: &[u32]) {
     let mut bytes = [0u8; 4096];
-    if op == 2 {
-        on_words(op, room, given);
-        return;
-    }
-    if op == 6 {
-        on_words(op, room, given);
-        return;
+    if op == 2 || op == 6 {
+        return on_words(op, room, given);
     }
     let n = text::narrow(given, &mut bytes);
     on_bytes(op, room, &bytes[..n]);
@@ -102,13 +87,7 @@ fn run_case(op: u32, room: usize, given: &[u32]) {
 
 // The case of so many numbers from a place on.
 fn run_at(given: &[u32], at: usize, size: usize) {
-    if given.len() < 3 {
-        return;
-    }
-    if given.len() - 3 < at {
-        return;
-    }
-    if size < 2 {
+    if given.len() < 3 || given.len() - 3 < at || size < 2 {
         return;
     }
     let from = at + 3;

@@ -1,7 +1,7 @@
 // What is asked of a proof's bytes: shape, elements, the place of the first bad word; and proofs written from a log.
 use crate::{number_of, text};
 use field::Ext;
-use stored::{LayerClaims, Outline, Shape, SubroundEvals};
+use stored::{LayerClaims, SubroundEvals};
 
 fn element(e: Ext) {
     text::number(e.c0 as u64);
@@ -31,47 +31,36 @@ fn elements(proof: &[u8], polys: usize) {
     if 86 <= proof.len() {
         claims(stored::read_claims(proof, 22));
     }
-    if polys < proof.len() {
-        let at = polys + 1;
-        if 48 <= proof.len() - at {
-            subround(stored::read_subround(proof, at));
-        }
+    if polys < proof.len() && 48 <= proof.len() - (polys + 1) {
+        subround(stored::read_subround(proof, polys + 1));
     }
 }
 
 // The version of a proof, by whether it binds its size.
 fn version(proof: &[u8]) {
-    if stored::is_sized(proof) {
-        text::number(2);
-    } else {
-        text::number(1);
-    }
+    text::number(if stored::is_sized(proof) { 2 } else { 1 });
 }
 
-// All that is asked of one proof.
+// All that is asked of one proof. Where no word is bad, their number stands for the place.
 pub fn ask(proof: &[u8]) {
-    match stored::read_shape(proof) {
-        Shape::Good(o) => {
-            text::number(0);
-            text::number(o.layers as u64);
-            text::number(o.entries as u64);
-            text::number(o.polys as u64);
-            text::number(stored::first_bad_in_proof(proof, o) as u64);
-            text::number(stored::word_count(proof, o) as u64);
-            elements(proof, o.polys);
-            version(proof);
-        }
-        Shape::Refused(r) => text::number(number_of(r) as u64),
+    let shape = stored::read_shape(proof);
+    text::number(number_of(shape));
+    if let Ok(outline) = shape {
+        let words = stored::word_count(proof, outline);
+        text::number(outline.layers as u64);
+        text::number(outline.entries as u64);
+        text::number(outline.polys as u64);
+        text::number(stored::first_bad_in_proof(proof, outline).unwrap_or(words) as u64);
+        text::number(words as u64);
+        elements(proof, outline.polys);
+        version(proof);
     }
 }
 
 // The shape reader's number for the first k bytes.
 fn prefix(proof: &[u8], k: usize) {
     if k <= proof.len() {
-        match stored::read_shape(&proof[..k]) {
-            Shape::Good(_) => text::number(0),
-            Shape::Refused(r) => text::number(number_of(r) as u64),
-        }
+        text::number(number_of(stored::read_shape(&proof[..k])));
     }
 }
 
@@ -89,26 +78,20 @@ fn no_rows(out: &mut [u8], sized: bool) {
 }
 
 fn one_round(out: &mut [u8], log: &[u32], cell: usize, sized: bool) {
-    if 87 <= out.len() {
-        if 4 * (cell % 16) + 24 <= log.len() {
-            text::number(stored_writer::put_proof(out, log, cell % 16, 1, sized) as u64);
-        }
+    if 87 <= out.len() && 4 * (cell % 16) + 24 <= log.len() {
+        text::number(stored_writer::put_proof(out, log, cell % 16, 1, sized) as u64);
     }
 }
 
 fn two_rounds(out: &mut [u8], log: &[u32], cell: usize, sized: bool) {
-    if 200 <= out.len() {
-        if 4 * (cell % 16) + 64 <= log.len() {
-            text::number(stored_writer::put_proof(out, log, cell % 16, 2, sized) as u64);
-        }
+    if 200 <= out.len() && 4 * (cell % 16) + 64 <= log.len() {
+        text::number(stored_writer::put_proof(out, log, cell % 16, 2, sized) as u64);
     }
 }
 
 fn three_rounds(out: &mut [u8], log: &[u32], cell: usize, sized: bool) {
-    if 361 <= out.len() {
-        if 4 * (cell % 16) + 120 <= log.len() {
-            text::number(stored_writer::put_proof(out, log, cell % 16, 3, sized) as u64);
-        }
+    if 361 <= out.len() && 4 * (cell % 16) + 120 <= log.len() {
+        text::number(stored_writer::put_proof(out, log, cell % 16, 3, sized) as u64);
     }
 }
 
@@ -123,10 +106,7 @@ fn write_rounds(rounds: u32, out: &mut [u8], log: &[u32], cell: usize, sized: bo
 
 // The proof that stands in a log from a cell on, into the first bytes of a buffer: rounds, 0 for no rows, the cell and the version come first.
 fn write_into(given: &[u32], out: &mut [u8], room: usize) {
-    if given.len() < 3 {
-        return;
-    }
-    if out.len() < room {
+    if given.len() < 3 || out.len() < room {
         return;
     }
     write_rounds(

@@ -17,7 +17,7 @@ fn step(out: &mut [u32], b: u8, r: Reading) -> Reading
     if 48 <= b {
         return Reading {
             count: k,
-            value: (r.value * 10 + from_byte(b % 16 % 10)) % 4294967296,
+            value: (r.value * 10 + u64::from(b % 16 % 10)) % 4294967296,
         };
     }
     if out.len() <= k {
@@ -35,20 +35,10 @@ pub fn numbers(text: &[u8], out: &mut [u32]) -> usize
     ensures { result ≤ length out.new }
 {
     let mut r = Reading { count: 0, value: 0 };
-    for i in 0..text.len() {
-        r = step(out, text[i], r);
+    for b in text {
+        r = step(out, *b, r);
     }
     r.count
-}
-
-fn from_byte(b: u8) -> u64
-    ensures { result < 256 }
-{
-    b as u64
-}
-
-fn from_word(w: u32) -> u64 {
-    w as u64
 }
 
 // A word as a place.
@@ -66,15 +56,11 @@ fn low_byte(w: u32) -> u8 {
 pub fn narrow(words: &[u32], out: &mut [u8]) -> usize
     ensures { result ≤ length out.new }
 {
-    let mut i: usize = 0;
-    while i < words.len() {
-        if out.len() <= i {
-            return i;
-        }
+    let n = words.len().min(out.len());
+    for i in 0..n {
         out[i] = low_byte(words[i]);
-        i += 1;
     }
-    i
+    n
 }
 
 // A number and a blank.
@@ -85,14 +71,14 @@ pub fn number(n: u64) {
 
 // Each word.
 pub fn words(ws: &[u32]) {
-    for i in 0..ws.len() {
-        number(from_word(ws[i]));
+    for w in ws {
+        number(u64::from(*w));
     }
 }
 
 // Each byte.
 pub fn bytes(bs: &[u8]) {
-    for i in 0..bs.len() {
-        number(from_byte(bs[i]));
+    for b in bs {
+        number(u64::from(*b));
     }
 }

@@ -1,39 +1,29 @@
 -- The bytes of the messages in the log, one after the other: pieces, and the turns of the loops over sub-rounds and layers.
 -- Assumes nothing.
-use mathlib.Core.Path.{◌≡◌, refl, sym, ◌∙◌, ap, ap₂, subst}
-use mathlib.Core.List.{List, [], ◌∷◌, ◌++◌, append_assoc}
+use mathlib.Core.Path.{◌≡◌, refl, sym, ◌∙◌, ap, ap₂}
+use mathlib.Core.List.{List, [], ◌∷◌, ◌++◌}
 use Prim.Native.Nat.{ℕ, zero, suc, ◌+◌, ◌*◌, ◌-◌, ◌%◌, ◌<◌, ◌≤◌}
 use native.Mathlib.Nat.{mul-le-mul}
 use native.Mathlib.Numerals.{add-one}
 use native.Mathlib.Omega.{arith}
-use lib.ListN.{length, get_or, drop, length-append}
+use lib.ListN.{length, get_or, length-append}
 use Rattle.field.specs.Base.{P, of}
 use Rattle.field.specs.Ext as E
 use Rattle.field.specs.Element.{enc}
 use Rattle.field.specs.Cells.{cell}
 use Rattle.field.specs.declared.Ext.{Ext}
 use Rattle.multilinear.specs.RoundSum.{Claims}
-use Rattle.gkr.specs.Run.{Cubic}
-use Rattle.wire.specs.Bytes.{be4, bytes_of}
+use Rattle.wire.specs.Bytes.{bytes_of}
 use Rattle.wire.specs.Words.{ext_words}
 use Rattle.wire.specs.Written.{Wrote}
-use Rattle.wire.specs.WrittenLaws.{wrote_then, wrote_front}
+use Rattle.wire.specs.WrittenLaws.{wrote_then}
 use Rattle.wire.proofs.ByteLaws.{bytes_append}
-use Rattle.stored.specs.Layout.{cubic_words, claim_words, cubics_words, claims_words, entries_bytes, body, layout}
+use Rattle.stored.specs.Layout.{cubic_words, claim_words, cubics_words, claims_words, entries_bytes}
 use Rattle.stored.specs.Lengths.{up_from, lengths}
 use Rattle.stored.proofs.RoundTrip.{claims_size, cubics_size}
-use Rattle.stored_writer.specs.Messages.{stored_cubic, stored_claims, stored_polys, stored_layers, stored_entries, stored_proof, no_rows, words_of_log}
+use Rattle.stored_writer.specs.Messages.{stored_cubic, stored_claims, stored_polys, stored_layers, stored_entries, words_of_log}
 
 -- PIECES
-module _ (l0 l1 l2 l3 l4 : List ℕ) (at a b c d : ℕ) where
-  pub element_form : (e : Ext) → Wrote l0 l1 at a (be4 e.c0) → Wrote l1 l2 a b (be4 e.c1) → Wrote l2 l3 b c (be4 e.c2) → Wrote l3 l4 c d (be4 e.c3)
-      → Wrote l0 l4 at d (bytes_of (ext_words e))
-  unfolding bytes_of
-  element_form e p q r s =
-      let x = wrote_then l0 l1 l2 at a b (be4 e.c0) (be4 e.c1) p q in
-      let y = wrote_then l0 l2 l3 at b c (be4 e.c0 ++ be4 e.c1) (be4 e.c2) x r in
-      wrote_then l0 l3 l4 at c d ((be4 e.c0 ++ be4 e.c1) ++ be4 e.c2) (be4 e.c3) y s
-
 module _ (l0 l1 l2 l3 : List ℕ) (at a b c : ℕ) (u v w : Ext) (p : Wrote l0 l1 at a (bytes_of (ext_words u))) (q : Wrote l1 l2 a b (bytes_of (ext_words v)))
     (r : Wrote l2 l3 b c (bytes_of (ext_words w))) where
   pub cubic_form : Wrote l0 l3 at c (bytes_of (cubic_words (record { at1 = u; at2 = v; at3 = w })))
@@ -51,10 +41,6 @@ module _ {l l' : List ℕ} {at a : ℕ} where
   pub element_ends : (e : Ext) → Wrote l l' at a (bytes_of (ext_words e)) → a ≡ at + 16
   unfolding bytes_of
   element_ends e w = w.ends
-
-  pub cubic_ends : (m : Cubic Ext) → Wrote l l' at a (bytes_of (cubic_words m)) → a ≡ at + 48
-  unfolding bytes_of
-  cubic_ends m w = w.ends
 
   pub claims_ends : (c : Claims Ext) → Wrote l l' at a (bytes_of (claim_words c)) → a ≡ at + 64
   unfolding bytes_of
@@ -82,9 +68,6 @@ pub polys_over : (lg : List ℕ) (i k : ℕ) → k ≡ 0 → bytes_of (cubics_wo
 unfolding cubics_words bytes_of
 polys_over lg i k e = ap (λ n. bytes_of (cubics_words (stored_polys lg i n))) e
 
-pub polys_whole : (lg : List ℕ) (i k : ℕ) → bytes_of (cubics_words (stored_polys lg (i + 4 * 0) (k - 0))) ≡ bytes_of (cubics_words (stored_polys lg i k))
-polys_whole lg i k = let d : i + 4 * 0 ≡ i = omega arith in let e : k - 0 ≡ k = omega arith in ap₂ (λ (x y : ℕ). bytes_of (cubics_words (stored_polys lg x y))) d e
-
 polys_count : (lg : List ℕ) (i k : ℕ) → length (stored_polys lg i k) ≡ k
 polys_count lg i zero = refl
 polys_count lg i (suc k) = ap suc (polys_count lg (i + 4) k)
@@ -93,14 +76,18 @@ pub polys_length : (lg : List ℕ) (i k : ℕ) → length (bytes_of (cubics_word
 polys_length lg i k = cubics_size (stored_polys lg i k) ∙ ap (λ n. 48 * n) (polys_count lg i k)
 
 -- LAYERS
+-- the cells of layer r are passed
+past : (c r : ℕ) → c + 6 + 4 * r ≡ c + (6 + 4 * r)
+past c r = omega arith
+
 pub layers_turn : (lg : List ℕ) (c r n : ℕ) → r < n
-    → bytes_of (claims_words (stored_layers lg c r (n - r))) ≡ bytes_of (claim_words (stored_claims lg (c + 1 + 4 * r))) ++ bytes_of (claims_words (stored_layers lg (c + 6 + 4 * r) (r + 1) (n - (r + 1))))
+    → bytes_of (claims_words (stored_layers lg c r (n - r))) ≡ bytes_of (claim_words (stored_claims lg (c + 1 + 4 * r))) ++ bytes_of (claims_words (stored_layers lg (c + (6 + 4 * r)) (r + 1) (n - (r + 1))))
 unfolding claims_words
 layers_turn lg c r n h =
     let e : n - r ≡ suc (n - (r + 1)) = omega arith in
     ap (λ k. bytes_of (claims_words (stored_layers lg c r k))) e
     ∙ bytes_append (claim_words (stored_claims lg (c + 1 + 4 * r))) (claims_words (stored_layers lg (c + 6 + 4 * r) (suc r) (n - (r + 1))))
-    ∙ ap (λ k. bytes_of (claim_words (stored_claims lg (c + 1 + 4 * r))) ++ bytes_of (claims_words (stored_layers lg (c + 6 + 4 * r) k (n - (r + 1))))) (sym (add-one r))
+    ∙ ap₂ (λ (d k : ℕ). bytes_of (claim_words (stored_claims lg (c + 1 + 4 * r))) ++ bytes_of (claims_words (stored_layers lg d k (n - (r + 1))))) (past c r) (sym (add-one r))
 
 pub layers_over : (lg : List ℕ) (c r k : ℕ) → k ≡ 0 → bytes_of (claims_words (stored_layers lg c r k)) ≡ []
 unfolding claims_words bytes_of
@@ -114,14 +101,14 @@ pub layers_length : (lg : List ℕ) (i r h : ℕ) → length (bytes_of (claims_w
 layers_length lg i r h = claims_size (stored_layers lg i r h) ∙ ap (λ n. 64 * n) (layers_count lg i r h)
 
 pub entries_turn : (lg : List ℕ) (c r n : ℕ) → r < n
-    → entries_bytes (stored_entries lg c r (n - r)) ≡ (r ∷ bytes_of (cubics_words (stored_polys lg (c + 1) r))) ++ entries_bytes (stored_entries lg (c + 6 + 4 * r) (r + 1) (n - (r + 1)))
+    → entries_bytes (stored_entries lg c r (n - r)) ≡ (r ∷ bytes_of (cubics_words (stored_polys lg (c + 1) r))) ++ entries_bytes (stored_entries lg (c + (6 + 4 * r)) (r + 1) (n - (r + 1)))
 unfolding entries_bytes
 entries_turn lg c r n h =
     let e : n - r ≡ suc (n - (r + 1)) = omega arith in
     let R = entries_bytes (stored_entries lg (c + 6 + 4 * r) (suc r) (n - (r + 1))) in
     ap (λ k. entries_bytes (stored_entries lg c r k)) e
     ∙ ap (λ k. k ∷ (bytes_of (cubics_words (stored_polys lg (c + 1) r)) ++ R)) (polys_count lg (c + 1) r)
-    ∙ ap (λ k. (r ∷ bytes_of (cubics_words (stored_polys lg (c + 1) r))) ++ entries_bytes (stored_entries lg (c + 6 + 4 * r) k (n - (r + 1)))) (sym (add-one r))
+    ∙ ap₂ (λ (d k : ℕ). (r ∷ bytes_of (cubics_words (stored_polys lg (c + 1) r))) ++ entries_bytes (stored_entries lg d k (n - (r + 1)))) (past c r) (sym (add-one r))
 
 pub entries_over : (lg : List ℕ) (c r k : ℕ) → k ≡ 0 → entries_bytes (stored_entries lg c r k) ≡ []
 unfolding entries_bytes
@@ -129,7 +116,7 @@ entries_over lg c r k e = ap (λ n. entries_bytes (stored_entries lg c r n)) e
 
 pub entries_takes : (lg : List ℕ) (c r n : ℕ) → r < n → 48 * r + 1 ≤ length (entries_bytes (stored_entries lg c r (n - r)))
 entries_takes lg c r n h =
-    let R = entries_bytes (stored_entries lg (c + 6 + 4 * r) (r + 1) (n - (r + 1))) in
+    let R = entries_bytes (stored_entries lg (c + (6 + 4 * r)) (r + 1) (n - (r + 1))) in
     let p = bytes_of (cubics_words (stored_polys lg (c + 1) r)) in
     omega (arith, ap length (entries_turn lg c r n h) ∙ length-append (r ∷ p) R, polys_length lg (c + 1) r)
 
@@ -143,11 +130,11 @@ entries_count lg i r zero = refl
 entries_count lg i r (suc h) = ap suc (entries_count lg (i + 6 + 4 * r) (suc r) h)
 
 -- the cell at which layer r starts
-pub cell_next : (c i r : ℕ) → 4 * c + words_of_log 1 ≡ 4 * i + words_of_log r → 4 * (c + 6 + 4 * r) + words_of_log 1 ≡ 4 * i + words_of_log (r + 1)
+pub cell_next : (c i r : ℕ) → 4 * c + words_of_log 1 ≡ 4 * i + words_of_log r → 4 * (c + (6 + 4 * r)) + words_of_log 1 ≡ 4 * i + words_of_log (r + 1)
 cell_next c i r e = omega (arith, e)
 
 pub log_room_fits : (r n : ℕ) → r < n → words_of_log (suc r) ≤ words_of_log n
 log_room_fits r n h = let l : suc r ≤ n = h in let m : suc r * suc r ≤ n * n = mul-le-mul l l in omega (arith, m)
 
-pub cell_room : (c i r n l : ℕ) → r < n → 4 * c + words_of_log 1 ≡ 4 * i + words_of_log r → 4 * i + words_of_log n ≤ l + words_of_log 1 → 4 * (c + 6 + 4 * r) ≤ l
+pub cell_room : (c i r n l : ℕ) → r < n → 4 * c + words_of_log 1 ≡ 4 * i + words_of_log r → 4 * i + words_of_log n ≤ l + words_of_log 1 → 4 * (c + (6 + 4 * r)) ≤ l
 cell_room c i r n l h e u = omega (arith, e, u, log_room_fits r n h)

@@ -1,35 +1,24 @@
 -- The whole proof, put together from the header, the front and the back; and the proof of no rows.
 -- Assumes nothing.
-use mathlib.Core.Path.{◌≡◌, refl, sym, ◌∙◌, ap, ap₂, subst}
+use mathlib.Core.Path.{◌≡◌, sym, ◌∙◌, ap, ap₂, subst}
 use mathlib.Core.Bool.{Bool, false}
 use mathlib.Core.List.{List, [], ◌∷◌, ◌++◌, append_assoc}
-use Prim.Native.Nat.{ℕ, zero, suc, ◌+◌, ◌*◌, ◌-◌, ◌%◌, ◌<◌, ◌≤◌}
-use native.Mathlib.Nat.{mul-le-mul}
-use native.Mathlib.Numerals.{add-one}
+use Prim.Native.Nat.{ℕ, suc, ◌+◌, ◌*◌, ◌-◌, ◌≤◌}
 use native.Mathlib.Omega.{arith}
-use lib.ListN.{length, get_or, drop, length-append}
+use lib.ListN.{length, drop, length-append}
 use Rattle.field.specs.Base.{of, one, nil}
 use Rattle.field.specs.Ext as E
 use Rattle.field.specs.Element.{enc}
 use Rattle.field.specs.Cells.{cell}
-use Rattle.field.specs.declared.Ext.{Ext}
 use Rattle.wire.specs.Bytes.{be4, bytes_of}
 use Rattle.wire.specs.Words.{ext_words}
 use Rattle.wire.specs.Written.{Wrote}
 use Rattle.wire.specs.WrittenLaws.{wrote_then, wrote_front}
-use Rattle.wire.proofs.ByteLaws.{bytes_append}
-use Rattle.stored.specs.Layout.{cubic_words, claim_words, cubics_words, claims_words, entries_bytes, body, version_of, layout}
-use Rattle.stored.specs.Lengths.{up_from, lengths, Rounds, proof_size}
+use Rattle.stored.specs.Layout.{claim_words, claims_words, entries_bytes, body, version_of, layout}
+use Rattle.stored.specs.Lengths.{Rounds, proof_size}
 use Rattle.stored.proofs.Lengths.{rounds_size}
-use Rattle.stored.proofs.RoundTrip.{claims_size, cubics_size}
-use Rattle.stored_writer.specs.Messages.{stored_cubic, stored_claims, stored_polys, stored_layers, stored_entries, stored_proof, no_rows, words_of_log}
+use Rattle.stored_writer.specs.Messages.{stored_claims, stored_layers, stored_entries, stored_proof, no_rows}
 use Rattle.stored_writer.proofs.PutLaws.{layers_count, layers_length, entries_shape, entries_count}
-
-pub header_form : (l0 l1 l2 : List ℕ) (a b x v s : ℕ) → x ≡ v → Wrote l0 l1 0 a (x ∷ []) → Wrote l1 l2 a b (be4 s) → Wrote l0 l2 0 b (v ∷ be4 s)
-header_form l0 l1 l2 a b x v s e p q = subst (λ k. Wrote l0 l2 0 b (k ∷ be4 s)) e (wrote_then l0 l1 l2 0 a b (x ∷ []) (be4 s) p q)
-
-pub square_most : (n : ℕ) → 1 ≤ n → n < 256 → n * (n - 1) ≤ 64770
-square_most n g h = let a : n ≤ 255 = omega arith in let b : n - 1 ≤ 254 = omega arith in mul-le-mul a b
 
 module _ (lg : List ℕ) (i n : ℕ) where
   abbrev pub front : List ℕ

@@ -11,16 +11,13 @@ ghost use Rattle.stored.specs.Layout.{cubic_words, claim_words, cubics_words, cl
 ghost use Rattle.stored.specs.Lengths.{proof_size};
 ghost use Rattle.stored_writer.specs.Messages.{stored_cubic, stored_claims, stored_polys, stored_layers, stored_entries, stored_proof, no_rows, words_of_log};
 
-use field::{Base, Ext};
+use field::{Base, Ext, Field};
 
 fn put_element(out: &mut [u8], at: usize, e: Ext) -> usize
     requires { at + 16 ≤ length out.old }
     ensures { Wrote out.old out.new at result (bytes_of (ext_words e)) }
 {
-    let a = wire::put_word(out, at, e.c0);
-    let b = wire::put_word(out, a, e.c1);
-    let c = wire::put_word(out, b, e.c2);
-    wire::put_word(out, c, e.c3)
+    wire::put_words(out, at, &[e.c0, e.c1, e.c2, e.c3])
 }
 
 // Cell i of the log, each word by its remainder.
@@ -87,7 +84,7 @@ fn put_layers(out: &mut [u8], at: usize, log: &[u32], i: usize, n: usize) -> usi
     let mut c = i;
     for r in 1..n {
         p = put_claims(out, p, log, c + 1 + 4 * r);
-        c = c + 6 + 4 * r;
+        c += 6 + 4 * r;
     }
     p
 }
@@ -101,7 +98,7 @@ fn put_entries(out: &mut [u8], at: usize, log: &[u32], i: usize, n: usize) -> us
     let mut c = i;
     for r in 1..n {
         p = put_entry(out, p, log, c + 1, r);
-        c = c + 6 + 4 * r;
+        c += 6 + 4 * r;
     }
     p
 }
@@ -119,10 +116,7 @@ fn body_size(n: usize) -> u32
 fn version(sized: bool) -> u8
     ensures { result ≡ version_of sized }
 {
-    if sized {
-        return 2;
-    }
-    1
+    if sized { 2 } else { 1 }
 }
 
 // The version, and the length of what follows.

@@ -1,24 +1,19 @@
 -- A drawn challenge: four words, each drawn over the log that holds the one before.
 -- Assumes nothing.
-use mathlib.Core.Path.{◌≡◌, refl, sym, ◌∙◌, ap, subst}
+use mathlib.Core.Path.{◌≡◌, sym, ◌∙◌, ap, subst}
 use mathlib.Core.List.{List, [], ◌∷◌, ◌++◌}
 use Prim.Native.Nat.{ℕ, suc, ◌+◌, ◌<◌, ◌≤◌}
 use native.Mathlib.Omega.{arith}
-use lib.ListN.{length, get_or, take, set, length-set}
+use lib.ListN.{length, take, set, length-set}
 use lib.Seq.{take-suc-set}
 use Rattle.field.specs.Cells.{cell}
 use Rattle.field.specs.Element.{Is}
 use Rattle.gkr.specs.Transcripts.{mark}
-use Rattle.keccak.specs.declared.Lanes.{Lanes}
-use Rattle.keccak.specs.Values.{values}
-use Rattle.keccak.specs.State.{as_list, lanes_of}
-use Rattle.keccak.specs.StateLaws.{lanes_read}
-use Rattle.shake.specs.Drawn.{message, drawn, Holds}
+use Rattle.shake.specs.Drawn.{message, Holds}
 use Rattle.shake.proofs.SpongeLaws.{holds_grown}
-use Rattle.transcript.specs.declared.Pos.{Pos}
 use Rattle.transcript.specs.declared.DrawnWord.{DrawnWord}
 use Rattle.transcript.specs.Source.{label, drawn_words, drawn_source}
-use Rattle.transcript.specs.Log.{Drawing, log_of, sponge_of, Steps, WordDrawn}
+use Rattle.transcript.specs.Log.{Drawing, State, Steps, WordDrawn, log_of}
 use Rattle.transcript.proofs.Logs.{four, sampled}
 
 -- ---- one word: the log with it, and its sponge
@@ -40,16 +35,15 @@ module _ {l l' : List ℕ} {put : ℕ} {r : DrawnWord} (w : WordDrawn l l' put r
   first_of k n e h =
       (λ i. sym w.word i ∷ drawn_words k (take put l ++ (mark (sym w.word i) ∷ []))) ∙ ap (λ (u : List ℕ). r.word ∷ drawn_words k u) (sym (log_with n e h))
 
--- the sponge that is read from its lanes
-pub loaded_holds : (ls : List ℕ) (pos : Pos) {s : Lanes} {m : List ℕ} → as_list s ≡ values (λ i. get_or ls i 0) 0 25 → Holds (sponge_of ls pos) m → Holds (record { lanes = s; blocks = pos.blocks }) m
-loaded_holds ls pos {s} {m} e h = subst (λ (t : Lanes). Holds (record { lanes = t; blocks = pos.blocks }) m) (sym (lanes_read ls e)) h
-
 -- ---- four words
 
-module _ (l l₁ l₂ l₃ l₄ : List ℕ) (pos : Pos) (a b c d : DrawnWord) (h : pos.put + 4 ≤ length l)
-    (wa : WordDrawn l l₁ pos.put a) (wb : WordDrawn l₁ l₂ (pos.put + 1) b) (wc : WordDrawn l₂ l₃ (pos.put + 2) c) (wd : WordDrawn l₃ l₄ (pos.put + 3) d) where
+module _ (s : State) {l₁ l₂ l₃ l₄ : List ℕ} {a b c d : DrawnWord} (h : s.put + 4 ≤ length s.buffer)
+    (wa : WordDrawn s.buffer l₁ s.put a) (wb : WordDrawn l₁ l₂ (s.put + 1) b) (wc : WordDrawn l₂ l₃ (s.put + 2) c) (wd : WordDrawn l₃ l₄ (s.put + 3) d) where
   abbrev put : ℕ
-  put = pos.put
+  put = s.put
+
+  abbrev l : List ℕ
+  l = s.buffer
 
   len₁ : length l₁ ≡ length l
   len₁ = length_with wa
@@ -68,7 +62,7 @@ module _ (l l₁ l₂ l₃ l₄ : List ℕ) (pos : Pos) (a b c d : DrawnWord) (h
       ∙ ap (λ (u : List ℕ). a.word ∷ b.word ∷ u) (first_of wc 1 (put + 3) (omega arith) (omega (arith, len₂)))
       ∙ ap (λ (u : List ℕ). a.word ∷ b.word ∷ c.word ∷ u) (first_of wd 0 (put + 4) (omega arith) (omega (arith, len₃)))
 
-  pub drawn_is : Is (record { c0 = a.word; c1 = b.word; c2 = c.word; c3 = d.word }) (drawn_source (log_of l pos))
+  pub drawn_is : Is (record { c0 = a.word; c1 = b.word; c2 = c.word; c3 = d.word }) (drawn_source (log_of s))
   unfolding cell
   drawn_is = record {
     canon = record { c0 = wa.below; c1 = wb.below; c2 = wc.below; c3 = wd.below };
@@ -81,14 +75,11 @@ module _ (l l₁ l₂ l₃ l₄ : List ℕ) (pos : Pos) (a b c d : DrawnWord) (h
       ∙ ap (λ (u : List ℕ). set u (put + 3) (mark d.word))
       (wc.log ∙ ap (λ (u : List ℕ). set u (put + 2) (mark c.word)) (wb.log ∙ ap (λ (u : List ℕ). set u (put + 1) (mark b.word)) wa.log))
 
-  -- the lanes that the sponge of the last word is left in
-  pub drawn_steps : (ls ls' : List ℕ) → ls' ≡ as_list d.sponge.lanes
-      → Steps l l₄ ls ls' pos (record { put = put + 4; used = pos.used + 1; drawn = pos.drawn; blocks = d.sponge.blocks }) 4 1 ((Drawing drawn_source).drawn (log_of l pos))
-  drawn_steps ls ls' e =
+  -- the state with the sponge of the last word
+  pub drawn_steps : Steps s (record { buffer = l₄; put = put + 4; used = s.used + 1; sponge = d.sponge; drawn = s.drawn; challenges = s.challenges }) 4 1 ((Drawing drawn_source).drawn (log_of s))
+  drawn_steps =
       subst
-      (λ (u : List ℕ). Steps l u ls ls' pos (record { put = put + 4; used = pos.used + 1; drawn = pos.drawn; blocks = d.sponge.blocks }) 4 1 ((Drawing drawn_source).drawn (log_of l pos)))
+      (λ (u : List ℕ). Steps s (record { buffer = u; put = put + 4; used = s.used + 1; sponge = d.sponge; drawn = s.drawn; challenges = s.challenges }) 4 1 ((Drawing drawn_source).drawn (log_of s)))
       (sym logged)
-      (sampled l ls ls' drawn_source pos (record { c0 = a.word; c1 = b.word; c2 = c.word; c3 = d.word }) d.sponge.blocks h drawn_is
-      (λ k.
-      subst (λ (u : List ℕ). Holds (record { lanes = lanes_of u; blocks = d.sponge.blocks }) (message label (take (put + 4) (four l put (mark a.word) (mark b.word) (mark c.word) (mark d.word))))) (sym e)
-      (subst (λ (u : List ℕ). Holds d.sponge (message label (take (put + 4) u))) logged (holds_with wd (put + 4) (omega arith) (omega (arith, len₃))))))
+      (sampled s drawn_source (record { c0 = a.word; c1 = b.word; c2 = c.word; c3 = d.word }) d.sponge h drawn_is
+      (λ k. subst (λ (u : List ℕ). Holds d.sponge (message label (take (put + 4) u))) logged (holds_with wd (put + 4) (omega arith) (omega (arith, len₃)))))

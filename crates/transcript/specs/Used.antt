@@ -2,7 +2,7 @@
 -- Assumes nothing.
 use Rattle.std.specs.Prelude.{ℕ, length}
 use Rattle.gkr.specs.Transcripts.{Words}
-use Rattle.transcript.specs.declared.Pos.{Pos}
+use Rattle.transcript.specs.Log.{State}
 use Rattle.transcript.specs.declared.Used.{Used}
 
 abbrev pub used : (challenges words : ℕ) → Used
@@ -15,6 +15,6 @@ used_up t = used t.used (length t.log)
 abbrev pub unused : Used
 unused = used 0 0
 
--- at a position
-abbrev pub used_at : Pos → Used
-used_at pos = used pos.used pos.put
+-- at a state
+abbrev pub used_at : State → Used
+used_at s = used s.used s.put

@@ -1,11 +1,11 @@
 -- No word of an element is taken for a sampled one: it is below the prime, and its top bit is not set.
 -- Assumes nothing.
-use Rattle.std.specs.Prelude.{◌≡◌, refl, false, cond, List, [], ◌∷◌, ℕ, ◌<◌, ◌^◌, leb}
+use Rattle.std.specs.Prelude.{◌≡◌, cond, List, [], ◌∷◌, ℕ, ◌<◌, ◌^◌}
 use Rattle.std.proofs.Common.{ap, ◌∙◌, arith}
 use Rattle.std.proofs.lemmas.Bool.{lt-leb}
 use Rattle.field.specs.Base.{P}
 use Rattle.field.specs.Ext as E
-use Rattle.field.specs.Element.{words, enc}
+use Rattle.field.specs.Element.{words}
 use Rattle.field.specs.ElementLaws.{canon_enc}
 use Rattle.gkr.specs.TranscriptLaws.{sampled_words}
 

@@ -1,5 +1,6 @@
 -- What an accepted verdict says, from the soundness of the model; live mode by its refusal 27, and the rows by their evaluation.
 -- Assumes nothing.
+use Rattle.std.specs.Prelude.{Ok}
 use mathlib.Core.Path.{◌≡◌, refl, sym, ◌∙◌, ap, subst}
 use mathlib.Core.Bool.{true, false, cond}
 use mathlib.Core.Logic.{◌⊎◌}
@@ -10,7 +11,6 @@ use lib.ListN.{length, drop, length-map}
 use Rattle.field.specs.Ext as E
 use Rattle.field.specs.Extension.{Extension}
 use Rattle.field.specs.Element.{words}
-use Rattle.field.specs.declared.Ext.{Ext}
 use Rattle.gkr.specs.Run.{Frac, Proof}
 use Rattle.gkr.specs.Transcripts.{mark, Words, Source}
 use Rattle.gkr.specs.Gkr as Gkr
@@ -30,7 +30,7 @@ use Rattle.refusal.specs.Fronts.{over}
 use Rattle.refusal.specs.declared.Refusal.TheVariants.{ZeroRoot}
 use Rattle.stored.specs.Parse.{count_of_layers, count_of_entries, sized, proof_of}
 use Rattle.stored.specs.ParseLaws.{claims_count, entries_count}
-use Rattle.verifier_round.specs.declared.Verdict.TheVariants.{Accepted}
+use Rattle.verifier_round.specs.declared.Claims.{Claims}
 use Rattle.verifier_round.specs.Verdicts.{Model, logged_by}
 use Rattle.verifier.specs.Verified.{Asked, Lent, source_of, verified}
 use Rattle.verifier.specs.Companions.{in_mode, ZeroRooted}
@@ -94,7 +94,7 @@ drawn_says : (a : Asked) (b : Lent) (f : ℕ → Frac E.Ext) → Matches a b f �
 unfolding read_table
 drawn_says a b f h =
     onto_right (run_drawn (source_of a) (stated a) (begun a) f a.rounds _ (bound_words (sized a.proof) a.rounds) (run_accepts a b f h))
-    (λ k. (k.0, subst (DrewAt (source_of a) k.0) (sym (log_left a b h.0 _ _ h.1)) (drew_over (source_of a) k.0 _ b.log k.1), k.2))
+    (λ k. (k.0, subst (DrewAt (source_of a) k.0) (sym (log_left a b h.0 _ h.1)) (drew_over (source_of a) k.0 _ b.log k.1), k.2))
 
 -- LIVE
 
@@ -107,15 +107,15 @@ counts a b f h =
     )
 
 -- with q0 zero it were refused by 27
-not_zero_rooted : (a : Asked) (b : Lent) (p q : Ext) → a.modes.live ≡ true → (verified a b).answer ≡ Accepted p q → ¬ ZeroRooted a
-not_zero_rooted a b p q l h z =
-    let live = subst (λ x. (verified (in_mode x a) b).answer ≡ Accepted p q) l h in
-    let same = (live_verifying a b).equal (λ e. not_accepted ZeroRoot p q (sym e ∙ live)) in
-    let passes = opened (in_mode false a) b p q (sym (ap (λ o. o.answer) same) ∙ live) in
-    not_accepted ZeroRoot p q (sym ((live_verifying a b).given.1 (passes, z)) ∙ live)
+not_zero_rooted : (a : Asked) (b : Lent) (c : Claims) → a.modes.live ≡ true → (verified a b).answer ≡ Ok c → ¬ ZeroRooted a
+not_zero_rooted a b c l h z =
+    let live = subst (λ x. (verified (in_mode x a) b).answer ≡ Ok c) l h in
+    let same = (live_verifying a b).equal (λ e. not_accepted ZeroRoot c (sym e ∙ live)) in
+    let passes = opened (in_mode false a) b c (sym (ap (λ o. o.answer) same) ∙ live) in
+    not_accepted ZeroRoot c (sym ((live_verifying a b).given.1 (passes, z)) ∙ live)
 
 q0_not_zero : (a : Asked) (b : Lent) (f : ℕ → Frac E.Ext) → a.modes.live ≡ true → Matches a b f → ¬ ((stated a).q0 ≡ E.nil)
-q0_not_zero a b f l h z = let c = counts a b f h in not_zero_rooted a b _ _ l h.1 (record { some = h.0; layers = c.0; entries = c.1; q0 = z })
+q0_not_zero a b f l h z = let c = counts a b f h in not_zero_rooted a b _ l h.1 (record { some = h.0; layers = c.0; entries = c.1; q0 = z })
 
 pub accepted_live : AcceptedLive
 accepted_live a b f l h = onto (accepted_sound a b f h) (live_rows f a.rounds (stated a).q0 (q0_not_zero a b f l h))

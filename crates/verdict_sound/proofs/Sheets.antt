@@ -1,6 +1,7 @@
 -- A sheet whose evaluation at the point written gives both claims: the claims are the values of its rows.
 -- Assumes nothing.
-use mathlib.Core.Path.{◌≡◌, refl, sym, ◌∙◌, ap, ap₂, subst}
+use Rattle.std.specs.Prelude.{Result, Ok, Err}
+use mathlib.Core.Path.{◌≡◌, refl, sym, ◌∙◌, ap, subst}
 use mathlib.Core.Bool.{Bool, true, false, cond}
 use mathlib.Core.List.{List}
 use mathlib.Core.Logic.{◌⊎◌}
@@ -27,24 +28,28 @@ use Rattle.refusal.specs.TestLaws.{passed_all}
 use Rattle.sizes.specs.Sizes.{row_count, rounds_of, is_size}
 use Rattle.sizes.specs.SizeLaws.{some_size}
 use Rattle.prover_tree.specs.Nodes.{node}
-use Rattle.verifier_round.specs.declared.Verdict.TheVariants.{Accepted}
 use Rattle.verifier.specs.Verified.{Asked, Lent, verified}
-use Rattle.evaluation.specs.declared.Evaluation.TheVariants.{Done}
-use Rattle.evaluation.specs.declared.Evaluation.TheVariants as Ends
+use Rattle.evaluation.specs.declared.Values.{Values}
 use Rattle.evaluation.specs.Evaluated.{told, tests, valued, evaluated}
 use Rattle.verdict_sound.specs.Says.{Unlucky, BadInLog, Checked, SheetMatches, SheetSound, SheetLive}
 use Rattle.verdict_sound.proofs.Saying.{accepted_sound, accepted_live, drawn_sound}
 
 -- WHAT AN EVALUATION ANSWERS
 
-pub not_done : (n : ℕ) (p q : Ext) (r : Refusal) → Ends.Refused r ≡ Done n p q → ⊥
+abbrev pub done : ℕ → Ext → Ext → Result Values Refusal
+done n p q = Ok (record { rounds = n; numer = p; denom = q })
+
+pub not_done : (n : ℕ) (p q : Ext) (r : Refusal) → Err r ≡ done n p q → ⊥
 not_done n p q r h = let z : ◌≡◌ {A = ℕ} 0 1 = cc in omega arith
 
-pub rounds_told : (k n : ℕ) (v : Frac E.Ext) (p q : Ext) → told k v ≡ Done n p q → k ≡ n
-rounds_told k n v p q h = cc
+same_values : {a b : Values} → ◌≡◌ {A = Result Values Refusal} (Ok a) (Ok b) → a ≡ b
+same_values h = cc
 
-values_told : (k n : ℕ) (v : Frac E.Ext) (p q : Ext) → told k v ≡ Done n p q → (p ≡ enc v.p) × (q ≡ enc v.q)
-values_told k n v p q h = let x : enc v.p ≡ p = cc in let y : enc v.q ≡ q = cc in (sym x, sym y)
+pub rounds_told : (k n : ℕ) (v : Frac E.Ext) (p q : Ext) → told k v ≡ done n p q → k ≡ n
+rounds_told k n v p q h = ap (λ (x : Values). x.rounds) (same_values h)
+
+values_told : (k n : ℕ) (v : Frac E.Ext) (p q : Ext) → told k v ≡ done n p q → (p ≡ enc v.p) × (q ≡ enc v.q)
+values_told k n v p q h = let e = sym (same_values h) in (ap (λ (x : Values). x.numer) e, ap (λ (x : Values). x.denom) e)
 
 -- done with some rounds: so many rows, and their values at the point
 record Valued (rows point : List ℕ) (n : ℕ) (p q : Ext) : Type 0 where
@@ -57,18 +62,18 @@ module _ (rows point : List ℕ) (n : ℕ) (p q : Ext) (some : ¬ (n ≡ 0)) whe
   k = rounds_of (row_count rows)
 
   by_rows : (b : Bool) → eqb (row_count rows) 0 ≡ b → is_size (row_count rows) ≡ true
-      → cond b (told 0 (record { p = E.nil; q = E.one })) (told k (Tree.value ExtRing (node rows) (cells point 0 k))) ≡ Done n p q → Valued rows point n p q
+      → cond b (told 0 (record { p = E.nil; q = E.one })) (told k (Tree.value ExtRing (node rows) (cells point 0 k))) ≡ done n p q → Valued rows point n p q
   by_rows true z s e = absurd (some (sym (rounds_told 0 n (record { p = E.nil; q = E.one }) p q e)))
   by_rows false z s e =
       let c = rounds_told k n (Tree.value ExtRing (node rows) (cells point 0 k)) p q e in
       let v = values_told k n (Tree.value ExtRing (node rows) (cells point 0 k)) p q e in
       subst (λ j. Valued rows point j p q) c (record { size = some_size (row_count rows) s (eqb-false _ _ z); numer = v.0; denom = v.1 })
 
-  by_tests : (w : Tested) → first_of (tests rows point) ≡ w → valued rows point w ≡ Done n p q → Valued rows point n p q
+  by_tests : (w : Tested) → first_of (tests rows point) ≡ w → valued rows point w ≡ done n p q → Valued rows point n p q
   by_tests (refused r) t e = absurd (not_done n p q r e)
   by_tests passed t e = by_rows (eqb (row_count rows) 0) refl (not-false _ (passed_all (tests rows point) t).1.1.0) e
 
-  evaluates : evaluated rows point ≡ Done n p q → Valued rows point n p q
+  evaluates : evaluated rows point ≡ done n p q → Valued rows point n p q
   unfolding evaluated
   evaluates e = by_tests (first_of (tests rows point)) refl e
 
@@ -84,7 +89,7 @@ sheet_matches a b rows c =
     let pt = (verified a b).buffers.point in
     let v = evaluates rows (take (point_words a.rounds) pt) a.rounds c.numer c.denom (λ e. none a.rounds e c.some) c.valued in
     let at = ap (Tree.value ExtRing (node rows)) (front_cells pt a.rounds) in
-    (v.size, (c.some, c.accepted ∙ ap₂ Accepted (v.numer ∙ ap (λ x. enc x.p) at) (v.denom ∙ ap (λ x. enc x.q) at)))
+    (v.size, (c.some, c.accepted ∙ (λ i. Ok (record { numer = (v.numer ∙ ap (λ x. enc x.p) at) i; denom = (v.denom ∙ ap (λ x. enc x.q) at) i }))))
 
 -- WHAT IT SAYS OF THE SHEET
 

@@ -1,6 +1,6 @@
 -- What an accepted verdict of verify_gkr says of the rows, when its claims are their values at the point that it wrote.
 -- Assumes nothing.
-use Rattle.std.specs.Prelude.{◌≡◌, Bool, true, List, ◌⊎◌, ℕ, ◌^◌, ◌≤◌, take}
+use Rattle.std.specs.Prelude.{◌≡◌, Ok, Bool, true, List, ◌⊎◌, ℕ, ◌^◌, ◌≤◌, take}
 use Rattle.field.specs.Ext as E
 use Rattle.field.specs.ExtRing.{ExtRing}
 use Rattle.field.specs.Extension.{Extension}
@@ -22,11 +22,9 @@ use Rattle.transcript.specs.Log.{Drawing}
 use Rattle.transcript.specs.Bound.{bound}
 use Rattle.stored.specs.Parse.{sized, proof_of}
 use Rattle.stored.specs.Elements.{decoded}
-use Rattle.verifier_round.specs.declared.Verdict.TheVariants.{Accepted}
 use Rattle.verifier.specs.Verified.{Asked, Lent, Outcome, source_of, verified}
 use Rattle.sizes.specs.Sizes.{row_count}
 use Rattle.prover_tree.specs.Nodes.{node}
-use Rattle.evaluation.specs.declared.Evaluation.TheVariants.{Done}
 use Rattle.evaluation.specs.Evaluated.{evaluated}
 
 -- the proof that stands in the bytes
@@ -35,7 +33,7 @@ stated a = decoded (proof_of a.proof)
 
 -- an outcome of n rounds: accepted, and the claims answered are the values of the rows f at the point written
 abbrev pub Tells : (n : ℕ) (o : Outcome) (f : ℕ → Frac E.Ext) → Type 0
-Tells n o f = let v = Tree.value ExtRing f (cells o.buffers.point 0 n) in o.answer ≡ Accepted (enc v.p) (enc v.q)
+Tells n o f = let v = Tree.value ExtRing f (cells o.buffers.point 0 n) in o.answer ≡ Ok (record { numer = enc v.p; denom = enc v.q })
 
 -- THE CALL, of one round or more, ACCEPTS with the values of the rows f
 abbrev pub Matches : (a : Asked) (b : Lent) (f : ℕ → Frac E.Ext) → Type 0
@@ -77,8 +75,8 @@ pub record Checked (a : Asked) (b : Lent) (rows : List ℕ) : Type 0 where
   pub some : 1 ≤ a.rounds
   pub numer : Ext
   pub denom : Ext
-  pub accepted : (verified a b).answer ≡ Accepted numer denom
-  pub valued : evaluated rows (take (point_words a.rounds) (verified a b).buffers.point) ≡ Done a.rounds numer denom
+  pub accepted : (verified a b).answer ≡ Ok (record { numer = numer; denom = denom })
+  pub valued : evaluated rows (take (point_words a.rounds) (verified a b).buffers.point) ≡ Ok (record { rounds = a.rounds; numer = numer; denom = denom })
 
 -- then there are 2 ^ rounds rows, and the claims are their values
 abbrev pub SheetMatches : Type 0

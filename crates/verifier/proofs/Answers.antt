@@ -1,5 +1,6 @@
 -- Which numbers are answered where no test is met, by no rounds and by a run; a refusal of another number is none of these.
 -- Assumes nothing.
+use Rattle.std.specs.Prelude.{Result, Err}
 use mathlib.Core.Path.{◌≡◌, refl, sym, ◌∙◌, ap}
 use mathlib.Core.Bool.{Bool, true, false, cond, ◌&&◌, ◌||◌, false≢true}
 use mathlib.Core.List.{List, [], ◌∷◌}
@@ -24,21 +25,20 @@ use Rattle.refusal.specs.declared.Refusal.{Refusal}
 use Rattle.refusal.specs.Numbers.{report_of}
 use Rattle.refusal.specs.Tests.{passed, first_of}
 use Rattle.refusal.specs.TestWays.{each_way}
-use Rattle.verifier_round.specs.declared.Verdict.{Verdict}
-use Rattle.verifier_round.specs.declared.Verdict.TheVariants.{Refused}
+use Rattle.verifier_round.specs.declared.Claims.{Claims as Claimed}
 use Rattle.verifier_round.specs.Report.{verdict_report}
 use Rattle.verifier_round.specs.Verdicts.{Model, answer_of}
 use Rattle.verifier.specs.Verified.{Asked, Outcome, source_of, empty_tests, emptied, fronts}
 
 -- two refusals of different numbers
-pub unlike : (e r : Refusal) → eqb (report_of e).number (report_of r).number ≡ false → ¬ (Refused e ≡ Refused r)
+pub unlike : (e r : Refusal) → eqb (report_of e).number (report_of r).number ≡ false → ¬ (◌≡◌ {A = Result Claimed Refusal} (Err e) (Err r))
 unlike e r h q = eqb-false _ _ h (ap (λ x. (verdict_report x).number) q)
 
 -- done, 14 to 19, and 22
 abbrev past : ℕ → Bool
 past k = eqb k 0 || eqb k 22 || leb 14 k && leb k 19
 
-abbrev Past : Verdict → Type 0
+abbrev Past : Result Claimed Refusal → Type 0
 Past v = past (verdict_report v).number ≡ true
 
 -- no rounds
@@ -104,5 +104,5 @@ past_answers : (a : Asked) → Past (fronts a passed).answer
 past_answers a = either (λ (o : Outcome). Past o.answer) (eqb a.rounds 0) _ _ (λ _. empty_answers a.proof) (λ h. run_answers (source_of a) a.rounds _ _ h)
 
 -- none of these is given where no test is met
-pub not_by_run : (a : Asked) (r : Refusal) → past (report_of r).number ≡ false → ¬ ((fronts a passed).answer ≡ Refused r)
+pub not_by_run : (a : Asked) (r : Refusal) → past (report_of r).number ≡ false → ¬ ((fronts a passed).answer ≡ Err r)
 not_by_run a r h q = false≢true (sym h ∙ ap (λ x. past (verdict_report x).number) (sym q) ∙ past_answers a)

@@ -1,29 +1,28 @@
 -- The two counts, and what the run asks once they are right.
 -- Assumes nothing.
+use Rattle.std.specs.Prelude.{Result, Err}
 use mathlib.Core.Path.{◌≡◌, refl, sym, ◌∙◌, ap, ap₂, subst}
 use mathlib.Core.Bool.{Bool, true, false, cond}
 use mathlib.Core.List.{List, [], ◌∷◌, ◌++◌, map}
-use Prim.Native.Nat.{ℕ, suc, ◌+◌, ◌*◌, ◌-◌, ◌<◌, ◌≤◌}
+use Prim.Native.Nat.{ℕ, suc, ◌+◌, ◌*◌, ◌-◌, ◌≤◌}
 use native.Mathlib.Omega.{arith}
 use borrow.Author.Tests.{eq-eqb, ne_eqb}
 use lib.Dec.{eqb}
-use lib.ListN.{length, take, drop, replicate}
-use Rattle.field.specs.Base.{P}
+use lib.ListN.{length, take, drop}
 use Rattle.field.specs.Ext as E
 use Rattle.field.specs.Extension.{Extension}
 use Rattle.field.specs.Element.{dec, Canon}
 use Rattle.multilinear.specs.RoundSum.{Claims}
 use Rattle.gkr.specs.Run.{Cubic, Proof}
 use Rattle.gkr.specs.Transcripts.{Words, empty, Source}
-use Rattle.gkr.specs.Count.{run_cost}
+use Rattle.gkr.specs.Count.{layers_cost, run_cost}
 use Rattle.gkr.proofs.Count.{words, draws}
 use Rattle.gkr.specs.Sizes.{challenges}
 use Rattle.gkr.specs.Gkr as Gkr
 use Rattle.gkr.specs.Gkr.{layer_count, poly_count}
-use Rattle.transcript.specs.declared.Pos.{Pos}
-use Rattle.transcript.specs.Log.{Drawing, log_of, Steps}
+use Rattle.transcript.specs.Log.{Drawing, Enough, State, Steps, log_of}
 use Rattle.transcript.specs.Bound.{bound}
-use Rattle.transcript.proofs.Logs.{nothing_taken}
+use Rattle.transcript.proofs.Logs.{no_steps, enough_after}
 use Rattle.refusal.specs.declared.Refusal.{Refusal}
 use Rattle.refusal.specs.declared.Refusal.TheVariants.{IncorrectLayerCount, IncorrectSumcheckPolyCount}
 use Rattle.sizes.specs.Sizes.{needed_words, log_room}
@@ -35,14 +34,13 @@ use Rattle.stored.specs.Layout.{claims_words, polys_words}
 use Rattle.stored.specs.Parse.{claims_of, claims_from, entries_from, entries_fit, sized, count_of_layers, count_of_entries, polys_at, proof_of}
 use Rattle.stored.specs.Elements.{decoded}
 use Rattle.stored.specs.ParseLaws.{Shaped, claims_count, entries_count, claims_step}
-use Rattle.verifier_round.specs.declared.Advance.{Advance}
-use Rattle.verifier_round.specs.declared.Advance.TheVariants.{Stopped}
-use Rattle.verifier_round.specs.declared.Verdict.TheVariants.{Refused}
+use Rattle.verifier_round.specs.declared.Claims.{Claims as Claimed}
 use Rattle.stored.specs.ReadWords.{CanonClaims}
 use Rattle.verifier_round.specs.Values.{dec_claims, dec_cubic}
 use Rattle.verifier_round.specs.Verdicts.{Model, answer_of, point_of, left_by}
 use Rattle.verifier_round.specs.Rounds.{Stops}
-use Rattle.verifier_rounds.specs.Runs.{Readable, RootSpace, Ends, RootEnd}
+use Rattle.verifier_round.proofs.Ends.{stops_there}
+use Rattle.verifier_rounds.specs.Runs.{Readable, RootEnd}
 use Rattle.verifier_rounds.proofs.Messages.{claim_first, claims_rest}
 use Rattle.verifier_rounds.proofs.RoundLaws.{map_length}
 use Rattle.verifier_rounds.proofs.StopLaws.{ended_before}
@@ -75,27 +73,18 @@ unfolding Gkr.counted
 both_right ch m q0 c cs mss t a e = rw (eq-eqb (length cs) m a, eq-eqb (length mss) m e)
 
 -- at a start
-log_empty : (lg : List ℕ) (pos : Pos) → Starts pos → log_of lg pos ≡ empty
-log_empty lg pos st = λ i. record { log = take (st.put i) lg; used = st.used i }
+log_empty : {t : State} → Starts t → log_of t ≡ empty
+log_empty {t} st = λ i. record { log = take (st.put i) t.buffer; used = st.used i }
 
 -- a refusal that leaves all as it was
-stops_first : (lg : List ℕ) (ch : Source E.Ext) (pos : Pos) (v w : Model ch) (e : Refusal) → Starts pos → v ≡ w → answer_of ch w ≡ Refused e → point_of ch w ≡ [] → left_by ch w ≡ empty → Stops lg lg ch pos v e pos
-stops_first lg ch pos v w e st q a b c =
-    record {
-      answer = ap (answer_of ch) q ∙ a;
-      point = ap (point_of ch) q ∙ b;
-      more = omega arith;
-      room = omega (arith, st.put);
-      drawn = refl;
-      log = log_empty lg pos st ∙ sym c ∙ ap (left_by ch) (sym q);
-      rest = refl;
-    }
+stops_first : (t : State) (ch : Source E.Ext) (v w : Model ch) (e : Refusal) → Starts t → v ≡ w → answer_of ch w ≡ Err e → point_of ch w ≡ [] → left_by ch w ≡ empty → Stops t t ch v e
+stops_first t ch v w e st q a b c = stops_there ch v w e (no_steps t) (omega (arith, st.put)) q a b (c ∙ sym (log_empty st))
 
 -- the size is observed where the proof binds it
-abbrev pub Begins : (lg lg₁ ls : List ℕ) (pos start : Pos) (size : Bool) (n : ℕ) → Type 0
-Begins lg lg₁ ls pos start size n = Steps lg lg₁ ls ls pos start (cond size 4 0) 0 (bound size n (log_of lg pos))
+abbrev pub Begins : (t t₁ : State) (size : Bool) (n : ℕ) → Type 0
+Begins t t₁ size n = Steps t t₁ (cond size 4 0) 0 (bound size n (log_of t))
 
-module _ (bs lg : List ℕ) (ch : Source E.Ext) (n : ℕ) (o : Outline) (some : 1 ≤ n) (s : Shaped bs o) (pos : Pos) (st : Starts pos) where
+module _ (bs : List ℕ) (t : State) (ch : Source E.Ext) (n : ℕ) (o : Outline) (some : 1 ≤ n) (s : Shaped bs o) (st : Starts t) where
   abbrev m : ℕ
   m = n - 1
 
@@ -112,9 +101,9 @@ module _ (bs lg : List ℕ) (ch : Source E.Ext) (n : ℕ) (o : Outline) (some : 
   polys_long : length (map (map dec_cubic) (entries_from (count_of_entries bs) (drop (polys_at bs) bs))) ≡ o.entries
   polys_long = map_length (map dec_cubic) (entries_from (count_of_entries bs) (drop (polys_at bs) bs)) ∙ entries_count (count_of_entries bs) (drop (polys_at bs) bs) ∙ sym s.entries
 
-  pub layers_stop : (pt' : List ℕ) → (o.layers ≡ n → ⊥) → Counted bs pt' lg lg ch n pos (Stopped (IncorrectLayerCount n o.layers) pos)
+  pub layers_stop : (pt' : List ℕ) → (o.layers ≡ n → ⊥) → Counted bs pt' t t ch n (Err (IncorrectLayerCount n o.layers))
   layers_stop pt' h =
-      stops_first lg ch pos _ (layer_count n o.layers) _ st
+      stops_first t ch _ (layer_count n o.layers) _ st
       (verify_counted ch n m (decoded (proof_of bs)) begun n_is ∙ layers_differ ch m o.layers _ _ _ begun claims_long (λ q. h (q ∙ sym n_is)) ∙ ap (λ k. layer_count k o.layers) (sym n_is)) refl refl refl
 
   module _ (a : o.layers ≡ n) where
@@ -128,9 +117,9 @@ module _ (bs lg : List ℕ) (ch : Source E.Ext) (n : ℕ) (o : Outline) (some : 
         (map (map dec_cubic) (entries_from (count_of_entries bs) (drop (polys_at bs) bs))) begun
     counted_is = verify_counted ch n m (decoded (proof_of bs)) begun n_is ∙ ap (λ cs. Gkr.counted Extension (Drawing ch) m (dec (elem (drop 5 bs))) cs (map (map dec_cubic) (entries_from (count_of_entries bs) (drop (polys_at bs) bs))) begun) first_claims
 
-    pub polys_stop : (pt' : List ℕ) (x : ℕ) → x ≡ m → (o.entries ≡ x → ⊥) → Counted bs pt' lg lg ch n pos (Stopped (IncorrectSumcheckPolyCount x o.entries) pos)
+    pub polys_stop : (pt' : List ℕ) (x : ℕ) → x ≡ m → (o.entries ≡ x → ⊥) → Counted bs pt' t t ch n (Err (IncorrectSumcheckPolyCount x o.entries))
     polys_stop pt' x e h =
-        stops_first lg ch pos _ (poly_count x o.entries) _ st
+        stops_first t ch _ (poly_count x o.entries) _ st
         (counted_is ∙ polys_differ ch m o.entries _ _ _ _ begun others_long polys_long (λ q. h (q ∙ sym e)) ∙ ap (λ k. poly_count k o.entries) (sym e)) refl refl refl
 
     module _ (b : o.entries ≡ m) where
@@ -144,42 +133,37 @@ module _ (bs lg : List ℕ) (ch : Source E.Ext) (n : ℕ) (o : Outline) (some : 
           (sym s.entries ∙ b) (sym s.polys)
 
       -- from where the size is observed, told from the start
-      pub root_counted : (pt' lg₁ lg' ls : List ℕ) (size : Bool) (start : Pos) (c : Source E.Ext) (r : Advance) → size ≡ sized bs → Begins lg lg₁ ls pos start size n → length lg₁ ≡ length lg → c ≡ ch
-          → RootEnd bs pt' lg₁ lg' c o.polys n start r → Counted bs pt' lg lg' ch n pos r
-      root_counted pt' lg₁ lg' ls size start c r z g l e h =
-          let t : begun ≡ log_of lg₁ start = ap₂ (λ z t. bound z n t) (sym z) (sym (log_empty lg pos st)) ∙ sym g.log in
-          ended_before lg lg₁ lg' ch pos start (omega (arith, g.put)) g.rest l pt' n (verdict bs n ch) (rooted (log_of lg₁ start)) r g.drawn (root_is ∙ ap rooted t)
-          (subst (λ x. RootEnd bs pt' lg₁ lg' x o.polys n start r) e h)
+      pub root_counted : (pt' : List ℕ) (t₁ t' : State) (size : Bool) {c : Source E.Ext} (r : Result Claimed Refusal) → size ≡ sized bs → Begins t t₁ size n → c ≡ ch → RootEnd bs pt' t₁ t' c o.polys n r → Counted bs pt' t t' ch n r
+      root_counted pt' t₁ t' size r z g e h =
+          let x : begun ≡ log_of t₁ = ap₂ (λ z u. bound z n u) (sym z) (sym (log_empty st)) ∙ sym g.log in
+          ended_before g t' pt' n r (root_is ∙ ap rooted x) (subst (λ d. RootEnd bs pt' t₁ t' d o.polys n r) e h)
 
 -- ---- what the run asks
-module _ (bs pt lg ch : List ℕ) (drawn : Bool) (n : ℕ) (o : Outline) (r : Ready bs pt lg ch drawn n o) where
+module _ {bs pt : List ℕ} {t : State} {n : ℕ} {o : Outline} (r : Ready bs pt t n o) where
   abbrev k : ℕ
   k = n - 1
 
   k_is : n ≡ suc k
   k_is = omega (arith, r.some)
 
-  -- the log has room for the size
-  pub ready_size : (pos : Pos) (size : Bool) → Starts pos → size ≡ sized bs → (pos.put + cond size 4 0 ≤ length lg) × (n < P)
-  ready_size pos size st z =
-      let e : log_room true (sized bs) n ≡ log_room true (sized bs) (suc k) = ap (log_room true (sized bs)) k_is in
-      (subst (λ s. pos.put + cond s 4 0 ≤ length lg) (sym z) (omega (arith, e, r.log_room_fits, st.put)), omega (arith, r.few))
-
-  -- and after it for the run
-  pub ready_space : (lg₁ : List ℕ) (pos start : Pos) (size : Bool) → pos.drawn ≡ drawn → Starts pos → size ≡ sized bs → Begins lg lg₁ (replicate 25 0) pos start size n → length lg₁ ≡ length lg
-      → RootSpace lg₁ (replicate 25 0) ch start k
+  -- the log has room for the run after the size
+  pub ready_room : {t₁ : State} {size : Bool} → Starts t → size ≡ sized bs → Begins t t₁ size n → t₁.put + 24 + layers_cost 4 4 k 1 ≤ length t₁.buffer
   unfolding run_cost
-  ready_space lg₁ pos start size p st z s l =
+  ready_room {size = size} st z s =
       let w = words k in
-      let d = draws k in
       let e : log_room true (sized bs) n ≡ log_room true (sized bs) (suc k) = ap (log_room true (sized bs)) k_is in
       let q : ◌≡◌ {A = ℕ} (cond size 4 0) (cond (sized bs) 4 0) = ap (λ b. cond b 4 0) z in
+      omega (arith, w, e, q, r.log_room_fits, st.put, s.put, s.room)
+
+  -- with all challenges of the run still to come
+  pub ready_enough : {t₁ : State} (size : Bool) → Starts t → Begins t t₁ size n → Enough t₁ (1 + layers_cost 0 1 k 1)
+  unfolding run_cost
+  ready_enough size st s =
       let f : challenges n ≡ challenges (suc k) = ap challenges k_is in
-      let g : start.drawn ≡ false → 4 * challenges n ≤ length ch = λ h. subst (λ b. needed_words b n ≤ length ch) (sym p ∙ sym s.drawn ∙ h) r.chals in
-      record {
-        put = omega (arith, w, e, q, r.log_room_fits, st.put, s.put, l);
-        enough = record { room = λ h. omega (arith, d, f, g h, st.used, s.used); clean = λ _. r.clean; counted = omega (arith, st.put, st.used, s.put, s.used); holds = s.holds (nothing_taken pos st.blocks _) };
-      }
+      let lot : t.drawn ≡ false → 4 * challenges n ≤ length t.challenges = λ h. subst (λ b. needed_words b n ≤ length t.challenges) h r.chals in
+      let all : Enough t (challenges n) =
+      record { room = λ h. omega (arith, lot h, st.used); clean = λ _. r.clean; counted = omega (arith, st.put, st.used); absorbed = st.holds _ } in
+      enough_after (challenges n) (omega arith) (omega (arith, draws k, f)) s all
 
   q0_part : all_canonical (ext_words (elem (drop 5 bs))) ≡ true
   q0_part = canonical_left (ext_words (elem (drop 5 bs))) (claims_words (proof_of bs).claims ++ polys_words (proof_of bs).polys) r.canon

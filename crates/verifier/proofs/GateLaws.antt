@@ -1,5 +1,6 @@
 -- Each way through the checks is the first test that is met, and where none is, what the run asks holds.
 -- Assumes nothing.
+use Rattle.std.specs.Prelude.{Result, Ok, Err, Some, None}
 use mathlib.Core.Path.{◌≡◌, refl, sym, ◌∙◌, ap, ap₂, subst}
 use mathlib.Core.Bool.{Bool, true, false, cond, not, ◌&&◌, ◌||◌, false≢true}
 use mathlib.Core.List.{List, ◌∷◌}
@@ -17,44 +18,40 @@ use Rattle.refusal.specs.declared.Words.TheVariants.{Proof as ProofWords, Challe
 use Rattle.refusal.specs.Tests.{Test, Tested, passed, refused, test, first_of}
 use Rattle.refusal.specs.TestLaws.{all_passed, passed_all}
 use Rattle.sizes.specs.Sizes.{needed_words, log_room}
-use Rattle.wire.specs.Words.{all_canonical, first_bad}
-use Rattle.wire.specs.WordLaws.{none_canonical, some_bad}
+use Rattle.wire.specs.Words.{all_canonical, first_bad, bad_place}
+use Rattle.wire.specs.PlaceLaws.{place_canonical, place_bad}
 use Rattle.stored.specs.declared.Outline.{Outline}
-use Rattle.stored.specs.declared.Shape.{Shape}
-use Rattle.stored.specs.declared.Shape.TheVariants.{Good, Refused}
 use Rattle.stored.specs.Shapes.{shape_of}
 use Rattle.stored.specs.Layout.{proof_words}
 use Rattle.stored.specs.Parse.{bad_version, bad_length, parsed, known, sized, fits, parse, proof_of}
 use Rattle.stored.specs.ParseLaws.{Reads, Shaped, good_shape, reads_fits}
-use Rattle.verifier.specs.declared.Gate.{Gate}
-use Rattle.verifier.specs.declared.Gate.TheVariants.{Open, Shut}
 use Rattle.verifier.specs.Verified.{Asked, needed, rootless, tests}
 use Rattle.verifier.specs.Gates.{words_gate, Opened, Gated}
 
--- ---- the words: of the proof so many, of which b is the first bad one; of the challenges c
-module _ (bs : List ℕ) (o : Outline) (needs : List ℕ) (b w : ℕ) (e : b ≡ first_bad (proof_words (proof_of bs))) (l : w ≡ length (proof_words (proof_of bs))) where
-  pub words_shut : b < w → Shut (BadWord b ProofWords) ≡ words_gate bs o needs
-  words_shut h = ap (λ x. Shut (BadWord x ProofWords)) e ∙ rw (some_bad (proof_words (proof_of bs)) (omega (arith, e, l)))
+-- ---- the words: of the proof, then of the challenges
+module _ (bs : List ℕ) (o : Outline) (needs : List ℕ) where
+  pub words_shut : (b : ℕ) → Some b ≡ bad_place (proof_words (proof_of bs)) → Err (BadWord b ProofWords) ≡ words_gate bs o needs
+  words_shut b e = let t = place_bad (proof_words (proof_of bs)) b e in ap (λ x. Err (BadWord x ProofWords)) t.0 ∙ rw t.1
 
-  module _ (h : w ≤ b) (c : ℕ) (f : c ≡ first_bad needs) where
+  module _ (e : None ≡ bad_place (proof_words (proof_of bs))) where
     good : all_canonical (proof_words (proof_of bs)) ≡ true
-    good = none_canonical (proof_words (proof_of bs)) (omega (arith, e, l))
+    good = place_canonical (proof_words (proof_of bs)) e
 
-    pub needs_shut : c < length needs → Shut (BadWord c Challenges) ≡ words_gate bs o needs
-    needs_shut k = ap (λ x. Shut (BadWord x Challenges)) f ∙ rw (good, some_bad needs (omega (arith, f)))
+    pub needs_shut : (c : ℕ) → Some c ≡ bad_place needs → Err (BadWord c Challenges) ≡ words_gate bs o needs
+    needs_shut c f = let t = place_bad needs c f in ap (λ x. Err (BadWord x Challenges)) t.0 ∙ rw (good, t.1)
 
-    pub words_open : length needs ≤ c → Open o ≡ words_gate bs o needs
-    words_open k = rw (good, none_canonical needs (omega (arith, f)))
+    pub words_open : None ≡ bad_place needs → Ok o ≡ words_gate bs o needs
+    words_open f = rw (good, place_canonical needs f)
 
 -- ---- the shape, of a version that is read
-shape_shut : (version fit size : Bool) (π : Proof Ext) (e : Refusal) (ts : List Test) → version ≡ true → Refused e ≡ shape_of (cond version (cond fit (parsed size π) bad_length) bad_version)
+shape_shut : (version fit size : Bool) (π : Proof Ext) (e : Refusal) (ts : List Test) → version ≡ true → Err e ≡ shape_of (cond version (cond fit (parsed size π) bad_length) bad_version)
     → first_of (test (not fit) BadLength ∷ ts) ≡ refused e
 unfolding first_of
 shape_shut false fit size π e ts v h = absurd (false≢true v)
 shape_shut true false size π e ts v h = let q : BadLength ≡ e = cc in ap refused q
 shape_shut true true size π e ts v h = absurd (let z : ◌≡◌ {A = ℕ} 0 1 = cc in omega arith)
 
-pub shaped_by : (bs : List ℕ) (r : Shape) (o : Outline) → r ≡ shape_of (parse bs) → r ≡ Good o → Shaped bs o
+pub shaped_by : (bs : List ℕ) (r : Result Outline Refusal) (o : Outline) → r ≡ shape_of (parse bs) → r ≡ Ok o → Shaped bs o
 shaped_by bs r o a b = good_shape bs o (sym b ∙ a)
 
 -- ---- the order
@@ -118,7 +115,7 @@ module _ (a : Asked) (points logs : ℕ) where
                 unfolding first_of
                 roomy = versioned ∙ rw (le-ltb points (4 * n) h5, le-ltb logs (log_room true (sized a.proof) n) (subst (λ m. m ≤ logs) room_is h6))
 
-                pub way_13 : (r : Shape) (e : Refusal) → r ≡ shape_of (parse a.proof) → r ≡ Refused e → way ≡ refused e
+                pub way_13 : (r : Result Outline Refusal) (e : Refusal) → r ≡ shape_of (parse a.proof) → r ≡ Err e → way ≡ refused e
                 unfolding parse
                 way_13 r e p q = roomy ∙ shape_shut (known a.proof) (fits a.proof) (sized a.proof) (proof_of a.proof) e (drop 6 (tests a points logs)) is_known (sym q ∙ p)
 
@@ -127,14 +124,14 @@ module _ (a : Asked) (points logs : ℕ) where
                   unfolding first_of
                   read = roomy ∙ rw (reads_fits a.proof s.reads)
 
-                  by_words : a.modes.live ≡ false → (x y : Bool) (g : Gate) → all_canonical (proof_words (proof_of a.proof)) ≡ x → all_canonical (needed a) ≡ y
-                      → g ≡ cond x (cond y (Open o) (Shut (BadWord (first_bad (needed a)) Challenges))) (Shut (BadWord (first_bad (proof_words (proof_of a.proof))) ProofWords)) → Gated a points logs g
+                  by_words : a.modes.live ≡ false → (x y : Bool) (g : Result Outline Refusal) → all_canonical (proof_words (proof_of a.proof)) ≡ x → all_canonical (needed a) ≡ y
+                      → g ≡ cond x (cond y (Ok o) (Err (BadWord (first_bad (needed a)) Challenges))) (Err (BadWord (first_bad (proof_words (proof_of a.proof))) ProofWords)) → Gated a points logs g
                   unfolding first_of
                   by_words m true true g p q e = subst (Gated a points logs) (sym e) (record { passes = read ∙ rw (p, q, m); shaped = s })
                   by_words m true false g p q e = subst (Gated a points logs) (sym e) (read ∙ rw (p, q))
                   by_words m false y g p q e = subst (Gated a points logs) (sym e) (read ∙ rw p)
 
-                  pub way_6 : a.modes.live ≡ false → (g : Gate) → g ≡ words_gate a.proof o (take k a.challenges) → Gated a points logs g
+                  pub way_6 : a.modes.live ≡ false → (g : Result Outline Refusal) → g ≡ words_gate a.proof o (take k a.challenges) → Gated a points logs g
                   way_6 m g e = by_words m (all_canonical (proof_words (proof_of a.proof))) (all_canonical (needed a)) g refl refl (e ∙ ap (λ m. words_gate a.proof o (take m a.challenges)) ke)
 
 -- ---- what holds where no test is met

@@ -1,5 +1,6 @@
 -- Isolation and what a refusal leaves, from what is laid at the fronts.
 -- Assumes nothing.
+use Rattle.std.specs.Prelude.{Result, Err}
 use mathlib.Core.Path.{◌≡◌, refl, sym, ap, ap₂}
 use Prim.Native.Nat.{ℕ, ◌≤◌}
 use native.Mathlib.Omega.{arith}
@@ -13,7 +14,7 @@ use Rattle.refusal.specs.declared.Refusal.{Refusal}
 use Rattle.refusal.specs.Numbers.{report_of}
 use Rattle.refusal.specs.Fronts.{over}
 use Rattle.refusal.specs.Tests.{Tested, passed, refused, first_of}
-use Rattle.verifier_round.specs.declared.Verdict.TheVariants.{Refused}
+use Rattle.verifier_round.specs.declared.Claims.{Claims}
 use Rattle.verifier_round.specs.Verdicts.{Model, left_by}
 use Rattle.verifier.specs.Verified.{Asked, Lent, lent, source_of, tests, ended, fronts, laid, verified}
 use Rattle.verifier.specs.Gates.{verdict}
@@ -29,7 +30,7 @@ isolation a b b' p l =
     }
 
 -- the number of a refusal that is told
-number : (e e' : Refusal) → Refused e ≡ Refused e' → (report_of e').number ≡ (report_of e).number
+number : (e e' : Refusal) → ◌≡◌ {A = Result Claims Refusal} (Err e) (Err e') → (report_of e').number ≡ (report_of e).number
 number e e' h = let q : e ≡ e' = cc in ap (λ x. (report_of x).number) (sym q)
 
 module _ (e : Refusal) where
@@ -41,7 +42,7 @@ module _ (e : Refusal) where
   run_number k h l m o = o (omega arith, omega arith)
 
   -- a run that is refused leaves an empty log, unless it is refused by 16 to 19
-  pub run_log : (ch : Source E.Ext) (v : Model ch) → (ended ch v).answer ≡ Refused e → Other → left_by ch v ≡ empty
+  pub run_log : (ch : Source E.Ext) (v : Model ch) → (ended ch v).answer ≡ Err e → Other → left_by ch v ≡ empty
   run_log ch (accepted x z t) h l = absurd (let z : ◌≡◌ {A = ℕ} 0 1 = cc in omega arith)
   run_log ch zero_rounds h l = refl
   run_log ch (layer_count expected actual) h l = refl
@@ -53,7 +54,7 @@ module _ (e : Refusal) where
 
 module _ (b : Lent) (e : Refusal) where
   -- and the point as it was
-  run_point : (ch : Source E.Ext) (v : Model ch) → (ended ch v).answer ≡ Refused e → (laid (ended ch v) b).buffers.point ≡ b.point
+  run_point : (ch : Source E.Ext) (v : Model ch) → (ended ch v).answer ≡ Err e → (laid (ended ch v) b).buffers.point ≡ b.point
   run_point ch (accepted x z t) h = absurd (let z : ◌≡◌ {A = ℕ} 0 1 = cc in omega arith)
   run_point ch zero_rounds h = refl
   run_point ch (layer_count expected actual) h = refl
@@ -63,19 +64,19 @@ module _ (b : Lent) (e : Refusal) where
   run_point ch (subround_count round expected actual t) h = refl
   run_point ch (layer_check round expected actual t) h = refl
 
-  run_both : (ch : Source E.Ext) (v : Model ch) → (ended ch v).answer ≡ Refused e → Other e → (laid (ended ch v) b).buffers ≡ b
+  run_both : (ch : Source E.Ext) (v : Model ch) → (ended ch v).answer ≡ Err e → Other e → (laid (ended ch v) b).buffers ≡ b
   run_both ch v h l = ap₂ lent (run_point ch v h) (ap (λ (t : Words). over t.log b.log) (run_log e ch v h l))
 
-  point_left : (a : Asked) (w : Tested) → (fronts a w).answer ≡ Refused e → (laid (fronts a w) b).buffers.point ≡ b.point
+  point_left : (a : Asked) (w : Tested) → (fronts a w).answer ≡ Err e → (laid (fronts a w) b).buffers.point ≡ b.point
   point_left a (refused r) h = refl
   point_left a passed h =
-      either (λ f. f.answer ≡ Refused e → (laid f b).buffers.point ≡ b.point) (eqb a.rounds 0) _ _ (λ _ _. refl)
+      either (λ f. f.answer ≡ Err e → (laid f b).buffers.point ≡ b.point) (eqb a.rounds 0) _ _ (λ _ _. refl)
       (λ _. run_point (source_of a) (verdict a.proof a.rounds (source_of a))) h
 
-  both_left : (a : Asked) (w : Tested) → (fronts a w).answer ≡ Refused e → Other e → (laid (fronts a w) b).buffers ≡ b
+  both_left : (a : Asked) (w : Tested) → (fronts a w).answer ≡ Err e → Other e → (laid (fronts a w) b).buffers ≡ b
   both_left a (refused r) h l = refl
   both_left a passed h l =
-      either (λ f. f.answer ≡ Refused e → (laid f b).buffers ≡ b) (eqb a.rounds 0) _ _ (λ _ _. refl)
+      either (λ f. f.answer ≡ Err e → (laid f b).buffers ≡ b) (eqb a.rounds 0) _ _ (λ _ _. refl)
       (λ _ k. run_both (source_of a) (verdict a.proof a.rounds (source_of a)) k l) h
 
 pub untouched : (a : Asked) (b : Lent) → Untouched a b

@@ -1,4 +1,3 @@
-pub mod Copying
 pub mod GateLaws
 pub mod RootLaws
 pub mod CountLaws

@@ -1,5 +1,6 @@
 -- Live mode differs from sandbox only by 27: where the sandbox refuses nothing before its run, of one round or more, both counts are right and q0 is zero.
 -- Assumes nothing.
+use Rattle.std.specs.Prelude.{Err}
 use mathlib.Core.Path.{◌≡◌, refl, sym, ◌∙◌, ap, ap₂}
 use mathlib.Core.Bool.{Bool, true, false, cond, not, ◌&&◌, and-eq-true_iff, false≢true}
 use Prim.Native.Nat.{ℕ, ◌-◌}
@@ -18,7 +19,6 @@ use Rattle.stored.specs.Parse.{count_of_layers, count_of_entries}
 use Rattle.stored.specs.ParseLaws.{fits_reads}
 use Rattle.stored.specs.Elements.{over_zero}
 use Rattle.stored.proofs.ElementLaws.{root_there, root_nil}
-use Rattle.verifier_round.specs.declared.Verdict.TheVariants.{Refused}
 use Rattle.verifier.specs.Verified.{Asked, Lent, counted, rootless, tests, fronts, laid, verified}
 use Rattle.verifier.specs.Companions.{in_mode, ZeroRooted, LiveVerifying}
 use Rattle.verifier.proofs.Answers.{unlike, not_by_run}
@@ -39,7 +39,7 @@ module _ (a : Asked) (b : Lent) where
   front = first_of (tests (in_mode false a) points logs)
 
   abbrev Fine : Tested → Type 0
-  Fine t = ¬ ((fronts (in_mode false a) t).answer ≡ Refused ZeroRoot)
+  Fine t = ¬ ((fronts (in_mode false a) t).answer ≡ Err ZeroRoot)
 
   not_in_sandbox : Fine front
   not_in_sandbox =
@@ -93,7 +93,7 @@ module _ (a : Asked) (b : Lent) where
   mode_free passed = refl
   mode_free (refused e) = refl
 
-  shut : front ≡ passed → root ≡ true → (verified (in_mode true a) b).answer ≡ Refused ZeroRoot
+  shut : front ≡ passed → root ≡ true → (verified (in_mode true a) b).answer ≡ Err ZeroRoot
   unfolding verified
   shut p z = ap (λ t. (fronts (in_mode true a) t).answer) (then_root (in_mode true a) points logs ∙ ap₂ (λ t r. next t (cond r (refused ZeroRoot) passed)) p z)
 
@@ -108,11 +108,11 @@ module _ (a : Asked) (b : Lent) where
       front_only passed true h = absurd (h refl refl)
       front_only passed false h = refl
 
-  sandbox_never : ¬ ((verified (in_mode false a) b).answer ≡ Refused ZeroRoot)
+  sandbox_never : ¬ ((verified (in_mode false a) b).answer ≡ Err ZeroRoot)
   unfolding verified
   sandbox_never = not_in_sandbox
 
-  from_answer : (verified (in_mode true a) b).answer ≡ Refused ZeroRoot → (t : Tested) (z : Bool) → front ≡ t → root ≡ z → (front ≡ passed) × ZeroRooted a
+  from_answer : (verified (in_mode true a) b).answer ≡ Err ZeroRoot → (t : Tested) (z : Bool) → front ≡ t → root ≡ z → (front ≡ passed) × ZeroRooted a
   from_answer h passed true p q = (p, rooted q)
   from_answer h passed false p q = absurd (sandbox_never (sym (ap (λ o. o.answer) (alike passed false p q (λ _ e. false≢true e))) ∙ h))
   from_answer h (refused e) z p q = absurd (sandbox_never (sym (ap (λ o. o.answer) (alike (refused e) z p q (λ f _. passed_not e f))) ∙ h))

@@ -1,5 +1,6 @@
 -- No rounds, where that is valid: what is answered; and of one round or more the mode says nothing.
 -- Assumes nothing.
+use Rattle.std.specs.Prelude.{Result, Ok, Err}
 use mathlib.Core.Path.{◌≡◌, refl, sym, ◌∙◌, ap}
 use mathlib.Core.Bool.{Bool, true, false, not, false≢true}
 use mathlib.Core.List.{List}
@@ -22,8 +23,8 @@ use Rattle.wire.specs.Bytes.{elem}
 use Rattle.stored.specs.declared.Outline.{Outline}
 use Rattle.stored.proofs.ReadWords.{proof_q0}
 use Rattle.stored.specs.Parse.{count_of_layers, count_of_entries, proof_of}
-use Rattle.verifier_round.specs.declared.Verdict.{Verdict}
-use Rattle.verifier_round.specs.declared.Verdict.TheVariants.{Accepted, Refused}
+use Rattle.verifier_round.specs.declared.Claims.{Claims}
+use Rattle.refusal.specs.declared.Refusal.{Refusal}
 use Rattle.verifier.specs.Verified.{Asked, Lent, outcome, tests, empty_tests, emptied, fronts, laid, verified}
 use Rattle.verifier.specs.declared.Ending.{Ending}
 use Rattle.verifier.specs.Gates.{Opened, ReadyEmpty, ending}
@@ -35,22 +36,22 @@ use Rattle.verifier.proofs.Answers.{unlike, not_by_run}
 -- NO ROUNDS
 
 module _ (bs : List ℕ) (o : Outline) (r : ReadyEmpty bs o) where
-  abbrev answer : Verdict
+  abbrev answer : Result Claims Refusal
   answer = emptied (first_of (empty_tests bs))
 
-  pub layers_there : (o.layers ≡ 0 → ⊥) → Refused (IncorrectLayerCount 0 o.layers) ≡ answer
+  pub layers_there : (o.layers ≡ 0 → ⊥) → Err (IncorrectLayerCount 0 o.layers) ≡ answer
   layers_there h =
       let e = r.shaped.layers in
-      ap (λ k. Refused (IncorrectLayerCount 0 k)) e ∙ sym (ap emptied (met_at (empty_tests bs) 0 _ (ap not (ne_eqb (count_of_layers bs) 0 (λ q. h (e ∙ q))), refl)))
+      (λ i. Err (IncorrectLayerCount 0 (e i))) ∙ sym (ap emptied (met_at (empty_tests bs) 0 _ (ap not (ne_eqb (count_of_layers bs) 0 (λ q. h (e ∙ q))), refl)))
 
   module _ (h1 : o.layers ≡ 0) where
     no_layers : not (eqb (count_of_layers bs) 0) ≡ false
     no_layers = ap not (eq-eqb (count_of_layers bs) 0 (sym r.shaped.layers ∙ h1))
 
-    pub entries_there : (o.entries ≡ 0 → ⊥) → Refused (IncorrectSumcheckPolyCount 0 o.entries) ≡ answer
+    pub entries_there : (o.entries ≡ 0 → ⊥) → Err (IncorrectSumcheckPolyCount 0 o.entries) ≡ answer
     entries_there h =
         let e = r.shaped.entries in
-        ap (λ k. Refused (IncorrectSumcheckPolyCount 0 k)) e
+        (λ i. Err (IncorrectSumcheckPolyCount 0 (e i)))
         ∙ sym (ap emptied (met_at (empty_tests bs) 1 _ (no_layers, (ap not (ne_eqb (count_of_entries bs) 0 (λ q. h (e ∙ q))), refl))))
 
     module _ (h2 : o.entries ≡ 0) (q : Ext) (qe : q ≡ elem (drop 5 bs)) (x : Bool) (xe : x ≡ E.same (dec q) E.one) where
@@ -63,19 +64,19 @@ module _ (bs : List ℕ) (o : Outline) (r : ReadyEmpty bs o) where
       no_entries : not (eqb (count_of_entries bs) 0) ≡ false
       no_entries = ap not (eq-eqb (count_of_entries bs) 0 (sym r.shaped.entries ∙ h2))
 
-      pub not_one : not x ≡ true → Refused (InvalidZeroRoundValue q) ≡ answer
+      pub not_one : not x ≡ true → Err (InvalidZeroRoundValue q) ≡ answer
       not_one h =
-          ap (λ w. Refused (InvalidZeroRoundValue w)) (qe ∙ sym (enc_dec (proof_q0 (proof_of bs) r.canon)))
+          (λ i. Err (InvalidZeroRoundValue ((qe ∙ sym (enc_dec (proof_q0 (proof_of bs) r.canon))) i)))
           ∙ sym (ap emptied (met_at (empty_tests bs) 2 _ (no_layers, (no_entries, (ap not same_is ∙ h, refl)))))
 
-      pub is_one : not x ≡ false → Accepted (enc E.nil) (enc E.one) ≡ answer
+      pub is_one : not x ≡ false → Ok (record { numer = enc E.nil; denom = enc E.one }) ≡ answer
       is_one h = sym (ap emptied (all_passed (empty_tests bs) (no_layers, (no_entries, (ap not same_is ∙ h, tt)))))
 
 pub ready_empty : (a : Asked) (points logs : ℕ) (o : Outline) → Opened a points logs o → ReadyEmpty a.proof o
 ready_empty a points logs o h = record { shaped = h.shaped; canon = (passes h).canon }
 
 -- nothing is written
-pub empty_is : (a : Asked) (b : Lent) (o : Outline) → Opened a (length b.point) (length b.log) o → a.rounds ≡ 0 → (v : Verdict) (x : Ending) → v ≡ emptied (first_of (empty_tests a.proof)) → x ≡ ending v unused
+pub empty_is : (a : Asked) (b : Lent) (o : Outline) → Opened a (length b.point) (length b.log) o → a.rounds ≡ 0 → (v : Result Claims Refusal) (x : Ending) → v ≡ emptied (first_of (empty_tests a.proof)) → x ≡ ending v unused
     → outcome x.verdict x.used b.point b.log ≡ verified a b
 unfolding verified
 empty_is a b o h z v x e y =
@@ -112,16 +113,16 @@ module _ (a : Asked) (b : Lent) (o : Outline) (some : a.rounds ≡ 0 → ⊥) (h
 -- THE MODE
 
 module _ (a : Asked) (b : Lent) where
-  old_refuses : a.rounds ≡ 0 → verified (emptied_mode false a) b ≡ outcome (Refused ZeroRounds) unused b.point b.log
+  old_refuses : a.rounds ≡ 0 → verified (emptied_mode false a) b ≡ outcome (Err ZeroRounds) unused b.point b.log
   unfolding verified first_of
   old_refuses h = rw (eq-eqb a.rounds 0 h)
 
   -- 10 is given by no test but its own, which is not met, nor past them
-  never_ten : ¬ ((verified (emptied_mode true a) b).answer ≡ Refused ZeroRounds)
+  never_ten : ¬ ((verified (emptied_mode true a) b).answer ≡ Err ZeroRounds)
   unfolding verified
   never_ten =
       let c = emptied_mode true a in
-      each_way (λ t. ¬ ((fronts c t).answer ≡ Refused ZeroRounds)) (tests c (length b.point) (length b.log)) (
+      each_way (λ t. ¬ ((fronts c t).answer ≡ Err ZeroRounds)) (tests c (length b.point) (length b.log)) (
         λ m. absurd (false≢true (sym (and_right (eqb a.rounds 0)) ∙ m)),
         λ u1. (
           λ m. unlike _ ZeroRounds refl,

@@ -1,23 +1,16 @@
 -- The last test, a root over zero: the others are those of the sandbox, and the run is the sandbox's.
 -- Assumes nothing.
+use Rattle.std.specs.Prelude.{Result, Ok, Err}
 use mathlib.Core.Path.{◌≡◌, refl, sym, ◌∙◌, ap, subst}
 use mathlib.Core.Bool.{Bool, true, false, cond, ◌&&◌}
-use mathlib.Core.List.{List, [], ◌∷◌}
-use Prim.Native.Nat.{ℕ, ◌-◌}
-use borrow.Author.Tests.{eq-eqb, ne_eqb, not-true, not-false}
-use lib.Dec.{eqb}
+use Prim.Native.Nat.{ℕ}
 use lib.ListN.{length, take}
-use Rattle.refusal.specs.declared.Verifying.{Verifying}
 use Rattle.refusal.specs.declared.Refusal.{Refusal}
 use Rattle.refusal.specs.declared.Refusal.TheVariants.{ZeroRoot}
-use Rattle.refusal.specs.Tests.{Tested, passed, refused, test, first_of}
+use Rattle.refusal.specs.Tests.{Tested, passed, refused, first_of}
 use Rattle.refusal.specs.TestWays.{next, next_passed, first_split}
 use Rattle.stored.specs.declared.Outline.{Outline}
-use Rattle.stored.specs.Elements.{over_zero}
-use Rattle.stored.specs.ParseLaws.{Shaped}
-use Rattle.verifier.specs.declared.Gate.{Gate}
-use Rattle.verifier.specs.declared.Gate.TheVariants.{Open, Shut}
-use Rattle.verifier.specs.Verified.{Asked, Lent, asked, rootless, tests, fronts, laid, verified}
+use Rattle.verifier.specs.Verified.{Asked, Lent, rootless, tests, fronts, laid, verified}
 use Rattle.verifier.specs.Companions.{in_mode}
 use Rattle.verifier.specs.Gates.{root_gate, Opened, Gated}
 
@@ -26,32 +19,6 @@ use Rattle.verifier.specs.Gates.{root_gate, Opened, Gated}
 pub and_right : (b : Bool) → (b && false) ≡ false
 and_right true = refl
 and_right false = refl
-
-module _ (modes : Verifying) (bs : List ℕ) (n : ℕ) (o : Outline) (s : Shaped bs o) where
-  -- passed where one of its parts is not met
-  pub not_live : modes.live ≡ false → Open o ≡ root_gate modes bs n o
-  not_live h = rw h
-
-  pub no_rounds : n ≡ 0 → Open o ≡ root_gate modes bs n o
-  no_rounds h = rw (eq-eqb n 0 h, and_right modes.live)
-
-  module _ (h0 : n ≡ 0 → ⊥) (h1 : modes.live ≡ true) where
-    pub other_layers : (o.layers ≡ n → ⊥) → Open o ≡ root_gate modes bs n o
-    other_layers h = rw (ne_eqb n 0 h0, h1, ne_eqb _ n (λ e. h (s.layers ∙ e)))
-
-    module _ (h2 : o.layers ≡ n) where
-      pub other_entries : (k : ℕ) → k ≡ n - 1 → (o.entries ≡ k → ⊥) → Open o ≡ root_gate modes bs n o
-      other_entries k e h = rw (ne_eqb n 0 h0, h1, eq-eqb _ n (sym s.layers ∙ h2), ne_eqb _ (n - 1) (λ q. h (s.entries ∙ q ∙ sym e)))
-
-      module _ (k : ℕ) (e : k ≡ n - 1) (h3 : o.entries ≡ k) (z : Bool) (ze : z ≡ over_zero bs) where
-        tested : root_gate modes bs n o ≡ cond z (Shut ZeroRoot) (Open o)
-        tested = rw (ne_eqb n 0 h0, h1, eq-eqb _ n (sym s.layers ∙ h2), eq-eqb _ (n - 1) (sym s.entries ∙ h3 ∙ e), sym ze)
-
-        pub root_shut : z ≡ true → Shut ZeroRoot ≡ root_gate modes bs n o
-        root_shut h = sym (tested ∙ ap (λ b. cond b (Shut ZeroRoot) (Open o)) h)
-
-        pub root_open : z ≡ false → Open o ≡ root_gate modes bs n o
-        root_open h = sym (tested ∙ ap (λ b. cond b (Shut ZeroRoot) (Open o)) h)
 
 -- THE ORDER
 
@@ -71,13 +38,13 @@ module _ (a : Asked) (points logs : ℕ) where
       let e : sandboxed ≡ front = first_split 8 (tests (in_mode false a) points logs) ∙ next_passed front in
       first_split 8 (tests a points logs) ∙ ap (λ t. next t last) (sym e)
 
-  pub stays_shut : (g : Gate) (e : Refusal) → g ≡ Shut e → Gated (in_mode false a) points logs g → Gated a points logs (Shut e)
+  pub stays_shut : (g : Result Outline Refusal) (e : Refusal) → g ≡ Err e → Gated (in_mode false a) points logs g → Gated a points logs (Err e)
   stays_shut g e q h = then_root ∙ ap (λ t. next t last) (subst (Gated (in_mode false a) points logs) q h)
 
-  pub root_next : (o : Outline) → Opened (in_mode false a) points logs o → (g : Gate) → g ≡ root_gate a.modes a.proof a.rounds o → Gated a points logs g
+  pub root_next : (o : Outline) → Opened (in_mode false a) points logs o → (g : Result Outline Refusal) → g ≡ root_gate a.modes a.proof a.rounds o → Gated a points logs g
   root_next o h g e = subst (Gated a points logs) (sym e) (go (a.modes.live && rootless a.proof a.rounds) (then_root ∙ ap (λ t. next t last) h.passes))
     where
-      go : (b : Bool) → first_of (tests a points logs) ≡ cond b (refused ZeroRoot) passed → Gated a points logs (cond b (Shut ZeroRoot) (Open o))
+      go : (b : Bool) → first_of (tests a points logs) ≡ cond b (refused ZeroRoot) passed → Gated a points logs (cond b (Err ZeroRoot) (Ok o))
       go true q = q
       go false q = record { passes = q; shaped = h.shaped }
 

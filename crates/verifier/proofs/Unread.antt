@@ -1,5 +1,6 @@
 -- Where challenges are drawn, those lent are not read, and 4 is never given.
 -- Assumes nothing.
+use Rattle.std.specs.Prelude.{Err}
 use mathlib.Core.Path.{◌≡◌, refl, sym, ◌∙◌, ap}
 use mathlib.Core.Bool.{Bool, true, false, false≢true}
 use mathlib.Core.List.{List}
@@ -11,7 +12,6 @@ use lib.ListN.{length}
 use Rattle.refusal.specs.declared.Refusal.TheVariants.{ShortChallenges}
 use Rattle.refusal.specs.Tests.{Tested, passed, refused, first_of}
 use Rattle.refusal.specs.TestWays.{each_way}
-use Rattle.verifier_round.specs.declared.Verdict.TheVariants.{Refused}
 use Rattle.verifier.specs.Verified.{Asked, Lent, asked, tests, fronts, laid, verified}
 use Rattle.verifier.specs.Companions.{DrawnVerifying}
 use Rattle.verifier.proofs.Answers.{unlike, not_by_run}
@@ -43,7 +43,7 @@ module _ (a : Asked) (b : Lent) where
 
   -- 4 is given by no test but its own, nor by a run
   abbrev Fine : Tested → Type 0
-  Fine t = ¬ ((fronts (with_lent true a.challenges) t).answer ≡ Refused ShortChallenges)
+  Fine t = ¬ ((fronts (with_lent true a.challenges) t).answer ≡ Err ShortChallenges)
 
   never_short : Fine (first (with_lent true a.challenges))
   never_short =
@@ -75,7 +75,7 @@ module _ (a : Asked) (b : Lent) where
         ),
       )
 
-  never_given : ¬ ((verified (with_lent true a.challenges) b).answer ≡ Refused ShortChallenges)
+  never_given : ¬ ((verified (with_lent true a.challenges) b).answer ≡ Err ShortChallenges)
   unfolding verified
   never_given = never_short
 

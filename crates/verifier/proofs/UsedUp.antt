@@ -1,5 +1,6 @@
 -- What was used up: the words written, four sampled ones for each challenge; those of a run where it accepts, and nothing where there was none.
 -- Assumes nothing.
+use Rattle.std.specs.Prelude.{Result, Ok, Err}
 use mathlib.Core.Path.{◌≡◌, refl, sym, ◌∙◌, ap, ap₂}
 use mathlib.Core.Bool.{Bool, true, cond}
 use mathlib.Core.List.{List, []}
@@ -12,7 +13,6 @@ use lib.ListN.{length}
 use Rattle.field.specs.Ext as E
 use Rattle.field.specs.Extension.{Extension}
 use Rattle.field.specs.Element.{words}
-use Rattle.field.specs.declared.Ext.{Ext}
 use Rattle.gkr.specs.Run.{Frac, Proof}
 use Rattle.gkr.specs.Sizes.{challenges, log_words}
 use Rattle.gkr.specs.Tests.{either}
@@ -33,8 +33,7 @@ use Rattle.refusal.specs.Tests.{Tested, passed, refused, first_of}
 use Rattle.sizes.specs.Sizes.{log_room}
 use Rattle.stored.specs.Parse.{sized, proof_of}
 use Rattle.stored.specs.Elements.{decoded}
-use Rattle.verifier_round.specs.declared.Verdict.{Verdict}
-use Rattle.verifier_round.specs.declared.Verdict.TheVariants.{Accepted, Refused}
+use Rattle.verifier_round.specs.declared.Claims.{Claims}
 use Rattle.verifier_round.specs.AdvanceLaws.{accepted_or_refused}
 use Rattle.verifier_round.specs.Verdicts.{Model, answer_of, left_by}
 use Rattle.verifier.specs.Verified.{Asked, Lent, Outcome, outcome, source_of, tests, ended, fronts, verified}
@@ -46,19 +45,19 @@ record Told (size : Bool) (n : ℕ) (f : Outcome) : Type 0 where
   words : length f.buffers.log ≡ f.used.words
   sampled : length (sampled_words f.buffers.log) ≡ 4 * f.used.challenges
   most : 1 ≤ n → (f.used.challenges ≤ challenges n) × (f.used.words ≤ log_room true size n)
-  whole : (x y : Ext) → f.answer ≡ Accepted x y → 1 ≤ n → f.used ≡ used (challenges n) (log_room true size n)
-  none : (e : Refusal) → f.answer ≡ Refused e → ¬ ((16 ≤ (report_of e).number) × ((report_of e).number ≤ 19)) → f.used ≡ unused
+  whole : (c : Claims) → f.answer ≡ Ok c → 1 ≤ n → f.used ≡ used (challenges n) (log_room true size n)
+  none : (e : Refusal) → f.answer ≡ Err e → ¬ ((16 ≤ (report_of e).number) × ((report_of e).number ≤ 19)) → f.used ≡ unused
   no_rounds : n ≡ 0 → f.used ≡ unused
 
 -- no run
-told_nothing : (size : Bool) (n : ℕ) (v : Verdict) → ((x y : Ext) → v ≡ Accepted x y → 1 ≤ n → ⊥) → Told size n (outcome v unused [] [])
+told_nothing : (size : Bool) (n : ℕ) (v : Result Claims Refusal) → ((c : Claims) → v ≡ Ok c → 1 ≤ n → ⊥) → Told size n (outcome v unused [] [])
 unfolding sampled_words
 told_nothing size n v h =
     record {
       words = refl;
       sampled = refl;
       most = λ _. (omega arith, omega arith);
-      whole = λ x y q s. absurd (h x y q s);
+      whole = λ c q s. absurd (h c q s);
       none = λ e q o. refl;
       no_rounds = λ z. refl;
     }
@@ -83,15 +82,15 @@ module _ (ch : Source E.Ext) (π : Proof E.Ext) (size : Bool) where
   left_of Q t (layer_check round expected actual u) e h = h
 
   -- one that accepts is the model's
-  accepts : (v : Model ch) (u : Used) → ((f : Frac E.Ext) (z : List E.Ext) (t : Words) → v ≡ accepted f z t → used_up t ≡ u) → (x y : Ext) → answer_of ch v ≡ Accepted x y → used_up (left_by ch v) ≡ u
-  accepts (accepted f z t) u h x y q = h f z t refl
-  accepts zero_rounds u h x y q = absurd (accepted_or_refused (sym q))
-  accepts (layer_count expected actual) u h x y q = absurd (accepted_or_refused (sym q))
-  accepts (poly_count expected actual) u h x y q = absurd (accepted_or_refused (sym q))
-  accepts (zero_check actual t) u h x y q = absurd (accepted_or_refused (sym q))
-  accepts (root_check expected actual t) u h x y q = absurd (accepted_or_refused (sym q))
-  accepts (subround_count round expected actual t) u h x y q = absurd (accepted_or_refused (sym q))
-  accepts (layer_check round expected actual t) u h x y q = absurd (accepted_or_refused (sym q))
+  accepts : (v : Model ch) (u : Used) → ((f : Frac E.Ext) (z : List E.Ext) (t : Words) → v ≡ accepted f z t → used_up t ≡ u) → (c : Claims) → answer_of ch v ≡ Ok c → used_up (left_by ch v) ≡ u
+  accepts (accepted f z t) u h c q = h f z t refl
+  accepts zero_rounds u h c q = absurd (accepted_or_refused (sym q))
+  accepts (layer_count expected actual) u h c q = absurd (accepted_or_refused (sym q))
+  accepts (poly_count expected actual) u h c q = absurd (accepted_or_refused (sym q))
+  accepts (zero_check actual t) u h c q = absurd (accepted_or_refused (sym q))
+  accepts (root_check expected actual t) u h c q = absurd (accepted_or_refused (sym q))
+  accepts (subround_count round expected actual t) u h c q = absurd (accepted_or_refused (sym q))
+  accepts (layer_check round expected actual t) u h c q = absurd (accepted_or_refused (sym q))
 
   -- and uses up a whole run's
   run_whole : (m : ℕ) (f : Frac E.Ext) (z : List E.Ext) (t : Words) → run (suc m) ≡ accepted f z t → used_up t ≡ used (challenges (suc m)) (log_room true size (suc m))
@@ -116,15 +115,15 @@ module _ (ch : Source E.Ext) (π : Proof E.Ext) (size : Bool) where
           left_of (λ t. t.used ≤ challenges n) (begun n) (run n) (omega arith) (omega (arith, bound_used size n, TranscriptLaws.left_draws Extension words ch n π (begun n))),
           left_of (λ t. length t.log ≤ log_room true size n) (begun n) (run n) (omega arith) (omega (arith, r, bound_words size n, TranscriptLaws.left_words Extension words ch (λ x. refl) n π (begun n))),
         );
-        whole = λ x y q _. accepts (run n) _ (λ f z t w. run_whole (n - 1) f z t (ap run (sym e) ∙ w) ∙ ap (λ k. used (challenges k) (log_room true size k)) (sym e)) x y q;
+        whole = λ c q _. accepts (run n) _ (λ f z t w. run_whole (n - 1) f z t (ap run (sym e) ∙ w) ∙ ap (λ k. used (challenges k) (log_room true size k)) (sym e)) c q;
         none = λ r q o. ap used_up (run_log r ch (run n) q o);
         no_rounds = λ z. absurd (omega arith);
       }
 
 told : (a : Asked) (w : Tested) → Told (sized a.proof) a.rounds (fronts a w)
-told a (refused e) = told_nothing (sized a.proof) a.rounds (Refused e) (λ x y q s. accepted_or_refused (sym q))
+told a (refused e) = told_nothing (sized a.proof) a.rounds (Err e) (λ c q s. accepted_or_refused (sym q))
 told a passed =
-    either (Told (sized a.proof) a.rounds) (eqb a.rounds 0) _ _ (λ h. told_nothing (sized a.proof) a.rounds _ (λ x y q s. omega (arith, eqb-true a.rounds 0 h)))
+    either (Told (sized a.proof) a.rounds) (eqb a.rounds 0) _ _ (λ h. told_nothing (sized a.proof) a.rounds _ (λ c q s. omega (arith, eqb-true a.rounds 0 h)))
     (λ h. told_run (source_of a) (decoded (proof_of a.proof)) (sized a.proof) a.rounds (omega (arith, eqb-false a.rounds 0 h)))
 
 pub used_up_is : (a : Asked) (b : Lent) → UsedUp a b

@@ -1,6 +1,6 @@
 -- What verify_gkr answers and uses up, and what it leaves in point and log, for every proof, rounds, mode, challenges and room.
 -- Assumes nothing.
-use Rattle.std.specs.Prelude.{Bool, true, cond, not, ◌&&◌, ◌||◌, List, [], ◌∷◌, ℕ, ◌*◌, ◌-◌, eqb, ltb, length, take}
+use Rattle.std.specs.Prelude.{Result, Ok, Err, Bool, true, cond, not, ◌&&◌, ◌||◌, List, [], ◌∷◌, ℕ, ◌*◌, ◌-◌, eqb, ltb, length, take}
 use Rattle.field.specs.Ext as E
 use Rattle.field.specs.Extension.{Extension}
 use Rattle.field.specs.Element.{enc}
@@ -13,6 +13,7 @@ use Rattle.transcript.specs.declared.Used.{Used}
 use Rattle.transcript.specs.Used.{unused, used_up}
 use Rattle.refusal.specs.Limits.{max_rounds}
 use Rattle.refusal.specs.declared.Verifying.{Verifying}
+use Rattle.refusal.specs.declared.Refusal.{Refusal}
 use Rattle.refusal.specs.declared.Refusal.TheVariants.{ShortChallenges, ShortRoom, BadWord, ZeroRounds, TooManyRounds, BadVersion, BadLength, IncorrectLayerCount, IncorrectSumcheckPolyCount, InvalidZeroRoundValue, ZeroRoot}
 use Rattle.refusal.specs.declared.Words.TheVariants.{Proof, Challenges}
 use Rattle.refusal.specs.Tests.{Test, Tested, passed, refused, test, first_of}
@@ -22,8 +23,7 @@ use Rattle.wire.specs.Words.{all_canonical, first_bad}
 use Rattle.stored.specs.Layout.{proof_words}
 use Rattle.stored.specs.Parse.{count_of_layers, count_of_entries, known, sized, fits, proof_of}
 use Rattle.stored.specs.Elements.{decoded, over_zero}
-use Rattle.verifier_round.specs.declared.Verdict.{Verdict}
-use Rattle.verifier_round.specs.declared.Verdict.TheVariants.{Accepted, Refused}
+use Rattle.verifier_round.specs.declared.Claims.{Claims}
 use Rattle.verifier_round.specs.Verdicts.{Model, answer_of, point_of, left_by, logged_by}
 
 -- what a call is given: a proof's bytes, the rounds, the modes of verifying, and challenge words, four a challenge
@@ -46,11 +46,11 @@ lent point log = record { point = point; log = log }
 
 -- an answer, what was used up, and words for both buffers: what they hold after it, or what is written at their fronts
 pub record Outcome : Type 0 where
-  pub answer : Verdict
+  pub answer : Result Claims Refusal
   pub used : Used
   pub buffers : Lent
 
-abbrev pub outcome : Verdict → Used → (point log : List ℕ) → Outcome
+abbrev pub outcome : Result Claims Refusal → Used → (point log : List ℕ) → Outcome
 outcome answer used point log = record { answer = answer; used = used; buffers = lent point log }
 
 -- the needed challenges, and where a run's come from
@@ -92,13 +92,13 @@ empty_tests proof = let q0 = (decoded (proof_of proof)).q0 in
     ∷ test (not (E.same q0 E.one)) (InvalidZeroRoundValue (enc q0)) ∷ []
 
 -- the claims are 0 and 1
-abbrev pub emptied : Tested → Verdict
-emptied passed = Accepted (enc E.nil) (enc E.one)
-emptied (refused e) = Refused e
+abbrev pub emptied : Tested → Result Claims Refusal
+emptied passed = Ok (record { numer = enc E.nil; denom = enc E.one })
+emptied (refused e) = Err e
 
 -- what a call answers, uses up and writes: nothing where it is refused before the run, or has no rounds; else what the model's verifier does over an empty log, or, where the proof binds its size, one that holds the rounds
 abbrev pub fronts : Asked → Tested → Outcome
-fronts a (refused e) = outcome (Refused e) unused [] []
+fronts a (refused e) = outcome (Err e) unused [] []
 fronts a passed = cond (eqb a.rounds 0) (outcome (emptied (first_of (empty_tests a.proof))) unused [] [])
     (let ch = source_of a in ended ch (Gkr.verify_gkr Extension (Drawing ch) a.rounds (decoded (proof_of a.proof)) (bound (sized a.proof) a.rounds empty)))
 

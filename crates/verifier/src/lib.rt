@@ -3,14 +3,14 @@
 
 ghost use Rattle.std.specs.Prelude.{◌≡◌, not, ◌&&◌, eqb, length};
 ghost use Rattle.stored.specs.ParseLaws.{Shaped};
-ghost use Rattle.transcript.specs.Source.{source};
+ghost use Rattle.transcript.specs.Log.{source_of, state};
 ghost use Rattle.verifier.specs.Verified.{asked, lent, outcome, verified};
 ghost use Rattle.verifier.specs.Gates.{words_gate, root_gate, unrooted, sandbox, Gated, Opened, Ready, Starts, Counted};
 
 use refusal::{Refusal, Verifying, Words};
-use stored::{Outline, Shape};
-use transcript::{Pos, Used};
-use verifier_round::{Advance, Verdict};
+use stored::Outline;
+use transcript::{Transcript, Used};
+use verifier_round::Verdict;
 
 mod empty; // no rounds, where that is valid
 pub mod end; // how a run ends
@@ -22,43 +22,31 @@ pub struct Ending {
     pub used: Used,
 }
 
-// What the checks before the run answer.
-#[derive(Clone, Copy)]
-pub enum Gate {
-    Open(Outline),
-    Shut(Refusal),
-}
-
 // The words of the proof, then the challenges.
-fn check_words(proof: &[u8], outline: Outline, needs: &[u32]) -> Gate
+fn check_words(proof: &[u8], outline: Outline, needs: &[u32]) -> Result<Outline, Refusal>
     requires { Shaped proof.now outline }
     ensures { result ≡ words_gate proof.now outline needs.now }
 {
-    let place = stored::first_bad_in_proof(proof, outline);
-    if place < stored::word_count(proof, outline) {
-        return Gate::Shut(Refusal::BadWord {
+    if let Some(place) = stored::first_bad_in_proof(proof, outline) {
+        return Err(Refusal::BadWord {
             place,
             list: Words::Proof,
         });
     }
-    let place = wire::first_bad_word(needs);
-    if place < needs.len() {
-        return Gate::Shut(Refusal::BadWord {
+    if let Some(place) = wire::first_bad_word(needs) {
+        return Err(Refusal::BadWord {
             place,
             list: Words::Challenges,
         });
     }
-    Gate::Open(outline)
+    Ok(outline)
 }
 
 // Whether there are no rounds, in the mode where that is not valid.
 fn lacks_rounds(rounds: usize, empty: bool) -> bool
     ensures { result ≡ (eqb rounds 0 && not empty) }
 {
-    if rounds != 0 {
-        return false;
-    }
-    !empty
+    rounds == 0 && !empty
 }
 
 // The first refusal but for a root over zero, in document 01's order.
@@ -69,55 +57,48 @@ fn check(
     challenges: &[u32],
     points: usize,
     logs: usize,
-) -> Gate
+) -> Result<Outline, Refusal>
     ensures { Gated (asked proof.now rounds (unrooted modes) challenges.now) points logs result }
 {
     if lacks_rounds(rounds, modes.empty) {
-        return Gate::Shut(Refusal::ZeroRounds);
+        return Err(Refusal::ZeroRounds);
     }
     if refusal::MAX_ROUNDS < rounds {
-        return Gate::Shut(Refusal::TooManyRounds);
+        return Err(Refusal::TooManyRounds);
     }
     let needs = sizes::needed_words(modes.drawn, rounds);
     if challenges.len() < needs {
-        return Gate::Shut(Refusal::ShortChallenges);
+        return Err(Refusal::ShortChallenges);
     }
     if !stored::is_known(proof) {
-        return Gate::Shut(Refusal::BadVersion);
+        return Err(Refusal::BadVersion);
     }
-    if points < 4 * rounds {
-        return Gate::Shut(Refusal::ShortRoom);
+    if points < 4 * rounds || logs < sizes::log_words(true, stored::is_sized(proof), rounds) {
+        return Err(Refusal::ShortRoom);
     }
-    if logs < sizes::log_words(true, stored::is_sized(proof), rounds) {
-        return Gate::Shut(Refusal::ShortRoom);
-    }
-    match stored::read_shape(proof) {
-        Shape::Refused(refusal) => Gate::Shut(refusal),
-        Shape::Good(outline) => check_words(proof, outline, &challenges[..needs]),
-    }
+    let outline = stored::read_shape(proof)?;
+    check_words(proof, outline, &challenges[..needs])
 }
 
 // Live, the root, of one round or more, once both counts are those of the rounds: 14 and 15 come first.
-fn check_root(proof: &[u8], rounds: usize, modes: Verifying, outline: Outline) -> Gate
+fn check_root(
+    proof: &[u8],
+    rounds: usize,
+    modes: Verifying,
+    outline: Outline,
+) -> Result<Outline, Refusal>
     requires { Shaped proof.now outline }
     ensures { result ≡ root_gate modes proof.now rounds outline }
 {
-    if rounds == 0 {
-        return Gate::Open(outline);
+    if rounds != 0
+        && modes.live
+        && outline.layers == rounds
+        && outline.entries == rounds - 1
+        && stored::is_over_zero(proof)
+    {
+        return Err(Refusal::ZeroRoot);
     }
-    if !modes.live {
-        return Gate::Open(outline);
-    }
-    if outline.layers != rounds {
-        return Gate::Open(outline);
-    }
-    if outline.entries != rounds - 1 {
-        return Gate::Open(outline);
-    }
-    if stored::is_over_zero(proof) {
-        return Gate::Shut(Refusal::ZeroRoot);
-    }
-    Gate::Open(outline)
+    Ok(outline)
 }
 
 // The first refusal.
@@ -128,13 +109,11 @@ fn admit(
     challenges: &[u32],
     points: usize,
     logs: usize,
-) -> Gate
+) -> Result<Outline, Refusal>
     ensures { Gated (asked proof.now rounds modes challenges.now) points logs result }
 {
-    match check(proof, rounds, modes, challenges, points, logs) {
-        Gate::Shut(refusal) => Gate::Shut(refusal),
-        Gate::Open(outline) => check_root(proof, rounds, modes, outline),
-    }
+    let outline = check(proof, rounds, modes, challenges, points, logs)?;
+    check_root(proof, rounds, modes, outline)
 }
 
 // The counts of layers and of polynomial entries, then all rounds, from a start of the log.
@@ -143,46 +122,33 @@ fn verify_counted(
     rounds: usize,
     outline: Outline,
     xi: &mut [u32],
-    log: &mut [u32],
-    challenges: &[u32],
-    pos: Pos,
-) -> Advance
-    requires { Ready proof.now xi.old log.old challenges.now pos.drawn rounds outline × Starts pos }
-    ensures { Counted proof.now xi.new log.old log.new (source pos.drawn challenges.now) rounds pos result }
+    transcript: &mut Transcript<'_>,
+) -> Verdict
+    requires ready { Ready proof.now xi.old (state transcript.old) rounds outline }
+    requires begun { Starts (state transcript.old) }
+    ensures same { transcript.new.log.ghost_name ≡ transcript.old.log.ghost_name }
+    ensures counted { Counted proof.now xi.new (state transcript.old) (state transcript.new) (source_of (state transcript.old)) rounds result }
 {
-    let layers = outline.layers;
-    let entries = outline.entries;
+    let Outline {
+        layers,
+        entries,
+        polys,
+    } = outline;
     if layers != rounds {
-        return Advance::Stopped {
-            refusal: Refusal::IncorrectLayerCount {
-                expected: rounds,
-                actual: layers,
-            },
-            pos,
-        };
+        return Err(Refusal::IncorrectLayerCount {
+            expected: rounds,
+            actual: layers,
+        });
     }
     let expected = rounds - 1;
     if entries != expected {
-        return Advance::Stopped {
-            refusal: Refusal::IncorrectSumcheckPolyCount {
-                expected,
-                actual: entries,
-            },
-            pos,
-        };
+        return Err(Refusal::IncorrectSumcheckPolyCount {
+            expected,
+            actual: entries,
+        });
     }
-    let start = transcript::observe_size(log, pos, stored::is_sized(proof), rounds);
-    let mut lanes = [0u64; 25]; // of a sponge that has taken in nothing
-    verifier_rounds::verify_all(
-        proof,
-        outline.polys,
-        rounds,
-        xi,
-        log,
-        &mut lanes,
-        challenges,
-        start,
-    )
+    transcript.observe_size(stored::is_sized(proof), rounds);
+    verifier_rounds::verify_all(proof, polys, rounds, xi, transcript)
 }
 
 // The run, once nothing is refused before it.
@@ -199,20 +165,15 @@ fn run(
     ensures { outcome result.verdict result.used point.new log.new
         ≡ verified (asked proof.now rounds (sandbox drawn) challenges.now) (lent point.old log.old) }
 {
-    let pos = transcript::start(drawn);
     let needs = sizes::needed_words(drawn, rounds);
+    let mut transcript = Transcript::new(log, &challenges[..needs], drawn);
     let mut xi = [0u32; 4 * refusal::MAX_ROUNDS];
-    let end = verify_counted(
-        proof,
-        rounds,
-        outline,
-        &mut xi,
-        log,
-        &challenges[..needs],
-        pos,
-    );
-    end::leave_point(end, &xi, point, 4 * rounds);
-    end::answer(end)
+    let verdict = verify_counted(proof, rounds, outline, &mut xi, &mut transcript);
+    end::leave_point(verdict, &xi, point, 4 * rounds);
+    Ending {
+        verdict,
+        used: transcript.used_up(),
+    }
 }
 
 // What is not refused before: no rounds, or the run.
@@ -249,9 +210,7 @@ pub fn verify_gkr(
         ≡ verified (asked proof.now rounds modes challenges.now) (lent point.old log.old) }
 {
     match admit(proof, rounds, modes, challenges, point.len(), log.len()) {
-        Gate::Shut(refusal) => end::at_once(Verdict::Refused(refusal)),
-        Gate::Open(outline) => verify_admitted(
-            proof, rounds, outline, modes, challenges, point, log,
-        ),
+        Err(refusal) => end::at_once(Err(refusal)),
+        Ok(outline) => verify_admitted(proof, rounds, outline, modes, challenges, point, log),
     }
 }

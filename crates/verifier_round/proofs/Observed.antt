@@ -18,13 +18,11 @@ use Rattle.gkr.specs.Transcripts.{Words, Source}
 use Rattle.gkr.specs.Tree as Tree
 use Rattle.gkr.specs.Sumcheck as Sumcheck
 use Rattle.gkr.specs.Gkr as Gkr
-use Rattle.transcript.specs.declared.Pos.{Pos}
-use Rattle.transcript.specs.declared.Drawn.{Drawn}
-use Rattle.transcript.specs.Log.{Drawing, Observing, log_of, Steps}
+use Rattle.transcript.specs.Log.{Drawing, Observing, State, Steps, log_of}
 use Rattle.transcript.proofs.Logs.{then, retold}
 use Rattle.step.specs.declared.Frac.{Frac}
 use Rattle.step.specs.Values.{IsFrac, minus}
-use Rattle.verifier_round.specs.declared.Layer.{Layer}
+use Rattle.verifier_round.specs.declared.Claims.{Claims as Claimed}
 use Rattle.verifier_round.specs.declared.Sums.{Sums}
 use Rattle.verifier_round.specs.Rounds.{told, LayerOpened, SubChecked, Descended}
 
@@ -32,37 +30,36 @@ abbrev obs : E.Ext → Words → Words
 obs x t = Observing.observe x t
 
 -- two after one another
-pub two_observed : (l l₁ l₂ : List ℕ) {ls ls₁ ls₂ : List ℕ} (p p₁ p₂ : Pos) (x y : E.Ext) (n : ℕ) (t : Words) → Steps l l₁ ls ls₁ p p₁ n 0 t → Steps l₁ l₂ ls₁ ls₂ p₁ p₂ 4 0 (obs y (log_of l₁ p₁)) → Steps l l₂ ls ls₂ p p₂ (n + 4) 0 (obs y t)
-two_observed l l₁ l₂ p p₁ p₂ x y n t a b = then l l₁ l₂ p p₁ p₂ n 0 4 0 _ _ a (retold l₁ l₂ p₁ p₂ 4 0 4 0 _ _ refl refl (ap (obs y) a.log) b)
+pub two_observed : {t t₁ t₂ : State} (x y : E.Ext) (n : ℕ) (w : Words) → Steps t t₁ n 0 w → Steps t₁ t₂ 4 0 (obs y (log_of t₁)) → Steps t t₂ (n + 4) 0 (obs y w)
+two_observed x y n w a b = then a (retold refl refl (ap (obs y) a.log) b)
 
-pub three_observed : (l l₁ l₂ l₃ : List ℕ) {ls ls₁ ls₂ ls₃ : List ℕ} (p p₁ p₂ p₃ : Pos) (m : Cubic E.Ext) → Steps l l₁ ls ls₁ p p₁ 4 0 (obs m.at1 (log_of l p)) → Steps l₁ l₂ ls₁ ls₂ p₁ p₂ 4 0 (obs m.at2 (log_of l₁ p₁))
-    → Steps l₂ l₃ ls₂ ls₃ p₂ p₃ 4 0 (obs m.at3 (log_of l₂ p₂)) → Steps l l₃ ls ls₃ p p₃ 12 0 (Sumcheck.observe_cubic Extension Observing m (log_of l p))
-three_observed l l₁ l₂ l₃ p p₁ p₂ p₃ m a b c = two_observed l l₂ l₃ p p₂ p₃ m.at2 m.at3 8 _ (two_observed l l₁ l₂ p p₁ p₂ m.at1 m.at2 4 _ a b) c
+pub three_observed : {t t₁ t₂ t₃ : State} (m : Cubic E.Ext) → Steps t t₁ 4 0 (obs m.at1 (log_of t)) → Steps t₁ t₂ 4 0 (obs m.at2 (log_of t₁))
+    → Steps t₂ t₃ 4 0 (obs m.at3 (log_of t₂)) → Steps t t₃ 12 0 (Sumcheck.observe_cubic Extension Observing m (log_of t))
+three_observed m a b c = two_observed m.at2 m.at3 8 _ (two_observed m.at1 m.at2 4 _ a b) c
 
-pub claims_observed : (l l₁ l₂ l₃ l₄ : List ℕ) {ls ls₁ ls₂ ls₃ ls₄ : List ℕ} (p p₁ p₂ p₃ p₄ : Pos) (c : Claims E.Ext) → Steps l l₁ ls ls₁ p p₁ 4 0 (obs c.p0 (log_of l p)) → Steps l₁ l₂ ls₁ ls₂ p₁ p₂ 4 0 (obs c.q0 (log_of l₁ p₁))
-    → Steps l₂ l₃ ls₂ ls₃ p₂ p₃ 4 0 (obs c.p1 (log_of l₂ p₂)) → Steps l₃ l₄ ls₃ ls₄ p₃ p₄ 4 0 (obs c.q1 (log_of l₃ p₃)) → Steps l l₄ ls ls₄ p p₄ 16 0 (Gkr.observe_layer_claims Extension Observing c (log_of l p))
-claims_observed l l₁ l₂ l₃ l₄ p p₁ p₂ p₃ p₄ c a b d e =
-    two_observed l l₃ l₄ p p₃ p₄ c.p1 c.q1 12 _ (two_observed l l₂ l₃ p p₂ p₃ c.q0 c.p1 8 _ (two_observed l l₁ l₂ p p₁ p₂ c.p0 c.q0 4 _ a b) d) e
+pub claims_observed : {t t₁ t₂ t₃ t₄ : State} (c : Claims E.Ext) → Steps t t₁ 4 0 (obs c.p0 (log_of t)) → Steps t₁ t₂ 4 0 (obs c.q0 (log_of t₁))
+    → Steps t₂ t₃ 4 0 (obs c.p1 (log_of t₂)) → Steps t₃ t₄ 4 0 (obs c.q1 (log_of t₃)) → Steps t t₄ 16 0 (Gkr.observe_layer_claims Extension Observing c (log_of t))
+claims_observed c a b d e = two_observed c.p1 c.q1 12 _ (two_observed c.q0 c.p1 8 _ (two_observed c.p0 c.q0 4 _ a b) d) e
 
-pub sub_done : (pt pt' lg lg₁ lg₂ : List ℕ) {ls ls₁ ls₂ : List ℕ} (ch : Source E.Ext) (j : ℕ) (m : Cubic E.Ext) (s : Sums) (p : Pos) (d : Drawn) (claim eq xi : Ext) → Steps lg lg₁ ls ls₁ s.pos p 12 0 (told m lg s.pos)
-    → Steps lg₁ lg₂ ls₁ ls₂ p d.pos 4 1 ((Drawing ch).drawn (log_of lg₁ p)) → Is d.x (ch (log_of lg₁ p)) → Stored pt pt' (j + 1) (dec d.x) → Is xi (cell pt (j + 1))
-    → Is claim (Interpolate.cubic Extension (minus (dec s.claim) m.at1) m.at1 m.at2 m.at3 (dec d.x))
-    → Is eq (E.mul (dec s.eq) (Forms.agree ExtRing (dec s.xi) (dec d.x))) → SubChecked pt pt' lg lg₂ ls ls₂ ch j m s (record { pos = d.pos; claim = claim; eq = eq; xi = xi })
-sub_done pt pt' lg lg₁ lg₂ ch j m s p d claim eq xi a b v h x k q =
-    let g : log_of lg₁ p ≡ told m lg s.pos = a.log in
-    let r : dec d.x ≡ ch (told m lg s.pos) = v.value ∙ ap ch g in
+pub sub_done : {pt pt' : List ℕ} {t t₁ t₂ : State} (ch : Source E.Ext) (j : ℕ) (m : Cubic E.Ext) (s : Sums) {x claim eq xi : Ext} → Steps t t₁ 12 0 (told m t)
+    → Steps t₁ t₂ 4 1 ((Drawing ch).drawn (log_of t₁)) × Is x (ch (log_of t₁)) → Stored pt pt' (j + 1) (dec x) → Is xi (cell pt (j + 1))
+    → Is claim (Interpolate.cubic Extension (minus (dec s.claim) m.at1) m.at1 m.at2 m.at3 (dec x))
+    → Is eq (E.mul (dec s.eq) (Forms.agree ExtRing (dec s.xi) (dec x))) → SubChecked pt pt' t t₂ ch j m s (record { claim = claim; eq = eq; xi = xi })
+sub_done {pt} {pt'} {t} {t₁} ch j m s {x = x} a b h y k q =
+    let g : log_of t₁ ≡ told m t = a.log in
+    let r : dec x ≡ ch (told m t) = b.1.value ∙ ap ch g in
     record {
-      steps = retold lg lg₂ s.pos d.pos 16 1 16 1 _ _ refl refl (ap (Drawing ch).drawn g) (then lg lg₁ lg₂ s.pos p d.pos 12 0 4 1 _ _ a b);
+      steps = retold refl refl (ap (Drawing ch).drawn g) (then a b.0);
       rho = subst (Stored pt pt' (j + 1)) r h;
       claim = is_eq k (ap (Interpolate.cubic Extension (minus (dec s.claim) m.at1) m.at1 m.at2 m.at3) r);
       eq = is_eq q (ap (λ y. E.mul (dec s.eq) (Forms.agree ExtRing (dec s.xi) y)) r);
-      xi = x;
+      xi = y;
     }
 
-pub descended : (pt pt' lg lg' : List ℕ) {ls ls' : List ℕ} (ch : Source E.Ext) (c : Claims E.Ext) (pos : Pos) (d : Drawn) (f : Frac) → Steps lg lg' ls ls' pos d.pos 4 1 ((Drawing ch).drawn (log_of lg pos))
-    → Is d.x (ch (log_of lg pos)) → Stored pt pt' 0 (dec d.x) → IsFrac f (Tree.reduce_to_single_evaluation ExtRing c (dec d.x))
-    → Descended pt pt' lg lg' ls ls' ch c pos (record { pos = d.pos; numer = f.p; denom = f.q })
-descended pt pt' lg lg' ch c pos d f a v h r =
+pub descended : {pt pt' : List ℕ} {t t' : State} (ch : Source E.Ext) (c : Claims E.Ext) {x : Ext} {f : Frac} → Steps t t' 4 1 ((Drawing ch).drawn (log_of t))
+    → Is x (ch (log_of t)) → Stored pt pt' 0 (dec x) → IsFrac f (Tree.reduce_to_single_evaluation ExtRing c (dec x))
+    → Descended pt pt' t t' ch c (record { numer = f.p; denom = f.q })
+descended {pt} {pt'} ch c a v h r =
     record {
       steps = a;
       mu = subst (Stored pt pt' 0) v.value h;
@@ -70,10 +67,10 @@ descended pt pt' lg lg' ch c pos d f a v h r =
       denom = is_eq r.q (ap (λ x. (Tree.reduce_to_single_evaluation ExtRing c x).q) v.value);
     }
 
-pub opened : (pt lg lg' : List ℕ) {ls ls' : List ℕ} (ch : Source E.Ext) (s : Layer) (d : Drawn) (prod claim xi : Ext) → Steps lg lg' ls ls' s.pos d.pos 4 1 ((Drawing ch).drawn (log_of lg s.pos))
-    → Is d.x (ch (log_of lg s.pos)) → Is prod (E.mul (dec d.x) (dec s.denom)) → Is claim (E.add (dec s.numer) (dec prod)) → Is xi (cell pt 0)
-    → LayerOpened pt lg lg' ls ls' ch s (record { lambda = d.x; first = record { pos = d.pos; claim = claim; eq = record { c0 = 1; c1 = 0; c2 = 0; c3 = 0 }; xi = xi } })
-opened pt lg lg' ch s d prod claim xi a v p c x =
+pub opened : {pt : List ℕ} {t t' : State} (ch : Source E.Ext) (s : Claimed) {x prod claim xi : Ext} → Steps t t' 4 1 ((Drawing ch).drawn (log_of t))
+    → Is x (ch (log_of t)) → Is prod (E.mul (dec x) (dec s.denom)) → Is claim (E.add (dec s.numer) (dec prod)) → Is xi (cell pt 0)
+    → LayerOpened pt t t' ch s (record { lambda = x; first = record { claim = claim; eq = record { c0 = 1; c1 = 0; c2 = 0; c3 = 0 }; xi = xi } })
+opened ch s a v p c x =
     record {
       steps = a;
       lambda = v;

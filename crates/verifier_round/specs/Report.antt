@@ -1,10 +1,11 @@
 -- The number and the values of each verdict: 0 with both claims, and a refusal's own.
 -- Assumes nothing.
+use Rattle.std.specs.Prelude.{Result, Ok, Err}
 use Rattle.refusal.specs.declared.Report.{Report}
 use Rattle.refusal.specs.Numbers.{elements, report_of}
-use Rattle.verifier_round.specs.declared.Verdict.{Verdict}
-use Rattle.verifier_round.specs.declared.Verdict.TheVariants.{Accepted, Refused}
+use Rattle.refusal.specs.declared.Refusal.{Refusal}
+use Rattle.verifier_round.specs.declared.Claims.{Claims}
 
-abbrev pub verdict_report : Verdict → Report
-verdict_report (Accepted numer denom) = elements 0 0 numer denom
-verdict_report (Refused refusal) = report_of refusal
+abbrev pub verdict_report : Result Claims Refusal → Report
+verdict_report (Ok claims) = elements 0 0 claims.numer claims.denom
+verdict_report (Err refusal) = report_of refusal

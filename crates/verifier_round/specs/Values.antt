@@ -5,7 +5,7 @@ use Rattle.field.specs.declared.Ext.{Ext}
 use Rattle.field.specs.Element.{dec, Canon}
 use Rattle.multilinear.specs.RoundSum.{Claims}
 use Rattle.gkr.specs.Run.{Frac, Cubic}
-use Rattle.verifier_round.specs.declared.Layer.{Layer}
+use Rattle.verifier_round.specs.declared.Claims.{Claims as Claimed}
 use Rattle.verifier_round.specs.declared.Sums.{Sums}
 
 abbrev pub dec_claims : Claims Ext → Claims E.Ext
@@ -15,7 +15,7 @@ abbrev pub dec_cubic : Cubic Ext → Cubic E.Ext
 dec_cubic m = record { at1 = dec m.at1; at2 = dec m.at2; at3 = dec m.at3 }
 
 -- the claims on the two columns
-abbrev pub columns : Layer → Frac E.Ext
+abbrev pub columns : Claimed → Frac E.Ext
 columns s = record { p = dec s.numer; q = dec s.denom }
 
 -- all words are canonical

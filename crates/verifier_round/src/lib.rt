@@ -2,7 +2,7 @@
 // All of these take canonical words.
 #![tactic(auto)]
 
-ghost use Rattle.std.specs.Prelude.{◌≡◌, List, ℕ, ◌+◌, ◌*◌, ◌<◌, ◌≤◌, length};
+ghost use Rattle.std.specs.Prelude.{◌≡◌, ◌+◌, ◌*◌, ◌<◌, ◌≤◌, length};
 ghost use Rattle.field.specs.Ext as E;
 ghost use Rattle.field.specs.ExtRing.{ExtRing};
 ghost use Rattle.field.specs.Extension.{Extension};
@@ -13,8 +13,7 @@ ghost use Rattle.multilinear.specs.RoundSum as RoundSum;
 ghost use Rattle.gkr.specs.Tree as Tree;
 ghost use Rattle.gkr.specs.Sumcheck as Sumcheck;
 ghost use Rattle.gkr.specs.Gkr as Gkr;
-ghost use Rattle.transcript.specs.Source.{source};
-ghost use Rattle.transcript.specs.Log.{Enough, Observing, log_of, Steps};
+ghost use Rattle.transcript.specs.Log.{Enough, Observing, Steps, log_of, source_of, state};
 ghost use Rattle.stored.specs.Shapes.{claims_in, cubic_in};
 ghost use Rattle.step.specs.Values.{IsFrac, minus};
 ghost use Rattle.stored.specs.ReadWords.{CanonClaims, CanonCubic};
@@ -22,24 +21,25 @@ ghost use Rattle.verifier_round.specs.Values.{dec_claims, dec_cubic, CanonSums};
 ghost use Rattle.verifier_round.specs.Report.{verdict_report};
 ghost use Rattle.verifier_round.specs.Rounds.{LayerOpened, SubChecked, Descended, LayerChecked, Rooted};
 
-use field::Ext;
+use field::{Ext, Field};
 use refusal::{Refusal, Report};
 use step::Frac;
 use stored::{LayerClaims, SubroundEvals};
-use transcript::Pos;
+use transcript::Transcript;
 
-// The claims on the two columns after a layer, and where the run stands.
+// The claims on the two columns after a layer.
 #[derive(Clone, Copy)]
-pub struct Layer {
-    pub pos: Pos,
+pub struct Claims {
     pub numer: Ext,
     pub denom: Ext,
 }
 
+// What the verifier answers: the claims that it comes to, or the check that failed.
+pub type Verdict = Result<Claims, Refusal>;
+
 // What goes from one sub-round to the next: the claim, eq so far, and the next coordinate of the old point.
 #[derive(Clone, Copy)]
 pub struct Sums {
-    pub pos: Pos,
     pub claim: Ext,
     pub eq: Ext,
     pub xi: Ext,
@@ -52,53 +52,41 @@ pub struct Opened {
     pub first: Sums,
 }
 
-// What a layer ends in: the claims after it, or the check that failed and where the run stood.
-#[derive(Clone, Copy)]
-pub enum Advance {
-    Next(Layer),
-    Stopped { refusal: Refusal, pos: Pos },
-}
-
-// What the verifier answers.
-#[derive(Clone, Copy)]
-pub enum Verdict {
-    Accepted { numer: Ext, denom: Ext },
-    Refused(Refusal),
-}
-
 // The verdict as document 01 has it: its number, and its values.
 pub fn number_and_values(verdict: Verdict) -> Report
     ensures { result ≡ verdict_report verdict }
 {
     match verdict {
-        Verdict::Accepted { numer, denom } => refusal::done(0, numer, denom),
-        Verdict::Refused(refusal) => refusal::number_and_fields(refusal),
+        Ok(Claims { numer, denom }) => refusal::done(0, numer, denom),
+        Err(refusal) => Report::from(refusal),
     }
 }
 
 // p0, q0, p1, q1 go into the log.
-pub fn observe_layer_claims(log: &mut [u32], pos: Pos, c: LayerClaims) -> Pos
-    requires room { pos.put + 16 ≤ length log.old }
+pub fn observe_layer_claims(transcript: &mut Transcript<'_>, c: LayerClaims)
+    requires room { transcript.old.put + 16 ≤ length transcript.old.log.now }
     requires canon { CanonClaims (claims_in c) }
-    ensures { (ls : List ℕ) → Steps log.old log.new ls ls pos result 16 0
-        (Gkr.observe_layer_claims Extension Observing (dec_claims (claims_in c)) (log_of log.old pos)) }
+    ensures same { transcript.new.log.ghost_name ≡ transcript.old.log.ghost_name }
+    ensures steps { Steps (state transcript.old) (state transcript.new) 16 0
+        (Gkr.observe_layer_claims Extension Observing (dec_claims (claims_in c)) (log_of (state transcript.old))) }
 {
-    let a = transcript::observe_ext(log, pos, c.p_xi_0);
-    let b = transcript::observe_ext(log, a, c.q_xi_0);
-    let d = transcript::observe_ext(log, b, c.p_xi_1);
-    transcript::observe_ext(log, d, c.q_xi_1)
+    transcript.observe_ext(c.p_xi_0);
+    transcript.observe_ext(c.q_xi_0);
+    transcript.observe_ext(c.p_xi_1);
+    transcript.observe_ext(c.q_xi_1);
 }
 
 // s(1), s(2), s(3) go into the log.
-pub fn observe_cubic(log: &mut [u32], pos: Pos, m: SubroundEvals) -> Pos
-    requires room { pos.put + 12 ≤ length log.old }
+pub fn observe_cubic(transcript: &mut Transcript<'_>, m: SubroundEvals)
+    requires room { transcript.old.put + 12 ≤ length transcript.old.log.now }
     requires canon { CanonCubic (cubic_in m) }
-    ensures { (ls : List ℕ) → Steps log.old log.new ls ls pos result 12 0
-        (Sumcheck.observe_cubic Extension Observing (dec_cubic (cubic_in m)) (log_of log.old pos)) }
+    ensures same { transcript.new.log.ghost_name ≡ transcript.old.log.ghost_name }
+    ensures steps { Steps (state transcript.old) (state transcript.new) 12 0
+        (Sumcheck.observe_cubic Extension Observing (dec_cubic (cubic_in m)) (log_of (state transcript.old))) }
 {
-    let a = transcript::observe_ext(log, pos, m.s_1);
-    let b = transcript::observe_ext(log, a, m.s_2);
-    transcript::observe_ext(log, b, m.s_3)
+    transcript.observe_ext(m.s_1);
+    transcript.observe_ext(m.s_2);
+    transcript.observe_ext(m.s_3);
 }
 
 // The numerator and the denominator that the claims say the node above has.
@@ -106,11 +94,15 @@ pub fn compute_recursive_relations(c: LayerClaims) -> Frac
     requires { CanonClaims (claims_in c) }
     ensures { IsFrac result (Tree.compute_recursive_relations ExtRing (dec_claims (claims_in c))) }
 {
-    let p0 = c.p_xi_0;
-    let q0 = c.q_xi_0;
-    let p1 = c.p_xi_1;
-    let q1 = c.q_xi_1;
-    step::add_fractions(Frac { p: p0, q: q0 }, Frac { p: p1, q: q1 })
+    let left = Frac {
+        p: c.p_xi_0,
+        q: c.q_xi_0,
+    };
+    let right = Frac {
+        p: c.p_xi_1,
+        q: c.q_xi_1,
+    };
+    left + right
 }
 
 // The claims on the left and the right, brought together at mu.
@@ -134,25 +126,18 @@ pub fn next_claim(claim: Ext, m: SubroundEvals, rho: Ext) -> Ext
 }
 
 // The start of a layer: lambda is sampled, and batches the two claims.
-pub fn open_layer(
-    point: &[u32],
-    log: &mut [u32],
-    lanes: &mut [u64; 25],
-    challenges: &[u32],
-    s: Layer,
-) -> Opened
-    requires room { (4 ≤ length point.now) × (s.pos.put + 4 ≤ length log.old) × Enough log.old lanes.old challenges.now s.pos 1 }
+pub fn open_layer(point: &[u32], transcript: &mut Transcript<'_>, s: Claims) -> Opened
+    requires room { (4 ≤ length point.now) × (transcript.old.put + 4 ≤ length transcript.old.log.now) }
+    requires enough { Enough (state transcript.old) 1 }
     requires clean { Clean point.now × Canon s.numer × Canon s.denom }
-    ensures { LayerOpened point.now log.old log.new lanes.old lanes.new
-        (source s.pos.drawn challenges.now) s result }
+    ensures same { transcript.new.log.ghost_name ≡ transcript.old.log.ghost_name }
+    ensures opened { LayerOpened point.now (state transcript.old) (state transcript.new) (source_of (state transcript.old)) s result }
 {
     let xi = field::load(point, 0);
-    let d = transcript::sample_ext(log, lanes, challenges, s.pos);
-    let lambda = d.x;
+    let lambda = transcript.sample_ext();
     let claim = s.numer.plus(lambda.times(s.denom));
-    let pos = d.pos;
     let eq = Ext::ONE;
-    let first = Sums { pos, claim, eq, xi };
+    let first = Sums { claim, eq, xi };
     Opened { lambda, first }
 }
 
@@ -161,54 +146,39 @@ pub fn sub_round(
     m: SubroundEvals,
     point: &mut [u32],
     j: usize,
-    log: &mut [u32],
-    lanes: &mut [u64; 25],
-    challenges: &[u32],
+    transcript: &mut Transcript<'_>,
     s: Sums,
 ) -> Sums
-    requires room { (4 * j + 7 < length point.old) × (s.pos.put + 16 ≤ length log.old) × Enough log.old lanes.old challenges.now s.pos 1 }
+    requires room { (4 * j + 7 < length point.old) × (transcript.old.put + 16 ≤ length transcript.old.log.now) }
+    requires enough { Enough (state transcript.old) 1 }
     requires clean { Clean point.old × CanonCubic (cubic_in m) × CanonSums s }
-    ensures { SubChecked point.old point.new log.old log.new lanes.old lanes.new
-        (source s.pos.drawn challenges.now) j (dec_cubic (cubic_in m)) s result }
+    ensures same { transcript.new.log.ghost_name ≡ transcript.old.log.ghost_name }
+    ensures checked { SubChecked point.old point.new (state transcript.old) (state transcript.new)
+        (source_of (state transcript.old)) j (dec_cubic (cubic_in m)) s result }
 {
     let i = j + 1;
     let xi = field::load(point, i);
-    let p = observe_cubic(log, s.pos, m);
-    let d = transcript::sample_ext(log, lanes, challenges, p);
-    let rho = d.x;
+    observe_cubic(transcript, m);
+    let rho = transcript.sample_ext();
     field::store(point, i, rho);
-    let pos = d.pos;
     let claim = next_claim(s.claim, m, rho);
     let eq = step::eq::eq_step(s.eq, s.xi, rho);
-    Sums { pos, claim, eq, xi }
+    Sums { claim, eq, xi }
 }
 
 // The end of a layer that holds: mu is sampled, becomes cell 0 of the point, and the claims are brought together there.
-pub fn descend(
-    c: LayerClaims,
-    point: &mut [u32],
-    log: &mut [u32],
-    lanes: &mut [u64; 25],
-    challenges: &[u32],
-    pos: Pos,
-) -> Layer
-    requires room { (4 ≤ length point.old) × (pos.put + 4 ≤ length log.old) × Enough log.old lanes.old challenges.now pos 1 }
+pub fn descend(c: LayerClaims, point: &mut [u32], transcript: &mut Transcript<'_>) -> Claims
+    requires room { (4 ≤ length point.old) × (transcript.old.put + 4 ≤ length transcript.old.log.now) }
+    requires enough { Enough (state transcript.old) 1 }
     requires clean { Clean point.old × CanonClaims (claims_in c) }
-    ensures { Descended point.old point.new log.old log.new lanes.old lanes.new
-        (source pos.drawn challenges.now) (dec_claims (claims_in c)) pos result }
+    ensures same { transcript.new.log.ghost_name ≡ transcript.old.log.ghost_name }
+    ensures descended { Descended point.old point.new (state transcript.old) (state transcript.new)
+        (source_of (state transcript.old)) (dec_claims (claims_in c)) result }
 {
-    let d = transcript::sample_ext(log, lanes, challenges, pos);
-    let mu = d.x;
+    let mu = transcript.sample_ext();
     field::store(point, 0, mu);
-    let f = reduce_to_single_evaluation(c, mu);
-    let after = d.pos;
-    let numer = f.p;
-    let denom = f.q;
-    Layer {
-        pos: after,
-        numer,
-        denom,
-    }
+    let Frac { p: numer, q: denom } = reduce_to_single_evaluation(c, mu);
+    Claims { numer, denom }
 }
 
 // What the claims on a layer say the last claim of its sub-rounds is.
@@ -226,30 +196,27 @@ pub fn close_layer(
     round: usize,
     lambda: Ext,
     point: &mut [u32],
-    log: &mut [u32],
-    lanes: &mut [u64; 25],
-    challenges: &[u32],
+    transcript: &mut Transcript<'_>,
     s: Sums,
-) -> Advance
-    requires room { (4 ≤ length point.old) × (s.pos.put + 20 ≤ length log.old) × Enough log.old lanes.old challenges.now s.pos 1 }
+) -> Verdict
+    requires room { (4 ≤ length point.old) × (transcript.old.put + 20 ≤ length transcript.old.log.now) }
+    requires enough { Enough (state transcript.old) 1 }
     requires clean { Clean point.old × CanonClaims (claims_in c) × CanonSums s × Canon lambda }
-    ensures { LayerChecked point.old point.new log.old log.new lanes.old lanes.new
-        (source s.pos.drawn challenges.now) (dec_claims (claims_in c)) round lambda s result }
+    ensures same { transcript.new.log.ghost_name ≡ transcript.old.log.ghost_name }
+    ensures checked { LayerChecked point.old point.new (state transcript.old) (state transcript.new)
+        (source_of (state transcript.old)) (dec_claims (claims_in c)) round lambda s result }
 {
-    let end = observe_layer_claims(log, s.pos, c);
+    observe_layer_claims(transcript, c);
     let expected = expected_claim(c, lambda, s.eq);
     let actual = s.claim;
-    if !expected.same_words(actual) {
-        return Advance::Stopped {
-            refusal: Refusal::LayerConsistencyCheckFailed {
-                round,
-                expected,
-                actual,
-            },
-            pos: end,
-        };
+    if expected != actual {
+        return Err(Refusal::LayerConsistencyCheckFailed {
+            round,
+            expected,
+            actual,
+        });
     }
-    Advance::Next(descend(c, point, log, lanes, challenges, end))
+    Ok(descend(c, point, transcript))
 }
 
 // Layer 0: the root's numerator must be zero, and its denominator the one told.
@@ -257,35 +224,26 @@ pub fn verify_root(
     q0: Ext,
     c: LayerClaims,
     point: &mut [u32],
-    log: &mut [u32],
-    lanes: &mut [u64; 25],
-    challenges: &[u32],
-    pos: Pos,
-) -> Advance
-    requires room { (4 ≤ length point.old) × (pos.put + 24 ≤ length log.old) × Enough log.old lanes.old challenges.now pos 1 }
+    transcript: &mut Transcript<'_>,
+) -> Verdict
+    requires room { (4 ≤ length point.old) × (transcript.old.put + 24 ≤ length transcript.old.log.now) }
+    requires enough { Enough (state transcript.old) 1 }
     requires clean { Clean point.old × CanonClaims (claims_in c) × Canon q0 }
-    ensures { Rooted point.new log.old log.new lanes.old lanes.new
-        (source pos.drawn challenges.now) (dec q0) (dec_claims (claims_in c)) pos result }
+    ensures same { transcript.new.log.ghost_name ≡ transcript.old.log.ghost_name }
+    ensures rooted { Rooted point.new (state transcript.old) (state transcript.new)
+        (source_of (state transcript.old)) (dec q0) (dec_claims (claims_in c)) result }
 {
-    let f = compute_recursive_relations(c);
-    let numer = f.p;
-    let denom = f.q;
-    let a = transcript::observe_ext(log, pos, q0);
-    let p = observe_layer_claims(log, a, c);
-    if !numer.same_words(Ext::ZERO) {
-        return Advance::Stopped {
-            refusal: Refusal::ZeroCheckFailed { actual: numer },
-            pos: p,
-        };
+    let Frac { p: numer, q: denom } = compute_recursive_relations(c);
+    transcript.observe_ext(q0);
+    observe_layer_claims(transcript, c);
+    if numer != Ext::ZERO {
+        return Err(Refusal::ZeroCheckFailed { actual: numer });
     }
-    if !denom.same_words(q0) {
-        return Advance::Stopped {
-            refusal: Refusal::RootConsistencyCheckFailed {
-                expected: q0,
-                actual: denom,
-            },
-            pos: p,
-        };
+    if denom != q0 {
+        return Err(Refusal::RootConsistencyCheckFailed {
+            expected: q0,
+            actual: denom,
+        });
     }
-    Advance::Next(descend(c, point, log, lanes, challenges, p))
+    Ok(descend(c, point, transcript))
 }

@@ -1,6 +1,7 @@
 -- The loop over the rounds, and round 0 before it.
 -- Assumes nothing.
-use mathlib.Core.Path.{◌≡◌, refl, ◌∙◌, ap, ap₂, subst}
+use Rattle.std.specs.Prelude.{Result, Ok, Err}
+use mathlib.Core.Path.{◌≡◌, ◌∙◌, ap, ap₂, subst}
 use mathlib.Core.Bool.{true}
 use mathlib.Core.List.{List, ◌∷◌, map}
 use Prim.Native.Nat.{ℕ, suc, ◌+◌, ◌*◌, ◌-◌, ◌<◌, ◌≤◌}
@@ -9,11 +10,11 @@ use lib.ListN.{length, get_or, drop}
 use Rattle.field.specs.Ext as E
 use Rattle.field.specs.Extension.{Extension}
 use Rattle.field.specs.declared.Ext.{Ext}
-use Rattle.field.specs.Element.{dec, Canon}
-use Rattle.field.specs.Cells.{Clean, cells}
+use Rattle.field.specs.Element.{dec}
+use Rattle.field.specs.Cells.{cells}
 use Rattle.wire.specs.Words.{all_canonical}
 use Rattle.wire.specs.Bytes.{elem}
-use Rattle.gkr.specs.Transcripts.{Words, Source}
+use Rattle.gkr.specs.Transcripts.{Source}
 use Rattle.stored.specs.declared.LayerClaims.{LayerClaims}
 use Rattle.stored.specs.Shapes.{claims_in}
 use Rattle.stored.specs.Layout.{cubics_words}
@@ -22,19 +23,16 @@ use Rattle.stored.specs.ParseLaws.{claims_step, entries_step, entry_fits}
 use Rattle.gkr.specs.Count.{layers_cost}
 use Rattle.gkr.specs.Gkr as Gkr
 use Rattle.gkr.specs.Gkr.{accepted}
-use Rattle.transcript.specs.declared.Pos.{Pos}
-use Rattle.transcript.specs.Log.{Drawing, Enough, log_of, Steps}
-use Rattle.transcript.proofs.Logs.{enough_fewer, enough_after}
 use Rattle.refusal.specs.declared.Refusal.{Refusal}
-use Rattle.verifier_round.specs.declared.Layer.{Layer}
-use Rattle.verifier_round.specs.declared.Advance.{Advance}
-use Rattle.verifier_round.specs.declared.Advance.TheVariants.{Next, Stopped}
+use Rattle.transcript.specs.Log.{Drawing, Enough, State, log_of}
+use Rattle.transcript.proofs.Logs.{enough_fewer, enough_after}
+use Rattle.verifier_round.specs.declared.Claims.{Claims as Claimed}
 use Rattle.stored.specs.ReadWords.{CanonClaims}
 use Rattle.verifier_round.specs.Values.{dec_cubic, dec_claims, columns}
 use Rattle.verifier_round.specs.Rounds.{Goes, Advances, Rooted}
-use Rattle.verifier_rounds.specs.Runs.{entry_at, RoundDone, Readable, Space, RootSpace, going, LayersEnd, Going, RootEnd}
+use Rattle.verifier_rounds.specs.Runs.{entry_at, RoundDone, Readable, going, LayersEnd, Going, RootEnd}
 use Rattle.verifier_rounds.proofs.Messages.{claim_first, claims_rest, entry_first, entries_rest}
-use Rattle.verifier_rounds.proofs.StopLaws.{further, stopped_before, ended_before}
+use Rattle.verifier_rounds.proofs.StopLaws.{later_still, stopped_before, ended_before}
 
 -- ---- what is read
 pub record NextRead (bs : List ℕ) (claims polys h : ℕ) : Type 0 where
@@ -61,53 +59,24 @@ read_next bs claims polys h r =
       };
     }
 
--- ---- the room
-pub record NextRoom (lg ls challenges : List ℕ) (pos : Pos) (h r : ℕ) : Type 0 where
-  pub put : pos.put + (16 * r + 24) ≤ length lg
-  pub enough : Enough lg ls challenges pos (r + 2)
-  pub rest : (lg' : List ℕ) {ls' : List ℕ} (pos' : Pos) (t : Words) → length lg' ≡ length lg → Steps lg lg' ls ls' pos pos' (16 * r + 24) (r + 2) t → Space lg' ls' challenges pos' h (r + 1)
-
-room_next : (lg challenges : List ℕ) {ls : List ℕ} (pos : Pos) (h r : ℕ) → Space lg ls challenges pos (suc h) r → NextRoom lg ls challenges pos h r
+-- ---- what the next of more rounds costs
+words_next : (h r : ℕ) → layers_cost 4 4 (suc h) r ≡ (16 * r + 24) + layers_cost 4 4 h (r + 1)
 unfolding layers_cost
-room_next lg challenges pos h r s =
-    let e : suc r ≡ r + 1 = omega arith in
-    let a = s.put in
-    let k = layers_cost 0 1 (suc h) r in
-    let c : layers_cost 4 4 h (suc r) ≡ layers_cost 4 4 h (r + 1) = ap (layers_cost 4 4 h) e in
-    let d : layers_cost 0 1 h (suc r) ≡ layers_cost 0 1 h (r + 1) = ap (layers_cost 0 1 h) e in
-    record {
-      put = omega (arith, a);
-      enough = enough_fewer k (omega arith) s.enough;
-      rest = λ lg' pos' t l q. record { put = omega (arith, a, c, l, q.put); enough = enough_after k (omega arith) (omega (arith, d)) q s.enough };
-    }
+words_next h r = let e : suc r ≡ r + 1 = omega arith in omega (arith, ap (layers_cost 4 4 h) e)
+
+draws_next : (h r : ℕ) → layers_cost 0 1 (suc h) r ≡ (r + 2) + layers_cost 0 1 h (r + 1)
+unfolding layers_cost
+draws_next h r = let e : suc r ≡ r + 1 = omega arith in omega (arith, ap (layers_cost 0 1 h) e)
 
 -- ---- the loop
-pub going_start : (bs pt lg : List ℕ) (ch : Source E.Ext) (claims polys n : ℕ) (s : Layer) → 1 ≤ n → Readable bs claims polys (n - 1) → Clean pt → Canon s.numer → Canon s.denom
-    → Going bs pt pt lg lg ch claims claims polys polys n 1 s s
-going_start bs pt lg ch claims polys n s h r c x y =
-    record {
-      from = omega arith;
-      upto = h;
-      verdict = refl;
-      more = omega arith;
-      drawn = refl;
-      rest = refl;
-      read = r;
-      numer = x;
-      denom = y;
-      clean = c;
-      points = refl;
-      logs = refl;
-    }
-
 -- the model's next round is the one at these places
-next_round : (bs pt lg : List ℕ) (ch : Source E.Ext) (claims polys h r : ℕ) (s : Layer) → going bs pt lg ch claims polys (suc h) r s
+next_round : (bs pt : List ℕ) (t : State) (ch : Source E.Ext) (claims polys h r : ℕ) (s : Claimed) → going bs pt t ch claims polys (suc h) r s
     ≡ Gkr.rounds Extension (Drawing ch) (entry_at bs polys ∷ map (map dec_cubic) (entries_from h (drop (polys + 1 + 48 * get_or bs polys 0) bs)))
-    (dec_claims (claims_of (drop claims bs)) ∷ map dec_claims (claims_from h (drop (claims + 64) bs))) (columns s) (cells pt 0 r) (log_of lg s.pos)
-next_round bs pt lg ch claims polys h r s =
-    ap₂ (λ mss cs. Gkr.rounds Extension (Drawing ch) (map (map dec_cubic) mss) (map dec_claims cs) (columns s) (cells pt 0 r) (log_of lg s.pos)) (entries_step h polys bs) (claims_step h claims bs)
+    (dec_claims (claims_of (drop claims bs)) ∷ map dec_claims (claims_from h (drop (claims + 64) bs))) (columns s) (cells pt 0 r) (log_of t)
+next_round bs pt t ch claims polys h r s =
+    ap₂ (λ mss cs. Gkr.rounds Extension (Drawing ch) (map (map dec_cubic) mss) (map dec_claims cs) (columns s) (cells pt 0 r) (log_of t)) (entries_step h polys bs) (claims_step h claims bs)
 
-module _ (bs pt₀ pt lg₀ lg : List ℕ) (ch : Source E.Ext) (claims₀ claims polys₀ polys n r : ℕ) (s₀ s : Layer) (i : Going bs pt₀ pt lg₀ lg ch claims₀ claims polys₀ polys n r s₀ s) where
+module _ {bs pt₀ pt : List ℕ} {t₀ t : State} {ch : Source E.Ext} {claims₀ claims polys₀ polys n r : ℕ} {s₀ s : Claimed} (i : Going bs pt₀ pt t₀ t ch claims₀ claims polys₀ polys n r s₀ s) where
   abbrev h : ℕ
   h = n - (r + 1)
 
@@ -117,81 +86,70 @@ module _ (bs pt₀ pt lg₀ lg : List ℕ) (ch : Source E.Ext) (claims₀ claims
   pub next_read : r < n → NextRead bs claims polys h
   next_read b = read_next bs claims polys h (subst (Readable bs claims polys) (left b) i.read)
 
-  pub next_room : {ls challenges : List ℕ} → Space lg ls challenges s.pos (n - r) r → r < n → NextRoom lg ls challenges s.pos h r
-  next_room {ls} {challenges} q b = room_next lg challenges s.pos h r (subst (λ k. Space lg ls challenges s.pos k r) (left b) q)
+  words_left : r < n → layers_cost 4 4 (n - r) r ≡ (16 * r + 24) + layers_cost 4 4 h (r + 1)
+  words_left b = ap (λ k. layers_cost 4 4 k r) (left b) ∙ words_next h r
 
-  unfolded : r < n → going bs pt₀ lg₀ ch claims₀ polys₀ (n - 1) 1 s₀
+  draws_left : r < n → layers_cost 0 1 (n - r) r ≡ (r + 2) + layers_cost 0 1 h (r + 1)
+  draws_left b = ap (λ k. layers_cost 0 1 k r) (left b) ∙ draws_next h r
+
+  pub next_room : r < n → t.put + (16 * r + 24) ≤ length t.buffer
+  next_room b = omega (arith, i.room, words_left b)
+
+  pub next_enough : r < n → Enough t (r + 2)
+  next_enough b = enough_fewer (layers_cost 0 1 (n - r) r) (omega (arith, draws_left b)) i.enough
+
+  unfolded : r < n → going bs pt₀ t₀ ch claims₀ polys₀ (n - 1) 1 s₀
       ≡ Gkr.rounds Extension (Drawing ch) (entry_at bs polys ∷ map (map dec_cubic) (entries_from h (drop (polys + 1 + 48 * get_or bs polys 0) bs)))
-      (dec_claims (claims_of (drop claims bs)) ∷ map dec_claims (claims_from h (drop (claims + 64) bs))) (columns s) (cells pt 0 r) (log_of lg s.pos)
-  unfolded b = i.verdict ∙ ap (λ k. going bs pt lg ch claims polys k r s) (left b) ∙ next_round bs pt lg ch claims polys h r s
+      (dec_claims (claims_of (drop claims bs)) ∷ map dec_claims (claims_from h (drop (claims + 64) bs))) (columns s) (cells pt 0 r) (log_of t)
+  unfolded b = i.verdict ∙ ap (λ k. going bs pt t ch claims polys k r s) (left b) ∙ next_round bs pt t ch claims polys h r s
 
-  module _ (pt' lg' : List ℕ) {ls ls' : List ℕ} (a : Advance) (b : r < n) (d : RoundDone bs pt pt' lg lg' ls ls' ch claims polys r s a) where
-    pub going_stop : (e : Refusal) (end : Pos) → a ≡ Stopped e end → LayersEnd bs pt₀ pt' lg₀ lg' ch claims₀ polys₀ n s₀ (Stopped e end)
-    going_stop e end q =
-        let st = subst (Advances lg lg' ls ls' pt' ch s.pos (r + 1) (16 * r + 24) (r + 2) _) q d.run in
-        stopped_before lg₀ lg lg' ch s₀.pos s.pos i.more i.rest i.logs _ _ e end i.drawn (unfolded b) (st _ _)
+  module _ {pt' : List ℕ} {t' : State} {a : Result Claimed Refusal} (b : r < n) (d : RoundDone bs pt pt' t t' ch claims polys r s a) where
+    pub going_stop : (e : Refusal) → a ≡ Err e → LayersEnd bs pt₀ pt' t₀ t' ch claims₀ polys₀ n s₀ (Err e)
+    going_stop e q =
+        let st = subst (Advances t t' pt' ch (r + 1) (16 * r + 24) (r + 2) _) q d.run in
+        stopped_before i.steps (unfolded b) (st _ _)
 
-    pub going_next : (t : Layer) → a ≡ Next t → length pt' ≡ length pt → length lg' ≡ length lg → Going bs pt₀ pt' lg₀ lg' ch claims₀ (claims + 64) polys₀ (polys + (1 + 48 * r)) n (r + 1) s₀ t
-    going_next t q x y =
-        let g = subst (Advances lg lg' ls ls' pt' ch s.pos (r + 1) (16 * r + 24) (r + 2) _) q d.run in
-        let p : polys + 1 + 48 * get_or bs polys 0 ≡ polys + (1 + 48 * r) = omega (arith, d.counted t q) in
-        let put : s.pos.put ≤ t.pos.put = omega (arith, g.steps.put) in
+    pub going_next : (v : Claimed) → a ≡ Ok v → length pt' ≡ length pt → Going bs pt₀ pt' t₀ t' ch claims₀ (claims + 64) polys₀ (polys + (1 + 48 * r)) n (r + 1) s₀ v
+    going_next v q x =
+        let g = subst (Advances t t' pt' ch (r + 1) (16 * r + 24) (r + 2) _) q d.run in
+        let p : polys + 1 + 48 * get_or bs polys 0 ≡ polys + (1 + 48 * r) = omega (arith, d.counted v q) in
         record {
           from = omega arith;
           upto = omega arith;
-          verdict = unfolded b ∙ g.verdict _ _ ∙ ap (λ k. going bs pt' lg' ch (claims + 64) k h (r + 1) t) p;
-          more = omega (arith, i.more, put);
-          drawn = g.steps.drawn ∙ i.drawn;
-          rest = g.steps.rest ∙ further lg lg₀ s.pos.put t.pos.put put i.rest;
+          verdict = unfolded b ∙ g.verdict _ _ ∙ ap (λ k. going bs pt' t' ch (claims + 64) k h (r + 1) v) p;
+          steps = later_still i.steps g.steps;
+          room = omega (arith, i.room, words_left b, g.steps.put, g.steps.room);
+          enough = enough_after (layers_cost 0 1 (n - r) r) (omega arith) (omega (arith, draws_left b)) g.steps i.enough;
           read = subst (λ k. Readable bs (claims + 64) k h) p (next_read b).rest;
           numer = g.numer;
           denom = g.denom;
           clean = g.clean;
           points = x ∙ i.points;
-          logs = y ∙ i.logs;
         }
 
-    pub space_next : {challenges : List ℕ} (t : Layer) → a ≡ Next t → length lg' ≡ length lg → Space lg ls challenges s.pos (n - r) r → Space lg' ls' challenges t.pos h (r + 1)
-    space_next t q y p =
-        let g = subst (Advances lg lg' ls ls' pt' ch s.pos (r + 1) (16 * r + 24) (r + 2) _) q d.run in
-        (next_room p b).rest lg' t.pos _ y g.steps
-
-  pub going_end : {ls challenges : List ℕ} → Space lg ls challenges s.pos (n - r) r → n ≤ r → LayersEnd bs pt₀ pt lg₀ lg ch claims₀ polys₀ n s₀ (Next s)
+  pub going_end : n ≤ r → LayersEnd bs pt₀ pt t₀ t ch claims₀ polys₀ n s₀ (Ok s)
   unfolding Gkr.rounds entries_from claims_from
-  going_end q b =
+  going_end b =
       let z : n - r ≡ 0 = omega (arith, i.upto) in
       let e : r ≡ n = omega (arith, i.upto) in
-      let last : going bs pt lg ch claims polys (n - r) r s ≡ accepted (columns s) (cells pt 0 r) (log_of lg s.pos) = ap (λ k. going bs pt lg ch claims polys k r s) z in
+      let last : going bs pt t ch claims polys (n - r) r s ≡ accepted (columns s) (cells pt 0 r) (log_of t) = ap (λ k. going bs pt t ch claims polys k r s) z in
       record {
-        verdict = i.verdict ∙ last ∙ ap (λ k. accepted (columns s) (cells pt 0 k) (log_of lg s.pos)) e;
-        more = i.more;
-        room = omega (arith, q.put, i.logs);
-        drawn = i.drawn;
-        rest = i.rest;
+        verdict = i.verdict ∙ last ∙ ap (λ k. accepted (columns s) (cells pt 0 k) (log_of t)) e;
+        steps = i.steps;
+        room = omega (arith, i.room, i.steps.room);
         numer = i.numer;
         denom = i.denom;
         clean = i.clean;
       }
 
 -- ---- round 0
-module _ (bs lg lg₁ ls ls₁ : List ℕ) (ch : Source E.Ext) (polys n : ℕ) (pos : Pos) (q0 : Ext) (c : LayerClaims) (pt₁ : List ℕ) (a : Advance) (x : q0 ≡ elem (drop 5 bs)) (y : claims_in c ≡ claims_of (drop 22 bs))
-    (d : Rooted pt₁ lg lg₁ ls ls₁ ch (dec q0) (dec_claims (claims_in c)) pos a) where
-  there : Rooted pt₁ lg lg₁ ls ls₁ ch (dec (elem (drop 5 bs))) (dec_claims (claims_of (drop 22 bs))) pos a
-  there = subst (λ e. Rooted pt₁ lg lg₁ ls ls₁ ch (dec e) (dec_claims (claims_of (drop 22 bs))) pos a) x (subst (λ e. Rooted pt₁ lg lg₁ ls ls₁ ch (dec q0) (dec_claims e) pos a) y d)
+module _ (bs : List ℕ) (t t₁ : State) (ch : Source E.Ext) (polys n : ℕ) (q0 : Ext) (c : LayerClaims) (pt₁ : List ℕ) (a : Result Claimed Refusal) (x : q0 ≡ elem (drop 5 bs)) (y : claims_in c ≡ claims_of (drop 22 bs))
+    (d : Rooted pt₁ t t₁ ch (dec q0) (dec_claims (claims_in c)) a) where
+  there : Rooted pt₁ t t₁ ch (dec (elem (drop 5 bs))) (dec_claims (claims_of (drop 22 bs))) a
+  there = subst (λ e. Rooted pt₁ t t₁ ch (dec e) (dec_claims (claims_of (drop 22 bs))) a) x (subst (λ e. Rooted pt₁ t t₁ ch (dec q0) (dec_claims e) a) y d)
 
-  pub root_stop : (pt' : List ℕ) (e : Refusal) (end : Pos) → a ≡ Stopped e end → RootEnd bs pt' lg lg₁ ch polys n pos (Stopped e end)
-  root_stop pt' e end q = subst (Advances lg lg₁ ls ls₁ pt₁ ch pos 1 24 1 _) q there _ _
+  pub root_goes : (s : Claimed) → a ≡ Ok s → Goes t t₁ pt₁ ch 1 24 1 (λ mss cs. Gkr.root Extension (Drawing ch) (dec (elem (drop 5 bs))) (dec_claims (claims_of (drop 22 bs))) cs mss (log_of t)) s
+  root_goes s q = subst (Advances t t₁ pt₁ ch 1 24 1 _) q there
 
-  pub root_goes : (s : Layer) → a ≡ Next s → Goes lg lg₁ ls ls₁ pt₁ ch pos 1 24 1 (λ mss cs. Gkr.root Extension (Drawing ch) (dec (elem (drop 5 bs))) (dec_claims (claims_of (drop 22 bs))) cs mss (log_of lg pos)) s
-  root_goes s q = subst (Advances lg lg₁ ls ls₁ pt₁ ch pos 1 24 1 _) q there
-
-  pub root_end : (pt' lg' : List ℕ) (s : Layer) (r : Advance) → a ≡ Next s → length lg₁ ≡ length lg → (ch₁ : Source E.Ext) → ch₁ ≡ ch
-      → LayersEnd bs pt₁ pt' lg₁ lg' ch₁ 86 polys n s r → RootEnd bs pt' lg lg' ch polys n pos r
-  root_end pt' lg' s r q l ch₁ w e =
-      let g = root_goes s q in
-      ended_before lg lg₁ lg' ch pos s.pos (omega (arith, g.steps.put)) g.steps.rest l pt' n _ _ r g.steps.drawn (g.verdict _ _) (subst (λ d. LayersEnd bs pt₁ pt' lg₁ lg' d 86 polys n s r) w e)
-
-  pub root_space : {challenges : List ℕ} (s : Layer) → a ≡ Next s → length lg₁ ≡ length lg → (m : ℕ) → RootSpace lg ls challenges pos m → Space lg₁ ls₁ challenges s.pos m 1
-  root_space s q l m p =
-      let g = root_goes s q in
-      record { put = omega (arith, g.steps.put, p.put, l); enough = enough_after (1 + layers_cost 0 1 m 1) (omega arith) (omega arith) g.steps p.enough }
+  pub root_end : (pt' : List ℕ) (t' : State) (s : Claimed) (r : Result Claimed Refusal) → a ≡ Ok s → {ch₁ : Source E.Ext} → ch₁ ≡ ch → LayersEnd bs pt₁ pt' t₁ t' ch₁ 86 polys n s r → RootEnd bs pt' t t' ch polys n r
+  root_end pt' t' s r q w e = let g = root_goes s q in ended_before g.steps t' pt' n r (g.verdict _ _) (subst (λ d. LayersEnd bs pt₁ pt' t₁ t' d 86 polys n s r) w e)

@@ -1,53 +1,53 @@
--- No second answer and no second log fit the loops over a proof, but for the sponge. Of the point only the coordinates are said: it is an array of the caller's own. A lent slice keeps its length.
+-- No second answer and no second log fit the loops over a proof, but for the sponge. Of the point only the coordinates are said: it is an array of the caller's own.
 -- Assumes nothing.
-use Rattle.std.specs.Prelude.{◌≡◌, List, ℕ, length, take}
+use Rattle.std.specs.Prelude.{◌≡◌, Result, Ok, Err, List, ℕ, length, take}
 use Rattle.std.proofs.Common.{sym, ◌∙◌, ap, arith, length-take-le}
 use Rattle.field.specs.Ext as E
 use Rattle.field.specs.ElementLaws.{is_unique}
 use Rattle.gkr.specs.Run.{Frac}
 use Rattle.gkr.specs.Transcripts.{Words, Source}
 use Rattle.refusal.specs.declared.Refusal.{Refusal}
-use Rattle.transcript.specs.declared.Pos.{Pos}
-use Rattle.transcript.specs.LogLaws.{SamePos, log_unique, steps_unique}
-use Rattle.verifier_round.specs.declared.Layer.{Layer}
+use Rattle.transcript.specs.Log.{State}
+use Rattle.transcript.specs.LogLaws.{SameState, buffer_unique, steps_unique}
+use Rattle.verifier_round.specs.declared.Claims.{Claims as Claimed}
 use Rattle.verifier_round.specs.declared.Sums.{Sums}
-use Rattle.verifier_round.specs.declared.Advance.{Advance}
-use Rattle.verifier_round.specs.declared.Advance.TheVariants.{Next, Stopped}
 use Rattle.verifier_round.specs.Verdicts.{Model, answer_of}
 use Rattle.verifier_round.specs.Rounds.{Stops}
-use Rattle.verifier_round.specs.RoundLaws.{SameLayer}
-use Rattle.verifier_round.specs.AdvanceLaws.{SameAdvance, canon_unique, accepted_parts, accepted_or_refused, stops_unique}
+use Rattle.verifier_round.specs.AdvanceLaws.{canon_unique, accepted_parts, accepted_or_refused, stops_unique}
 use Rattle.verifier_rounds.specs.Runs.{Summed, Accepts, Ends}
 
--- the claim, eq, where the run stands, and the log
-pub summed_unique : {bs pt pt' pt'' lg lg' lg'' ls ls' ls'' : List ℕ} {ch : Source E.Ext} {from k : ℕ} {s₀ r s : Sums} → Summed bs pt pt' lg lg' ls ls' ch from k s₀ r → Summed bs pt pt'' lg lg'' ls ls'' ch from k s₀ s
-    → (r.claim ≡ s.claim) × (r.eq ≡ s.eq) × SamePos r.pos s.pos × (lg' ≡ lg'')
-summed_unique h h' = let e = steps_unique h.steps h'.steps in (is_unique h.claim h'.claim, is_unique h.eq h'.eq, e.0, e.1)
+-- the claim, eq, and where the run stands
+pub summed_unique : {bs pt pt' pt'' : List ℕ} {t t' t'' : State} {ch : Source E.Ext} {from k : ℕ} {s₀ r s : Sums} → Summed bs pt pt' t t' ch from k s₀ r → Summed bs pt pt'' t t'' ch from k s₀ s
+    → (r.claim ≡ s.claim) × (r.eq ≡ s.eq) × SameState t' t''
+summed_unique h h' = (is_unique h.claim h'.claim, is_unique h.eq h'.eq, steps_unique h.steps h'.steps)
 
-module _ (lg : List ℕ) (ch : Source E.Ext) (pos : Pos) (n : ℕ) (v : Model ch) where
+module _ (t : State) (ch : Source E.Ext) (n : ℕ) (v : Model ch) where
   -- where the log ends
-  accepts_put : {l p : List ℕ} {s : Layer} → length l ≡ length lg → Accepts lg l p ch pos n v s → length (take s.pos.put l) ≡ s.pos.put
-  accepts_put {l} {s = s} q h = length-take-le s.pos.put l (omega (arith, h.room, q))
+  accepts_put : {t' : State} {p : List ℕ} {s : Claimed} → Accepts t t' p ch n v s → length (take t'.put t'.buffer) ≡ t'.put
+  accepts_put {t'} h = length-take-le t'.put t'.buffer (omega (arith, h.room, h.steps.room))
 
-  accepts_unique : {lg' lg'' pt' pt'' : List ℕ} {a b : Layer} → length lg' ≡ length lg → length lg'' ≡ length lg → Accepts lg lg' pt' ch pos n v a → Accepts lg lg'' pt'' ch pos n v b → SameLayer a b × (lg' ≡ lg'')
-  accepts_unique {lg'} {lg''} {a = a} {b = b} q q' h h' =
+  accepts_unique : {t' t'' : State} {pt' pt'' : List ℕ} {a b : Claimed} → Accepts t t' pt' ch n v a → Accepts t t'' pt'' ch n v b → (a ≡ b) × SameState t' t''
+  accepts_unique {t'} {t''} h h' =
       let e = accepted_parts ch (sym h.verdict ∙ h'.verdict) in
-      let t : take a.pos.put lg' ≡ take b.pos.put lg'' = ap (λ (u : Words). u.log) e.2 in
-      let p : a.pos.put ≡ b.pos.put = sym (accepts_put q h) ∙ ap length t ∙ accepts_put q' h' in
-      let l = log_unique lg p (h.drawn ∙ sym h'.drawn) e.2 h.rest h'.rest in (
+      let l = ap (λ (u : Words). u.log) e.2 in
+      let p : t'.put ≡ t''.put = sym (accepts_put h) ∙ ap length l ∙ accepts_put h' in
+      let x = canon_unique h.numer h'.numer (ap (λ (f : Frac E.Ext). f.p) e.0) in
+      let y = canon_unique h.denom h'.denom (ap (λ (f : Frac E.Ext). f.q) e.0) in (
+        λ i. record { numer = x i; denom = y i },
         record {
-          pos = l.0;
-          numer = canon_unique h.numer h'.numer (ap (λ (f : Frac E.Ext). f.p) e.0);
-          denom = canon_unique h.denom h'.denom (ap (λ (f : Frac E.Ext). f.q) e.0);
+          buffer = buffer_unique t.buffer t' t'' p e.2 h.steps.rest h'.steps.rest;
+          put = p;
+          used = ap (λ (u : Words). u.used) e.2;
+          drawn = h.steps.drawn ∙ sym h'.steps.drawn;
+          challenges = h.steps.challenges ∙ sym h'.steps.challenges;
         },
-        l.1,
       )
 
-  one_way : {l l' p : List ℕ} {a : Layer} {e : Refusal} {end : Pos} → Accepts lg l p ch pos n v a → Stops lg l' ch pos v e end → ⊥
+  one_way : {t' t'' : State} {p : List ℕ} {a : Claimed} {e : Refusal} → Accepts t t' p ch n v a → Stops t t'' ch v e → ⊥
   one_way h s = accepted_or_refused (ap (answer_of ch) (sym h.verdict) ∙ s.answer)
 
-  pub ends_unique : (lg' lg'' pt' pt'' : List ℕ) (r s : Advance) → length lg' ≡ length lg → length lg'' ≡ length lg → Ends lg lg' pt' ch pos n v r → Ends lg lg'' pt'' ch pos n v s → SameAdvance r s × (lg' ≡ lg'')
-  ends_unique lg' lg'' pt' pt'' (Next a) (Next b) q q' h h' = accepts_unique q q' h h'
-  ends_unique lg' lg'' pt' pt'' (Next a) (Stopped x e) q q' h h' = absurd (one_way h h')
-  ends_unique lg' lg'' pt' pt'' (Stopped x e) (Next b) q q' h h' = absurd (one_way h' h)
-  ends_unique lg' lg'' pt' pt'' (Stopped x e) (Stopped y f) q q' h h' = stops_unique q q' h h'
+  pub ends_unique : (t' t'' : State) (pt' pt'' : List ℕ) (r s : Result Claimed Refusal) → Ends t t' pt' ch n v r → Ends t t'' pt'' ch n v s → (r ≡ s) × SameState t' t''
+  ends_unique t' t'' pt' pt'' (Ok a) (Ok b) h h' = let e = accepts_unique h h' in (λ i. Ok (e.0 i), e.1)
+  ends_unique t' t'' pt' pt'' (Ok a) (Err e) h h' = absurd (one_way h h')
+  ends_unique t' t'' pt' pt'' (Err e) (Ok b) h h' = absurd (one_way h' h)
+  ends_unique t' t'' pt' pt'' (Err e) (Err f) h h' = let u = stops_unique h h' in (λ i. Err (u.0 i), u.1)

@@ -8,16 +8,16 @@ ghost use Rattle.wire.specs.Words.{all_canonical};
 ghost use Rattle.wire.specs.Bytes.{elem};
 ghost use Rattle.stored.specs.Layout.{cubics_words};
 ghost use Rattle.stored.specs.Parse.{cubic_of, claims_of, cubics_from};
-ghost use Rattle.transcript.specs.Source.{source};
-ghost use Rattle.transcript.specs.Log.{Enough};
+ghost use Rattle.gkr.specs.Count.{layers_cost};
+ghost use Rattle.transcript.specs.Log.{Enough, source_of, state};
 ghost use Rattle.stored.specs.ReadWords.{CanonClaims, CanonCubic};
 ghost use Rattle.verifier_round.specs.Values.{dec_cubic, CanonSums};
 ghost use Rattle.verifier_round.specs.Rounds.{SubChecked};
-ghost use Rattle.verifier_rounds.specs.Runs.{Summed, RoundDone, Readable, Space, RootSpace, LayersEnd, RootEnd};
+ghost use Rattle.verifier_rounds.specs.Runs.{Summed, RoundDone, Readable, LayersEnd, RootEnd};
 
 use refusal::Refusal;
-use transcript::Pos;
-use verifier_round::{Advance, Layer, Sums};
+use transcript::Transcript;
+use verifier_round::{Claims, Opened, Sums, Verdict};
 
 // One sub-round, whose message stands at a place of the proof.
 fn sub_round_at(
@@ -25,18 +25,19 @@ fn sub_round_at(
     at: usize,
     point: &mut [u32],
     j: usize,
-    log: &mut [u32],
-    lanes: &mut [u64; 25],
-    challenges: &[u32],
+    transcript: &mut Transcript<'_>,
     s: Sums,
 ) -> Sums
-    requires room { (at + 48 ≤ length proof.now) × (4 * j + 7 < length point.old) × (s.pos.put + 16 ≤ length log.old) × Enough log.old lanes.old challenges.now s.pos 1 }
+    requires read { at + 48 ≤ length proof.now }
+    requires room { (4 * j + 7 < length point.old) × (transcript.old.put + 16 ≤ length transcript.old.log.now) }
+    requires enough { Enough (state transcript.old) 1 }
     requires clean { Clean point.old × CanonCubic (cubic_of (drop at proof.now)) × CanonSums s }
-    ensures { SubChecked point.old point.new log.old log.new lanes.old lanes.new
-        (source s.pos.drawn challenges.now) j (dec_cubic (cubic_of (drop at proof.now))) s result }
+    ensures same { transcript.new.log.ghost_name ≡ transcript.old.log.ghost_name }
+    ensures checked { SubChecked point.old point.new (state transcript.old) (state transcript.new)
+        (source_of (state transcript.old)) j (dec_cubic (cubic_of (drop at proof.now))) s result }
 {
     let m = stored::read_subround(proof, at);
-    verifier_round::sub_round(m, point, j, log, lanes, challenges, s)
+    verifier_round::sub_round(m, point, j, transcript, s)
 }
 
 // The sub-rounds of a round, as many as its number.
@@ -45,22 +46,20 @@ pub fn verify_gkr_sumcheck(
     from: usize,
     round: usize,
     point: &mut [u32],
-    log: &mut [u32],
-    lanes: &mut [u64; 25],
-    challenges: &[u32],
+    transcript: &mut Transcript<'_>,
     first: Sums,
 ) -> Sums
-    requires room { (from + 48 * round ≤ length proof.now) × (4 * round + 4 ≤ length point.old)
-        × (first.pos.put + 16 * round ≤ length log.old) × Enough log.old lanes.old challenges.now first.pos round }
+    requires read { from + 48 * round ≤ length proof.now }
+    requires room { (4 * round + 4 ≤ length point.old) × (transcript.old.put + 16 * round ≤ length transcript.old.log.now) }
+    requires enough { Enough (state transcript.old) round }
     requires clean { Clean point.old × CanonSums first × (all_canonical (cubics_words (cubics_from round (drop from proof.now))) ≡ true) }
-    ensures { Summed proof.now point.old point.new log.old log.new lanes.old lanes.new
-        (source first.pos.drawn challenges.now) from round first result }
+    ensures same { transcript.new.log.ghost_name ≡ transcript.old.log.ghost_name }
+    ensures summed { Summed proof.now point.old point.new (state transcript.old) (state transcript.new)
+        (source_of (state transcript.old)) from round first result }
 {
     let mut s = first;
-    let mut at = from;
     for j in 0..round {
-        s = sub_round_at(proof, at, point, j, log, lanes, challenges, s);
-        at += 48;
+        s = sub_round_at(proof, from + 48 * j, point, j, transcript, s);
     }
     s
 }
@@ -72,45 +71,30 @@ pub fn verify_round(
     polys: usize,
     round: usize,
     point: &mut [u32],
-    log: &mut [u32],
-    lanes: &mut [u64; 25],
-    challenges: &[u32],
-    s: Layer,
-) -> Advance
+    transcript: &mut Transcript<'_>,
+    s: Claims,
+) -> Verdict
     requires read { (claims + 64 ≤ length proof.now) × (polys + 1 + 48 * get_or proof.now polys 0 ≤ length proof.now) }
-    requires room { (4 * round + 4 ≤ length point.old) × (s.pos.put + (16 * round + 24) ≤ length log.old) × Enough log.old lanes.old challenges.now s.pos (round + 2) }
+    requires room { (4 * round + 4 ≤ length point.old) × (transcript.old.put + (16 * round + 24) ≤ length transcript.old.log.now) }
+    requires enough { Enough (state transcript.old) (round + 2) }
     requires clean { Clean point.old × Canon s.numer × Canon s.denom }
     requires words { CanonClaims (claims_of (drop claims proof.now)) × (all_canonical (cubics_words (cubics_from (get_or proof.now polys 0) (drop (polys + 1) proof.now))) ≡ true) }
-    ensures { RoundDone proof.now point.old point.new log.old log.new lanes.old lanes.new
-        (source s.pos.drawn challenges.now) claims polys round s result }
+    ensures same { transcript.new.log.ghost_name ≡ transcript.old.log.ghost_name }
+    ensures done { RoundDone proof.now point.old point.new (state transcript.old) (state transcript.new)
+        (source_of (state transcript.old)) claims polys round s result }
 {
-    let subrounds = wire::wide(proof[polys]) as usize;
-    let o = verifier_round::open_layer(point, log, lanes, challenges, s);
-    let lambda = o.lambda;
-    let first = o.first;
+    let subrounds = usize::from(proof[polys]);
+    let Opened { lambda, first } = verifier_round::open_layer(point, transcript, s);
     if subrounds != round {
-        let pos = first.pos;
-        return Advance::Stopped {
-            refusal: Refusal::IncorrectSubroundCount {
-                round,
-                expected: round,
-                actual: subrounds,
-            },
-            pos,
-        };
+        return Err(Refusal::IncorrectSubroundCount {
+            round,
+            expected: round,
+            actual: subrounds,
+        });
     }
-    let last = verify_gkr_sumcheck(
-        proof,
-        polys + 1,
-        round,
-        point,
-        log,
-        lanes,
-        challenges,
-        first,
-    );
+    let last = verify_gkr_sumcheck(proof, polys + 1, round, point, transcript, first);
     let c = stored::read_claims(proof, claims);
-    verifier_round::close_layer(c, round, lambda, point, log, lanes, challenges, last)
+    verifier_round::close_layer(c, round, lambda, point, transcript, last)
 }
 
 // The rounds after round 0.
@@ -120,33 +104,27 @@ pub fn verify_rounds(
     polys: usize,
     rounds: usize,
     point: &mut [u32],
-    log: &mut [u32],
-    lanes: &mut [u64; 25],
-    challenges: &[u32],
-    first: Layer,
-) -> Advance
+    transcript: &mut Transcript<'_>,
+    first: Claims,
+) -> Verdict
     requires read { (1 ≤ rounds) × Readable proof.now claims polys (rounds - 1) }
-    requires room { (4 * rounds ≤ length point.old) × Space log.old lanes.old challenges.now first.pos (rounds - 1) 1 }
+    requires room { (4 * rounds ≤ length point.old) × (transcript.old.put + layers_cost 4 4 (rounds - 1) 1 ≤ length transcript.old.log.now) }
+    requires enough { Enough (state transcript.old) (layers_cost 0 1 (rounds - 1) 1) }
     requires clean { Clean point.old × Canon first.numer × Canon first.denom }
-    ensures { LayersEnd proof.now point.old point.new log.old log.new
-        (source first.pos.drawn challenges.now) claims polys rounds first result }
+    ensures same { transcript.new.log.ghost_name ≡ transcript.old.log.ghost_name }
+    ensures ended { LayersEnd proof.now point.old point.new (state transcript.old) (state transcript.new)
+        (source_of (state transcript.old)) claims polys rounds first result }
 {
     let mut s = first;
     let mut c = claims;
     let mut p = polys;
+    // Stays: the entries grow with their round, so that their places are no chunks of one size.
     for round in 1..rounds {
-        match verify_round(proof, c, p, round, point, log, lanes, challenges, s) {
-            Advance::Next(t) => {
-                s = t;
-            }
-            Advance::Stopped { refusal, pos } => {
-                return Advance::Stopped { refusal, pos };
-            }
-        }
+        s = verify_round(proof, c, p, round, point, transcript, s)?;
         c += 64;
         p += 1 + 48 * round;
     }
-    Advance::Next(s)
+    Ok(s)
 }
 
 // Round 0 and all after it, from where the log stands.
@@ -155,23 +133,19 @@ pub fn verify_all(
     polys: usize,
     rounds: usize,
     point: &mut [u32],
-    log: &mut [u32],
-    lanes: &mut [u64; 25],
-    challenges: &[u32],
-    pos: Pos,
-) -> Advance
+    transcript: &mut Transcript<'_>,
+) -> Verdict
     requires read { (1 ≤ rounds) × (22 + 64 * rounds ≤ length proof.now) × Readable proof.now 86 polys (rounds - 1) }
-    requires room { (4 * rounds ≤ length point.old) × RootSpace log.old lanes.old challenges.now pos (rounds - 1) }
+    requires room { (4 * rounds ≤ length point.old) × (transcript.old.put + 24 + layers_cost 4 4 (rounds - 1) 1 ≤ length transcript.old.log.now) }
+    requires enough { Enough (state transcript.old) (1 + layers_cost 0 1 (rounds - 1) 1) }
     requires clean { Clean point.old }
     requires words { Canon (elem (drop 5 proof.now)) × CanonClaims (claims_of (drop 22 proof.now)) }
-    ensures { RootEnd proof.now point.new log.old log.new (source pos.drawn challenges.now) polys rounds pos result }
+    ensures same { transcript.new.log.ghost_name ≡ transcript.old.log.ghost_name }
+    ensures ended { RootEnd proof.now point.new (state transcript.old) (state transcript.new)
+        (source_of (state transcript.old)) polys rounds result }
 {
     let q0 = wire::element_at(proof, 5);
     let c = stored::read_claims(proof, 22);
-    match verifier_round::verify_root(q0, c, point, log, lanes, challenges, pos) {
-        Advance::Next(s) => verify_rounds(
-            proof, 86, polys, rounds, point, log, lanes, challenges, s,
-        ),
-        Advance::Stopped { refusal, pos } => Advance::Stopped { refusal, pos },
-    }
+    let s = verifier_round::verify_root(q0, c, point, transcript)?;
+    verify_rounds(proof, 86, polys, rounds, point, transcript, s)
 }

@@ -3,4 +3,5 @@ pub mod Bytes
 pub mod Words
 pub mod Written
 pub mod WordLaws
+pub mod PlaceLaws
 pub mod WrittenLaws

@@ -1,29 +1,19 @@
 // Words in bytes, the highest byte first, and the search for a word that is not canonical.
 #![tactic(auto)]
 
-ghost use Rattle.std.specs.Prelude.{◌≡◌, [], ◌∷◌, ◌+◌, ◌*◌, ◌<◌, ◌≤◌, length, drop};
-ghost use Rattle.wire.specs.Bytes.{be4, word, words_from, elem};
-ghost use Rattle.wire.specs.Words.{all_canonical, first_bad};
+ghost use Rattle.std.specs.Prelude.{◌≡◌, [], ◌∷◌, ◌++◌, ◌+◌, ◌*◌, ◌≤◌, length, drop};
+ghost use Rattle.wire.specs.Bytes.{be4, word, words_from, bytes_of, elem};
+ghost use Rattle.wire.specs.Words.{all_canonical, bad_place};
 ghost use Rattle.wire.specs.Written.{Wrote};
 
 use field::{Base, Ext};
-
-// A byte as a word.
-pub fn wide(b: u8) -> u32
-    ensures { (result ≡ b) × (result < 256) }
-{
-    b as u32
-}
 
 // The word whose four bytes stand from a place on.
 pub fn word_at(bytes: &[u8], at: usize) -> u32
     requires { at + 4 ≤ length bytes.now }
     ensures { result ≡ word (drop at bytes.now) }
 {
-    wide(bytes[at]) * 16777216
-        + wide(bytes[at + 1]) * 65536
-        + wide(bytes[at + 2]) * 256
-        + wide(bytes[at + 3])
+    u32::from_be_bytes([bytes[at], bytes[at + 1], bytes[at + 2], bytes[at + 3]])
 }
 
 // An element, its words not yet checked.
@@ -44,10 +34,7 @@ pub fn put_word(out: &mut [u8], at: usize, w: u32) -> usize
     requires { at + 4 ≤ length out.old }
     ensures { Wrote out.old out.new at result (be4 w) }
 {
-    out[at] = (w / 16777216) as u8;
-    out[at + 1] = (w / 65536 % 256) as u8;
-    out[at + 2] = (w / 256 % 256) as u8;
-    out[at + 3] = (w % 256) as u8;
+    out[at..at + 4].copy_from_slice(&w.to_be_bytes());
     at + 4
 }
 
@@ -60,43 +47,51 @@ pub fn put_byte(out: &mut [u8], at: usize, b: u8) -> usize
     at + 1
 }
 
+// The n words stored from a place on, to the front of the words.
+pub fn copy_words(bytes: &[u8], at: usize, words: &mut [u32], n: usize)
+    requires { (at + 4 * n ≤ length bytes.now) × (n ≤ length words.old) }
+    ensures { words.new ≡ words_from n (drop at bytes.now) ++ drop n words.old }
+{
+    for i in 0..n {
+        words[i] = word_at(bytes, at + 4 * i);
+    }
+}
+
+// The bytes of the words go in one after the other from a place on; the place after them.
+pub fn put_words(out: &mut [u8], at: usize, words: &[u32]) -> usize
+    requires { at + 4 * length words.now ≤ length out.old }
+    ensures { Wrote out.old out.new at result (bytes_of words.now) }
+{
+    let mut p = at;
+    for word in words {
+        p = put_word(out, p, *word);
+    }
+    p
+}
+
 // Whether each word is canonical.
 pub fn canonical_words(words: &[u32]) -> bool
     ensures { result ≡ all_canonical words.now }
 {
-    for i in 0..words.len() {
-        if words[i] >= Base::ORDER_U32 {
-            return false;
-        }
-    }
-    true
+    words.iter().all(|w| *w < Base::ORDER_U32)
 }
 
-// The place of the first word that is not canonical; the length if there is none.
-pub fn first_bad_word(words: &[u32]) -> usize
-    ensures { result ≡ first_bad words.now }
+// The place of the first word that is not canonical; none where there is none.
+pub fn first_bad_word(words: &[u32]) -> Option<usize>
+    ensures { result ≡ bad_place words.now }
 {
-    let mut i = 0;
-    while i < words.len() {
-        if words[i] >= Base::ORDER_U32 {
-            break;
-        }
-        i += 1;
-    }
-    i
+    words.iter().position(|w| *w >= Base::ORDER_U32)
 }
 
 // The same among the n words stored from a place of the bytes on.
-pub fn first_bad_stored(bytes: &[u8], at: usize, n: usize) -> usize
+pub fn first_bad_stored(bytes: &[u8], at: usize, n: usize) -> Option<usize>
     requires { at + 4 * n ≤ length bytes.now }
-    ensures { result ≡ first_bad (words_from n (drop at bytes.now)) }
+    ensures { result ≡ bad_place (words_from n (drop at bytes.now)) }
 {
-    let mut i = 0;
-    while i < n {
+    for i in 0..n {
         if word_at(bytes, at + 4 * i) >= Base::ORDER_U32 {
-            break;
+            return Some(i);
         }
-        i += 1;
     }
-    i
+    None
 }

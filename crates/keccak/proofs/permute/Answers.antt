@@ -5,23 +5,15 @@ use Rattle.keccak.proofs.Rounds.{constant_at, one_more, with_constant, all_round
 use native.Mathlib.Omega.{arith}
 use Rattle.keccak.proofs.permute.Goals as goal
 
-pub loop-k-init : goal.loop-k-init
+pub loop-word-init : goal.loop-word-init
 unfolding rounds
-loop-k-init c = (omega arith, refl)
+loop-word-init c = refl
 
-pub overflow_step-k : goal.overflow_step-k
-overflow_step-k c = omega arith
-
-pub loop-k-smaller : goal.loop-k-smaller
-loop-k-smaller c = omega arith
-
-pub loop-k-preserved : goal.loop-k-preserved
+pub loop-word-preserved : goal.loop-word-preserved
 unfolding table
-loop-k-preserved c = (
-  omega arith,
-  one_more _ _ c.loop-k.invariant.1
-      (with_constant _ _ (constant_at c.loop-k.k (omega arith)) c.one_round-s.ensures),
-)
+loop-word-preserved c =
+    one_more _ _ c.loop-word.invariant
+    (with_constant _ _ (constant_at c.loop-word.word-index (omega arith)) c.one_round-s.ensures)
 
 pub returns : goal.returns
-returns c = all_rounds _ _ c.loop-k.invariant.0 c.loop-k-test.false c.loop-k.invariant.1
+returns c = all_rounds _ _ (omega arith) c.loop-word-test.false c.loop-word.invariant

@@ -5,7 +5,6 @@ use lib.Seq.{length-take-le, length_front}
 use Rattle.log_replay.specs.Replayed.{kept}
 use Rattle.log_replay.proofs.Settling.{fits_most, fits_in, own_holds, replayed_so}
 use native.Mathlib.Omega.{arith}
-use borrow.Author.Rules.{rules}
 use Rattle.log_replay.proofs.replay.Goals as goal
 
 pub copy_point-requires : goal.copy_point-requires

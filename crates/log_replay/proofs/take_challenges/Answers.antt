@@ -1,24 +1,16 @@
-use mathlib.Core.Path.{◌≡◌, refl, sym, ap, ◌∙◌}
-use Prim.Native.Nat.{◌-◌, ◌≤◌}
-use lib.ListN.{length, drop}
-use Rattle.log_replay.specs.Replayed.{challenges_of}
+use mathlib.Core.Path.{refl, sym, ap, ◌∙◌}
 use Rattle.log_replay.proofs.Taking.{poured, poured_next, poured_out, all_taken}
 use native.Mathlib.Omega.{arith}
-use borrow.Author.Rules.{rules}
 use Rattle.log_replay.proofs.take_challenges.Goals as goal
 
-pub loop-i-init : goal.loop-i-init
-loop-i-init c = (omega arith, refl, refl, ap (λ l. poured c.args.log.now l 0) c.requires ∙ all_taken c.args.log.now)
+pub loop-w-init : goal.loop-w-init
+loop-w-init c = (refl, ap (λ l. poured c.args.log.now l 0) c.requires ∙ all_taken c.args.log.now)
 
-pub loop-i-preserved : goal.loop-i-preserved
-loop-i-preserved c = let a = c.args in
-    let s = c.loop-i in
+pub loop-w-preserved : goal.loop-w-preserved
+loop-w-preserved c = let s = c.loop-w in
     let t = c.take_word-k in
-    (omega arith, refl, t.auto.challenges ∙ s.invariant.2, poured_next a.log.now s.challenges s.i s.k (omega arith) t.ensures.0 t.ensures.1 ∙ s.invariant.3)
-
-pub shape_of-challenges : goal.shape_of-challenges
-shape_of-challenges c = c.loop-i.invariant.2
+    (t.auto.challenges ∙ s.invariant.0, poured_next c.args.log.now s.challenges s.w-index s.k (omega arith) t.ensures.0 t.ensures.1 ∙ s.invariant.1)
 
 pub returns : goal.returns
-returns c = let s = c.loop-i in
-    sym (poured_out c.args.log.now s.challenges s.i s.k (omega arith)) ∙ s.invariant.3
+returns c = let s = c.loop-w in
+    sym (poured_out c.args.log.now s.challenges s.w-index s.k (omega arith)) ∙ s.invariant.1

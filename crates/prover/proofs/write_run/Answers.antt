@@ -1,43 +1,28 @@
-use mathlib.Core.Path.{sym, ◌∙◌}
-use lib.ListN.{replicate}
-use Rattle.transcript.proofs.Logs.{nothing_taken}
-use Rattle.prover.proofs.Opening.{log_sum, work_enough}
-use Rattle.prover.proofs.Writing.{opens, quarter, written, run_alike}
-use native.Mathlib.Omega.{arith}
-use borrow.Author.Rules.{rules}
+use Rattle.std.proofs.Common.{◌≡◌, arith, ◌+◌, cond, sym, ◌∙◌}
+use Rattle.std.proofs.lemmas.Grind.{common_steps}
+use Rattle.transcript.specs.Log.{state}
+use Rattle.prover.proofs.Opening.{log_sum}
+use Rattle.prover.proofs.Writing.{opens, quarter, written}
 use Rattle.prover.proofs.write_run.Goals as goal
 
-pub observe_size-told-requires : goal.observe_size-told-requires
-observe_size-told-requires c = let p = c.requires.room in
-    record { room = omega (arith, p.log, c.start-first.ensures.0); small = omega (arith, p.few) }
-
-pub begin-pos-requires : goal.begin-pos-requires
-begin-pos-requires c = let p = c.requires in
-    record { room = omega (arith, p.room.log, (c.observe_size-told.ensures (replicate 25 0)).put, c.start-first.ensures.0, c.observe_size-told.auto); canon = p.clean.2.p }
-
-pub run_rounds-end-requires : goal.run_rounds-end-requires
-run_rounds-end-requires c = let p = c.requires.room in
-    let o = c.start-first.ensures in
-    let s = opens c.args.asserted c.args.sized c.args.n _ _ c.observe_size-told.new.log c.begin-pos.new.log c.start-first.result c.observe_size-told.result c.begin-pos.result (c.observe_size-told.ensures (replicate 25 0)) (c.begin-pos.ensures (replicate 25 0)) in
-    let q = c.requires.clean in record { size = (p.some, p.pow, omega (arith, work_enough p.some p.pow p.work)); room = (omega (arith, p.point), omega (arith, p.log, s.put, o.0, c.observe_size-told.auto, c.begin-pos.auto), record { room = λ e. omega (arith, p.used (sym (s.drawn ∙ o.2) ∙ e), s.used, o.1); clean = λ _. q.1; counted = omega (arith, s.used, o.1); holds = s.holds (nothing_taken c.start-first.result o.3 _) }); clean = (q.0, q.2.q) }
-
 pub put_proof-requires : goal.put_proof-requires
-put_proof-requires c = let p = c.requires.room in
-    let o = c.start-first.ensures in
-    let s = opens c.args.asserted c.args.sized c.args.n _ _ c.observe_size-told.new.log c.begin-pos.new.log c.start-first.result c.observe_size-told.result c.begin-pos.result (c.observe_size-told.ensures (replicate 25 0)) (c.begin-pos.ensures (replicate 25 0)) in
-    let i = quarter c.args.asserted c.args.sized _ _ o.0 s.put in
-    (p.some, p.few, p.proof, omega (arith, p.log, s.put, o.0, i, log_sum c.args.n, c.observe_size-told.auto, c.begin-pos.auto, c.run_rounds-end.auto))
-
-pub shape_of-log : goal.shape_of-log
-shape_of-log c = omega (arith, c.observe_size-told.auto, c.begin-pos.auto, c.run_rounds-end.auto)
+put_proof-requires c =
+    let p = c.requires.room in
+    let s = opens c.args.modes.assert_zero c.args.modes.sized c.args.n _ c.observe_size.ensures.steps c.begin.ensures.steps in
+    let k : c.begin.new.transcript.put ≡ cond c.args.modes.sized 4 0 + cond c.args.modes.assert_zero 0 4 = omega (arith, s.put, c.new-transcript.ensures.begun.0) in
+    let i = quarter c.args.modes.assert_zero c.args.modes.sized c.begin.new.transcript.put k in
+    (p.some, omega (arith, p.few), p.proof, omega (arith, p.log, k, i, log_sum c.args.n))
 
 pub returns : goal.returns
-returns c = let p = c.requires.room in
-    let o = c.start-first.ensures in
-    let s = opens c.args.asserted c.args.sized c.args.n _ _ c.observe_size-told.new.log c.begin-pos.new.log c.start-first.result c.observe_size-told.result c.begin-pos.result (c.observe_size-told.ensures (replicate 25 0)) (c.begin-pos.ensures (replicate 25 0)) in
-    let k = c.begin-pos.auto in
-    let i = c.observe_size-told.auto in
-    let j = c.run_rounds-end.auto in
-    let r = c.run_rounds-end.ensures in
+returns c =
+    let p = c.requires.room in
+    let N = c.new-transcript.ensures in
+    let s = opens c.args.modes.assert_zero c.args.modes.sized c.args.n _ c.observe_size.ensures.steps c.begin.ensures.steps in
+    let r = c.run_rounds.ensures in
+    let same = sym (r.same ∙ c.begin.ensures.same ∙ c.observe_size.ensures.same ∙ N.same) in
     λ f m e L R.
-    written f c.args.asserted c.args.sized m c.args.n _ c.args.proof.now c.put_proof.new.out c.args.xi.now _ _ c.begin-pos.new.log c.run_rounds-end.new.log c.args.work.now c.run_rounds-end.new.work _ _ _ _ c.args.root o.0 o.1 e R s (omega (arith, p.log, s.put, o.0, i, k)) (run_alike c.args.challenges.now (s.drawn ∙ o.2) (r.run f m e L R.q.value)) (omega (arith, r.ends.0)) (omega (arith, p.log, s.put, o.0, r.ends.0, i, k, j)) r.ends.1 p.point (omega (arith, p.point, j)) p.proof (omega (arith, c.put_proof.auto)) c.put_proof.ensures.1 c.clear.ensures (omega (arith, j)) c.used_up.ensures
+    written f c.args.modes.assert_zero c.args.modes.sized m c.args.n c.args.proof.now c.put_proof.new.out c.args.xi.now c.run_rounds.new.xi c.args.work.now c.run_rounds.new.work c.clear.new.words
+    (state c.new-transcript.result) (state c.begin.new.transcript) (state c.run_rounds.new.transcript) c.args.root
+    (grind (arith, common_steps, same))
+    (record { buffer = N.buffers.0; challenges = N.buffers.1; drawn = N.buffers.2; put = N.begun.0; used = N.begun.1 }) e R s (grind (arith, p.log, s.put, N.begun.0, r.length, same))
+    (r.run f m e L R.q.value) (grind (arith, p.log, s.put, N.begun.0, r.steps.put, same)) r.clean p.point (omega (arith, p.point)) p.proof (omega (arith, c.put_proof.auto)) c.put_proof.ensures.1 c.clear.ensures (omega arith) c.used_up-spent.ensures

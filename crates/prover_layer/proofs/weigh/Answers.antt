@@ -1,8 +1,4 @@
-use Prim.Native.Nat.{◌≤◌, ◌-◌}
 use mathlib.Core.Path.{◌≡◌}
-use lib.ListN.{length}
-use Rattle.field.specs.Element.{dec}
-use Rattle.prover_layer.specs.Columns.{Weighed}
 use Rattle.prover_layer.proofs.Entries.{weighs_none, weighs_next}
 use borrow.Author.Rules.{rules}
 use native.Mathlib.Omega.{arith}

@@ -2,7 +2,6 @@ use mathlib.Core.Path.{◌∙◌, ap₂, subst}
 use Rattle.field.specs.Ext as E
 use Rattle.field.specs.Element.{dec}
 use Rattle.field.specs.Cells.{Stored}
-use borrow.Author.Rules.{rules}
 use Rattle.prover_layer.proofs.weigh_node.Goals as goal
 
 pub returns : goal.returns

@@ -1,8 +1,7 @@
 use Rattle.field.specs.ElementLaws.{is_eq, one_is}
 use Rattle.field.specs.Element.{dec}
 use Rattle.field.specs.Ext as E
-use mathlib.Core.Path.{◌∙◌, ap₂}
-use borrow.Author.Rules.{rules}
+use mathlib.Core.Path.{ap₂}
 use Rattle.prover_rounds.proofs.first_turn.Goals as goal
 
 pub returns : goal.returns

@@ -1,42 +1,54 @@
-use Prim.Native.Nat.{◌+◌, ◌*◌, ◌≤◌, ◌-◌, ◌^◌}
-use mathlib.Core.Path.{◌≡◌, refl, ◌∙◌, ap}
-use lib.ListN.{length}
-use Rattle.transcript.specs.Source.{source}
-use Rattle.transcript.proofs.Logs.{enough_fewer}
-use Rattle.prover_layer.proofs.Weights.{double_le, pow_next}
-use Rattle.prover_rounds.proofs.Alike.{one_layer_alike}
-use Rattle.prover_rounds.specs.Layers.{Midway, log_up_to, used_up_to}
-use Rattle.prover_rounds.proofs.Descent.{midway_none, midway_next, midway_end, log_room_fits, used_room}
-use borrow.Author.Rules.{rules}
+use mathlib.Core.Path.{refl, ◌∙◌}
+use Prim.Native.Nat.{◌*◌, ◌≤◌, ◌^◌}
 use native.Mathlib.Omega.{arith}
+use Rattle.transcript.specs.Log.{source_of, state}
+use Rattle.transcript.proofs.Logs.{same_source}
+use Rattle.prover_layer.proofs.Weights.{double_le, pow_next}
+use Rattle.prover_rounds.proofs.Descent.{midway_none, enough_midway, midway_next, midway_steps, midway_end, log_room_fits, first_log}
 use Rattle.prover_rounds.proofs.gkr_rounds.Goals as goal
 
 pub loop-round-init : goal.loop-round-init
-loop-round-init c = let p = c.requires in
-    (search rules, search rules, search rules, refl, midway_none _ _ _ _ _ _ p.layer.0 p.clean.0 p.clean.1)
+loop-round-init c =
+    let p = c.requires in
+    (refl, refl, refl, midway_none _ _ _ _ _ p.layer.0 p.clean.0 p.clean.1)
 
-pub gkr_round-p-requires : goal.gkr_round-p-requires
-gkr_round-p-requires c = let n = c.args.n in
+pub gkr_round-requires-clause-layer : goal.gkr_round-requires-clause-layer
+gkr_round-requires-clause-layer c =
     let p = c.requires in
     let l = c.loop-round in
-    let m = l.invariant.4 in
-    let t = c.loop-round-test.true in
-    let d : 2 * l.size ≤ 2 ^ n = rw l.invariant.3 (double_le l.round n t) in
-    let u = log_room_fits l.round n t in
-    let v = used_room l.round n t in record { size = (l.invariant.3, m.from); layer = (omega (arith, p.layer, d), omega (arith, p.layer, d, l.invariant.0)); room = (omega (arith, p.room, l.invariant.1), omega (arith, p.room, l.invariant.2, m.put, u), enough_fewer (used_up_to n - used_up_to l.round) (omega (arith, v)) (m.enough _ p.room.2)); clean = (m.clean, m.points) }
+    let d : 2 * l.size ≤ 2 ^ c.args.n = rw l.invariant.2 (double_le l.round c.args.n c.loop-round-test.true) in
+    (omega (arith, p.layer, d), omega (arith, p.layer, d, l.auto))
+
+pub gkr_round-requires-clause-room : goal.gkr_round-requires-clause-room
+gkr_round-requires-clause-room c =
+    let p = c.requires in
+    let l = c.loop-round in
+    let m = l.invariant.3 in
+    let u = log_room_fits l.round c.args.n c.loop-round-test.true in
+    (omega (arith, p.room, l.auto, c.loop-round-test.true), omega (arith, p.room, l.invariant.1, m.steps.put, u, first_log l.round m.from))
+
+pub gkr_round-requires-clause-enough : goal.gkr_round-requires-clause-enough
+gkr_round-requires-clause-enough c = enough_midway _ _ _ _ _ c.args.n _ c.loop-round.invariant.3 c.loop-round-test.true c.requires.enough
 
 pub overflow_mul-size : goal.overflow_mul-size
-overflow_mul-size c = let l = c.loop-round in
-    let d : 2 * l.size ≤ 2 ^ c.args.n = rw l.invariant.3 (double_le l.round c.args.n c.loop-round-test.true) in
+overflow_mul-size c =
+    let l = c.loop-round in
+    let d : 2 * l.size ≤ 2 ^ c.args.n = rw l.invariant.2 (double_le l.round c.args.n c.loop-round-test.true) in
     omega (arith, c.requires.layer, d, c.ranges)
 
 pub loop-round-preserved : goal.loop-round-preserved
-loop-round-preserved c = let l = c.loop-round in
-    (search rules, search rules, search rules, pow_next l.size l.round l.invariant.3, midway_next _ l.work _ _ l.xi _ _ l.log _ _ c.args.eq _ l.round l.size _ l.p _ l.invariant.3 c.loop-round-test.true c.requires.layer.1 l.invariant.4 (one_layer_alike c.args.challenges.now l.invariant.4.drawn c.gkr_round-p.ensures))
+loop-round-preserved c =
+    let l = c.loop-round in
+    let m = l.invariant.3 in
+    let h = pow_next l.size l.round l.invariant.2 in
+    let g = c.gkr_round.ensures in
+    let n =
+    midway_next _ l.work _ _ l.xi _ (source_of (state c.args.transcript.now)) c.args.eq c.args.n l.round l.size
+    l.invariant.2 c.loop-round-test.true c.requires.layer.1 m (rw (same_source m.steps) at g.layer) in
+    (g.same ∙ l.invariant.0, g.length ∙ l.invariant.1, omega (arith, h), n)
 
-pub returns : goal.returns
-returns c = let l = c.loop-round in
-    let m = l.invariant.4 in
-    let u = m.upto in
-    let e : l.round ≡ c.args.n = omega arith in
-    record { run = midway_end _ _ _ _ _ _ _ _ l.round _ _ (search rules) m; rest = (m.rest, m.put ∙ ap (λ r. c.args.pos.put + log_up_to r) e, m.used ∙ ap (λ r. c.args.pos.used + used_up_to r) e, m.points, m.clean) }
+pub returns-clause-run : goal.returns-clause-run
+returns-clause-run c = midway_end _ _ _ _ _ c.args.n c.loop-round.round (omega (arith, c.loop-round.invariant.3.upto)) c.loop-round.invariant.3
+
+pub returns-clause-steps : goal.returns-clause-steps
+returns-clause-steps c = midway_steps _ _ _ _ _ c.args.n c.loop-round.round (omega (arith, c.loop-round.invariant.3.upto)) c.loop-round.invariant.3

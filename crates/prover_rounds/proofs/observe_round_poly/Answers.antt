@@ -1,13 +1,15 @@
-use mathlib.Core.List.{[]}
+use native.Mathlib.Omega.{arith}
+use Rattle.prover_rounds.proofs.Room.{room_after}
 use Rattle.prover_rounds.proofs.Sending.{three_observed}
-use borrow.Author.Rules.{rules}
 use Rattle.prover_rounds.proofs.observe_round_poly.Goals as goal
 
-pub observe_ext-b-requires : goal.observe_ext-b-requires
-observe_ext-b-requires c = record { room = search (rules, c.observe_ext-a.ensures []); canon = search (rules, c.observe_ext-a.ensures []) }
+pub observe_ext-requires-2-clause-room : goal.observe_ext-requires-2-clause-room
+observe_ext-requires-2-clause-room c = room_after 4 (omega arith) (omega (arith, c.requires.room)) c.observe_ext.ensures.steps
 
-pub observe_ext-requires : goal.observe_ext-requires
-observe_ext-requires c = record { room = search (rules, c.observe_ext-b.ensures [], c.observe_ext-a.ensures []); canon = search (rules, c.observe_ext-b.ensures [], c.observe_ext-a.ensures []) }
+pub observe_ext-requires-3-clause-room : goal.observe_ext-requires-3-clause-room
+observe_ext-requires-3-clause-room c =
+    let a = room_after 8 (omega arith) (omega (arith, c.requires.room)) c.observe_ext.ensures.steps in
+    room_after 4 (omega arith) (omega (arith, a)) c.observe_ext-2.ensures.steps
 
-pub returns : goal.returns
-returns c = λ ls. three_observed _ _ _ _ _ _ _ _ c.args.s (c.observe_ext-a.ensures ls) (c.observe_ext-b.ensures ls) (c.observe_ext.ensures ls)
+pub returns-clause-steps : goal.returns-clause-steps
+returns-clause-steps c = three_observed c.args.s c.observe_ext.ensures.steps c.observe_ext-2.ensures.steps c.observe_ext-3.ensures.steps

@@ -1,12 +1,6 @@
-use Rattle.prover_run.proofs.Whole.{begun_asserted, begun_open}
-use borrow.Author.Rules.{rules}
+use Rattle.field.specs.Element.{dec}
+use Rattle.prover_rounds.proofs.Room.{once_observed}
 use Rattle.prover_run.proofs.begin.Goals as goal
 
-pub returns-then-asserted : goal.returns-then-asserted
-returns-then-asserted c = λ ls. begun_asserted _ c.args.pos c.args.asserted _ c.if-asserted.true
-
-pub observe_ext-requires : goal.observe_ext-requires
-observe_ext-requires c = record { room = rw c.if-asserted.false at c.requires.room; canon = c.requires.canon }
-
-pub returns : goal.returns
-returns c = λ ls. begun_open _ _ c.args.pos _ _ _ c.if-asserted.false (c.observe_ext.ensures ls)
+pub returns-then-not-asserted-clause-length : goal.returns-then-not-asserted-clause-length
+returns-then-not-asserted-clause-length c = once_observed (dec c.args.p) (rw c.if-not-asserted.true at c.requires.room) c.observe_ext.ensures.steps

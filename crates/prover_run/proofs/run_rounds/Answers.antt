@@ -1,45 +1,61 @@
-use mathlib.Core.Path.{subst⁻¹, ◌∙◌}
+use mathlib.Core.Path.{◌∙◌}
 use Prim.Native.Nat.{◌-◌}
-use lib.ListN.{length}
-use Rattle.field.specs.Cells.{Clean}
-use Rattle.field.specs.CellLaws.{clean_zeros}
-use Rattle.prover_layer.proofs.Weights.{double_le}
-use Rattle.transcript.proofs.Logs.{enough_after}
-use Rattle.prover_rounds.specs.Layers.{used_up_to}
-use Rattle.prover_rounds.proofs.Alike.{closed_alike, all_layers_alike}
-use Rattle.prover_rounds.proofs.Descent.{log_room_fits, used_room}
-use Rattle.prover_run.proofs.Whole.{run_of, log_one, used_one}
 use native.Mathlib.Omega.{arith}
-use borrow.Author.Rules.{rules}
+use Rattle.field.specs.Element.{dec}
+use Rattle.prover_layer.proofs.Weights.{double_le}
+use Rattle.transcript.specs.Log.{source_of, state}
+use Rattle.transcript.proofs.Logs.{enough_after, same_source, then}
+use Rattle.prover_rounds.specs.Layers.{used_up_to}
+use Rattle.prover_rounds.proofs.Descent.{first_log, first_used}
+use Rattle.prover_rounds.proofs.Room.{once_observed}
+use Rattle.prover_run.proofs.Whole.{run_of, run_steps, log_one, used_one}
 use Rattle.prover_run.proofs.run_rounds.Goals as goal
 
-pub observe_ext-p-requires : goal.observe_ext-p-requires
-observe_ext-p-requires c = let p = c.requires in
-    record { room = omega (arith, p.room, log_room_fits 0 c.args.n p.size.0); canon = p.clean.1 }
-
-pub close_round-r-requires : goal.close_round-r-requires
-close_round-r-requires c = let a = c.args in
+pub observe_ext-requires-clause-room : goal.observe_ext-requires-clause-room
+observe_ext-requires-clause-room c =
     let p = c.requires in
-    let s = c.observe_ext-p.ensures c.args.lanes.now in
-    let lr = log_room_fits 0 a.n p.size.0 in
-    let ur = used_room 0 a.n p.size.0 in
-    let tw = double_le 0 a.n p.size.0 in record { room = (omega (arith, p.size, tw), omega (arith, p.size, p.room, c.clear.auto), omega (arith, p.room, lr, s.put, c.observe_ext-p.auto), enough_after (used_up_to a.n - 1) (omega arith) (omega (arith, ur)) s p.room.2); clean = (p.clean.0, subst⁻¹ Clean c.clear.ensures (clean_zeros (length a.xi.now))) }
+    omega (arith, p.room, log_one, first_log c.args.n p.size.0)
 
-pub gkr_rounds-requires : goal.gkr_rounds-requires
-gkr_rounds-requires c = let p = c.requires in
-    let n = c.args.n in
-    let ur = used_room 0 n p.size.0 in
-    let s = c.observe_ext-p.ensures c.args.lanes.now in
-    let C = c.close_round-r.ensures in
-    let e = p.size.1 in record { layer = (p.size.0, omega (arith, e), omega (arith, p.size, e)); room = (omega (arith, p.room, c.clear.auto, c.close_round-r.auto), omega (arith, p.room, s.put, C.steps.put, log_one, c.observe_ext-p.auto, c.close_round-r.auto), enough_after (used_up_to n - 1) (omega arith) (omega (arith, used_one, ur)) C.steps (enough_after (used_up_to n - 1) (omega arith) (omega arith) s p.room.2)); clean = (p.clean.0, C.stored.clean) }
+pub close_round-requires-clause-room : goal.close_round-requires-clause-room
+close_round-requires-clause-room c =
+    let p = c.requires in
+    let s = c.observe_ext.ensures.steps in
+    let l = first_log c.args.n p.size.0 in
+    let k = once_observed (dec c.args.q) (omega (arith, p.room, log_one, l)) s in
+    (omega (arith, p.size, double_le 0 c.args.n p.size.0), omega (arith, p.size, p.room, c.clear.auto), omega (arith, p.room, log_one, l, k, s.put))
 
-pub shape_of-xi : goal.shape_of-xi
-shape_of-xi c = omega (arith, c.clear.auto, c.close_round-r.auto, c.gkr_rounds.auto)
+pub close_round-requires-clause-enough : goal.close_round-requires-clause-enough
+close_round-requires-clause-enough c =
+    let p = c.requires in
+    enough_after (used_up_to c.args.n - 1) (omega arith) (omega (arith, used_one, first_used c.args.n p.size.0)) c.observe_ext.ensures.steps p.enough
 
-pub returns : goal.returns
-returns c = let s = c.observe_ext-p.ensures c.args.lanes.now in
-    let C = c.close_round-r.ensures in
-    let L = c.gkr_rounds.ensures in
-    let ch = c.args.challenges.now in
-    let e = s.drawn in
-    let lr = log_room_fits 0 c.args.n c.requires.size.0 in record { run = run_of _ _ _ _ _ _ _ _ _ _ _ _ _ _ c.args.q s (closed_alike ch e C) (λ f g i l. all_layers_alike ch (C.steps.drawn ∙ e) (L.run f g i l)) L.rest.0 (omega (arith, L.rest.1, log_one, lr)); ends = (omega (arith, L.rest.1, log_one, s.put, C.steps.put), L.rest.3) }
+pub gkr_rounds-requires-clause-room : goal.gkr_rounds-requires-clause-room
+gkr_rounds-requires-clause-room c =
+    let p = c.requires in
+    let s = c.observe_ext.ensures.steps in
+    let C = c.close_round.ensures in
+    let k = once_observed (dec c.args.q) (omega (arith, p.room, log_one, first_log c.args.n p.size.0)) s in
+    (omega (arith, p.room, c.clear.auto, c.close_round.auto), omega (arith, p.room, log_one, k, C.length, s.put, C.closed.steps.put))
+
+pub gkr_rounds-requires-clause-enough : goal.gkr_rounds-requires-clause-enough
+gkr_rounds-requires-clause-enough c =
+    let p = c.requires in
+    let a = then c.observe_ext.ensures.steps c.close_round.ensures.closed.steps in
+    enough_after (used_up_to c.args.n - 1) (omega arith) (omega (arith, used_one, first_used c.args.n p.size.0)) a p.enough
+
+pub returns-clause-length : goal.returns-clause-length
+returns-clause-length c =
+    let p = c.requires in
+    let k = once_observed (dec c.args.q) (omega (arith, p.room, log_one, first_log c.args.n p.size.0)) c.observe_ext.ensures.steps in
+    c.gkr_rounds.ensures.length ∙ c.close_round.ensures.length ∙ k
+
+pub returns-clause-run : goal.returns-clause-run
+returns-clause-run c =
+    let a = c.observe_ext.ensures.steps in
+    let C = c.close_round.ensures.closed in
+    let h = same_source a in
+    let k = same_source (then a C.steps) in
+    run_of _ _ _ _ (source_of (state c.args.transcript.now)) c.args.n c.args.q a (rw h at C) (rw k at c.gkr_rounds.ensures.run)
+
+pub returns-clause-steps : goal.returns-clause-steps
+returns-clause-steps c = run_steps c.args.n c.requires.size.0 c.observe_ext.ensures.steps c.close_round.ensures.closed.steps c.gkr_rounds.ensures.steps

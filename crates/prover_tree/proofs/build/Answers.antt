@@ -1,6 +1,4 @@
 use Rattle.prover_tree.proofs.Heap.{built}
-use native.Mathlib.Omega.{arith}
-use borrow.Author.Rules.{rules}
 use Rattle.prover_tree.proofs.build.Goals as goal
 
 pub returns : goal.returns

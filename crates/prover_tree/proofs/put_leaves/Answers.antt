@@ -1,8 +1,5 @@
-use Prim.Native.Nat.{◌≤◌, ◌-◌, ◌*◌}
+use Prim.Native.Nat.{◌*◌}
 use mathlib.Core.Path.{◌≡◌}
-use lib.ListN.{length}
-use Rattle.field.specs.Cells.{cell}
-use Rattle.prover_tree.specs.Nodes.{Filled}
 use Rattle.prover_tree.proofs.Memory.{fill_none, fill_next}
 use borrow.Author.Rules.{rules}
 use native.Mathlib.Omega.{arith}

@@ -1,6 +1,4 @@
 use Rattle.prover_tree.proofs.Memory.{node_stored}
-use native.Mathlib.Omega.{arith}
-use borrow.Author.Rules.{rules}
 use Rattle.prover_tree.proofs.store_node.Goals as goal
 
 pub returns : goal.returns

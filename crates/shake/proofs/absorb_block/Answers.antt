@@ -1,6 +1,5 @@
 use Rattle.shake.proofs.BlockLaws.{block_absorbed}
-use borrow.Author.Rules.{rules}
 use Rattle.shake.proofs.absorb_block.Goals as goal
 
 pub returns : goal.returns
-returns c = block_absorbed _ _ _ c.block_lanes.ensures c.xor_block.ensures c.permute.ensures
+returns c = block_absorbed _ _ _ c.block.ensures c.xor_block.ensures c.permute.ensures

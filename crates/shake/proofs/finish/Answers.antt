@@ -1,5 +1,4 @@
 use Rattle.shake.proofs.SpongeLaws.{absorb_last}
-use borrow.Author.Rules.{rules}
 use Rattle.shake.proofs.finish.Goals as goal
 
 pub returns : goal.returns

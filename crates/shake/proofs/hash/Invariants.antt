@@ -1,12 +1,7 @@
-use Prim.Native.Nat.{◌-◌}
+use mathlib.Core.Path.{◌≡◌}
 use lib.ListN.{length}
-use Rattle.shake.proofs.SqueezeLaws.{Squeezing, squeezing_none, squeezing_same, squeezing_next, squeezing_all}
-use native.Mathlib.Omega.{arith}
-use borrow.Author.Rules.{rules}
+use Rattle.shake.proofs.SqueezeLaws.{Squeezing}
 use Rattle.shake.proofs.hash.Given as goal
 
 abbrev pub invariant-loop-i : goal.invariant-loop-i
-invariant-loop-i l = Squeezing l.initial.s l.s l.b l.initial.out l.out l.i
-
-abbrev pub decreases-loop-i : goal.decreases-loop-i
-decreases-loop-i l = length l.initial.out - l.i
+invariant-loop-i l = (l.i-end ≡ length l.initial.out) × Squeezing l.initial.s l.s l.b l.initial.out l.out l.i

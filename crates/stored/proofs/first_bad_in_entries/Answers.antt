@@ -1,39 +1,28 @@
-use mathlib.Core.Path.{◌≡◌, refl, sym, ◌∙◌, ap}
-use Prim.Native.Nat.{ℕ, ◌+◌, ◌*◌, ◌-◌, ◌≤◌, ◌<◌}
-use lib.ListN.{length, get_or, drop}
-use Rattle.stored.specs.Layout.{polys_words}
-use Rattle.stored.specs.Parse.{entries_from}
-use Rattle.stored.proofs.SearchLaws.{Outer, Inner, outer_start, enter, here, turn, hit, at_most, leave, finish}
-use borrow.Author.Rules.{rules}
+use mathlib.Core.Path.{◌≡◌, sym, ◌∙◌}
+use Prim.Native.Nat.{◌-◌}
 use native.Mathlib.Omega.{arith}
+use Rattle.stored.proofs.SearchLaws.{here, enter, turn, hit, hit_small, leave, finish}
 use Rattle.stored.proofs.first_bad_in_entries.Goals as goal
 
-pub entries-init : goal.entries-init
-entries-init c = outer_start c.args.proof.now (polys_words (entries_from c.args.count (drop c.args.from c.args.proof.now))) c.args.count c.args.from refl c.requires.0 c.requires.1
-
 pub bounds-proof-at : goal.bounds-proof-at
-bounds-proof-at c = here c.args.proof.now (polys_words (entries_from c.args.count (drop c.args.from c.args.proof.now))) c.args.count c.entries.place c.entries.at c.entries.k c.entries.invariant c.entries-test.true
-
-pub overflow_add-at : goal.overflow_add-at
-overflow_add-at c = omega (arith, here c.args.proof.now (polys_words (entries_from c.args.count (drop c.args.from c.args.proof.now))) c.args.count c.entries.place c.entries.at c.entries.k c.entries.invariant c.entries-test.true)
+bounds-proof-at c = here _ _ _ _ _ _ c.entries.invariant.1 c.entries-test.true
 
 pub loop-j-init : goal.loop-j-init
-loop-j-init c = let z : c.wide-subrounds.result - 0 ≡ c.wide-subrounds.result = omega arith in (omega arith, rw z (enter c.args.proof.now (polys_words (entries_from c.args.count (drop c.args.from c.args.proof.now))) c.args.count c.entries.place c.entries.at c.entries.k c.entries.invariant c.entries-test.true c.wide-subrounds.result c.wide-subrounds.ensures.0))
+loop-j-init c =
+    let z : c.from-subrounds.result - 0 ≡ c.from-subrounds.result = omega arith in
+    (c.entries.invariant.0, rw z (enter _ _ _ _ _ _ c.entries.invariant.1 c.entries-test.true _ c.from-subrounds.ensures))
 
-pub overflow_add-place : goal.overflow_add-place
-overflow_add-place c = omega (arith, at_most c.args.proof.now (polys_words (entries_from c.args.count (drop c.args.from c.args.proof.now))) c.args.count c.loop-j.place c.loop-j.at c.entries.k c.wide-subrounds.result c.loop-j.j c.loop-j-test.true c.loop-j.invariant.1 c.first_bad_stored-bad.result c.first_bad_stored-bad.ensures)
-
-pub overflow_add-at-in-loop-j : goal.overflow_add-at-in-loop-j
-overflow_add-at-in-loop-j c = omega (arith, c.loop-j.invariant.1.within)
+pub overflow_add-found : goal.overflow_add-found
+overflow_add-found c = omega (arith, hit_small _ _ _ _ _ _ _ _ c.loop-j-test.true c.loop-j.invariant.1 _ (sym c.in-Some.is ∙ c.first_bad_stored.ensures))
 
 pub loop-j-preserved : goal.loop-j-preserved
-loop-j-preserved c = (omega arith, turn c.args.proof.now (polys_words (entries_from c.args.count (drop c.args.from c.args.proof.now))) c.args.count c.loop-j.place c.loop-j.at c.entries.k c.wide-subrounds.result c.loop-j.j c.loop-j-test.true c.loop-j.invariant.1 c.first_bad_stored-bad.result c.first_bad_stored-bad.ensures c.if-bad-lt12.false)
+loop-j-preserved c = (c.loop-j.invariant.0, turn _ _ _ _ _ _ _ _ c.loop-j-test.true c.loop-j.invariant.1 (sym c.in_default.is ∙ c.first_bad_stored.ensures))
 
 pub entries-preserved : goal.entries-preserved
-entries-preserved c = leave c.args.proof.now (polys_words (entries_from c.args.count (drop c.args.from c.args.proof.now))) c.args.count c.loop-j.place c.loop-j.at c.entries.k (c.wide-subrounds.result - c.loop-j.j) (omega arith) c.loop-j.invariant.1
+entries-preserved c = (c.loop-j.invariant.0, leave _ _ _ _ _ _ _ (omega arith) c.loop-j.invariant.1)
 
 pub returns-after-entries : goal.returns-after-entries
-returns-after-entries c = (sym (finish c.args.proof.now (polys_words (entries_from c.args.count (drop c.args.from c.args.proof.now))) c.args.count c.entries.place c.entries.at c.entries.k c.entries.invariant c.entries-test.false), omega (arith, c.entries.invariant.small, c.entries.invariant.within))
+returns-after-entries c = c.entries.invariant.0 ∙ finish _ _ _ _ _ _ c.entries.invariant.1 c.entries-test.false
 
-pub returns-then-bad-lt12 : goal.returns-then-bad-lt12
-returns-then-bad-lt12 c = hit c.args.proof.now (polys_words (entries_from c.args.count (drop c.args.from c.args.proof.now))) c.args.count c.loop-j.place c.loop-j.at c.entries.k c.wide-subrounds.result c.loop-j.j c.loop-j-test.true c.loop-j.invariant.1 c.first_bad_stored-bad.result c.first_bad_stored-bad.ensures c.if-bad-lt12.true
+pub returns-in-Some : goal.returns-in-Some
+returns-in-Some c = hit _ _ _ _ _ _ _ _ c.loop-j-test.true c.loop-j.invariant.1 _ (sym c.in-Some.is ∙ c.first_bad_stored.ensures)

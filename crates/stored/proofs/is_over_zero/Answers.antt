@@ -2,7 +2,6 @@ use mathlib.Core.Path.{sym, ◌∙◌, ap}
 use Rattle.field.specs.Ext as E
 use Rattle.field.specs.Element.{dec}
 use Rattle.stored.proofs.ElementLaws.{no_root, root_there}
-use borrow.Author.Rules.{rules}
 use Rattle.stored.proofs.is_over_zero.Goals as goal
 
 pub returns-then-proof-lt21 : goal.returns-then-proof-lt21

@@ -1,9 +1,4 @@
-use mathlib.Core.Path.{◌≡◌, refl, sym, ◌∙◌, ap}
-use Prim.Native.Nat.{ℕ, ◌+◌, ◌*◌, ◌-◌, ◌≤◌, ◌<◌}
-use lib.ListN.{length, get_or, drop}
 use Rattle.stored.proofs.ShapeLaws.{claims_read}
-use native.Mathlib.Omega.{arith}
-use borrow.Author.Rules.{rules}
 use Rattle.stored.proofs.read_claims.Goals as goal
 
 pub returns : goal.returns

@@ -1,6 +1,5 @@
 use Rattle.stored.proofs.SearchLaws.{word_total, size_most}
 use native.Mathlib.Omega.{arith}
-use borrow.Author.Rules.{rules}
 use Rattle.stored.proofs.word_count.Goals as goal
 
 pub overflow_sub-result : goal.overflow_sub-result

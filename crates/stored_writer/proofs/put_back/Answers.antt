@@ -1,11 +1,5 @@
-use mathlib.Core.Path.{◌≡◌, refl, sym, ◌∙◌, ap}
-use Prim.Native.Nat.{ℕ, ◌+◌, ◌*◌, ◌-◌, ◌≤◌, ◌<◌}
-use lib.ListN.{length, get_or, drop}
 use Rattle.wire.specs.WrittenLaws.{wrote_then}
-use native.Mathlib.Omega.{arith}
-use borrow.Author.Rules.{rules}
 use Rattle.stored_writer.proofs.put_back.Goals as goal
 
--- src/lib.rt:139:1
 pub returns : goal.returns
 returns c = wrote_then _ _ _ _ _ _ _ _ c.put_byte-f.ensures c.put_entries.ensures

@@ -1,19 +1,12 @@
-use mathlib.Core.Path.{◌≡◌, refl, sym, ◌∙◌, ap}
-use Prim.Native.Nat.{ℕ, ◌+◌, ◌*◌, ◌-◌, ◌≤◌, ◌<◌}
-use lib.ListN.{length, get_or, drop}
 use Rattle.stored_writer.proofs.PutLaws.{cubic_form, element_ends}
 use native.Mathlib.Omega.{arith}
-use borrow.Author.Rules.{rules}
 use Rattle.stored_writer.proofs.put_subround.Goals as goal
 
--- src/lib.rt:46:9
 pub put_cell-b-requires : goal.put_cell-b-requires
 put_cell-b-requires c = omega (arith, c.requires, element_ends _ c.put_cell-a.ensures, c.put_cell-a.auto)
 
--- src/lib.rt:47:5
 pub put_cell-requires : goal.put_cell-requires
 put_cell-requires c = omega (arith, c.requires, element_ends _ c.put_cell-a.ensures, c.put_cell-a.auto, element_ends _ c.put_cell-b.ensures, c.put_cell-b.auto)
 
--- src/lib.rt:41:1
 pub returns : goal.returns
 returns c = cubic_form _ _ _ _ _ _ _ _ _ _ _ c.put_cell-a.ensures c.put_cell-b.ensures c.put_cell.ensures

@@ -1,10 +1,8 @@
 use mathlib.Core.Path.{refl, ap, ◌∙◌}
 use Prim.Native.Nat.{ℕ, ◌+◌, ◌*◌, ◌/◌}
-use lib.ListN.{length-take}
 use lib.Seq.{length-take-le}
 use Rattle.transcript.specs.Source.{label}
 use native.Mathlib.Omega.{arith}
-use borrow.Author.Rules.{rules}
 use Rattle.transcript.proofs.draw_word.Goals as goal
 
 -- no goal today: slice-aggregate-absorb-2

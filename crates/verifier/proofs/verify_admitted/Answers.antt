@@ -1,7 +1,6 @@
 use mathlib.Core.Path.{◌∙◌}
 use Rattle.verifier.specs.Verified.{asked, lent}
 use Rattle.verifier.proofs.NoRounds.{ready_empty, empty_is, also_run, run_same}
-use borrow.Author.Rules.{rules}
 use Rattle.verifier.proofs.verify_admitted.Goals as goal
 
 pub verify_empty-requires : goal.verify_empty-requires

@@ -1,22 +1,21 @@
-use mathlib.Core.Bool.{not}
-use mathlib.Core.Path.{ap}
+use Rattle.std.proofs.Common.{refl, ◌∙◌}
+use Rattle.field.specs.ElementLaws.{differ_words}
 use Rattle.stored.specs.Shapes.{claims_in}
+use Rattle.transcript.proofs.Logs.{same_source}
 use Rattle.verifier_round.specs.Values.{dec_claims}
-use Rattle.transcript.proofs.Logs.{enough_after}
 use Rattle.verifier_round.proofs.Alike.{descended_alike}
 use Rattle.verifier_round.proofs.Ends.{closed_go, closed_stop}
-use native.Mathlib.Omega.{arith}
-use borrow.Author.Rules.{rules}
 use Rattle.verifier_round.proofs.close_layer.Goals as goal
 
-pub descend-requires : goal.descend-requires
-descend-requires c = let p = c.requires in
-    let o = c.observe_layer_claims-end in
-    let s = o.ensures c.args.lanes.now in
-    record { room = (p.room.0, omega (arith, p.room.1, o.auto, s.put), enough_after 1 (omega arith) (omega arith) s p.room.2); clean = (p.clean.0, p.clean.1) }
+pub returns-then-ne-clause-checked : goal.returns-then-ne-clause-checked
+returns-then-ne-clause-checked c =
+    let expected = c.expected_claim-expected in
+    closed_stop _ (dec_claims (claims_in c.args.c)) c.args.round c.args.lambda c.args.s expected.result _ expected.ensures c.requires.clean.2.claim refl
+    (differ_words _ _ c.ne.ensures ∙ c.if-ne.true) c.observe_layer_claims.ensures.steps c.requires.room.1
 
-pub returns-then-not-same_words : goal.returns-then-not-same_words
-returns-then-not-same_words c = closed_stop _ _ _ _ (dec_claims (claims_in c.args.c)) c.args.round c.args.lambda c.args.s c.expected_claim-expected.result _ c.same_words.result c.expected_claim-expected.ensures c.requires.clean.2.claim c.same_words.ensures (ap not c.if-not-same_words.true) (c.observe_layer_claims-end.ensures c.args.lanes.now) c.requires.room.1
-
-pub returns : goal.returns
-returns c = closed_go _ _ _ _ _ _ (dec_claims (claims_in c.args.c)) c.args.round c.args.lambda c.args.s c.expected_claim-expected.result _ _ c.same_words.result c.expected_claim-expected.ensures c.requires.clean.2.claim c.same_words.ensures (ap not c.if-not-same_words.false) (c.observe_layer_claims-end.ensures _) (descended_alike c.args.challenges.now (c.observe_layer_claims-end.ensures c.args.lanes.now).drawn c.descend.ensures)
+pub returns-clause-checked : goal.returns-clause-checked
+returns-clause-checked c =
+    let expected = c.expected_claim-expected in
+    let o = c.observe_layer_claims.ensures.steps in
+    closed_go _ (dec_claims (claims_in c.args.c)) c.args.round c.args.lambda c.args.s expected.result _ _ expected.ensures c.requires.clean.2.claim refl
+    (differ_words _ _ c.ne.ensures ∙ c.if-ne.false) o (descended_alike (same_source o) c.descend.ensures.descended)

@@ -1,8 +1,8 @@
 use Rattle.stored.specs.Shapes.{claims_in}
 use Rattle.verifier_round.specs.Values.{dec_claims}
 use Rattle.verifier_round.proofs.Observed.{descended}
-use borrow.Author.Rules.{rules}
 use Rattle.verifier_round.proofs.descend.Goals as goal
 
-pub returns : goal.returns
-returns c = descended _ _ _ _ _ (dec_claims (claims_in c.args.c)) _ _ _ c.sample_ext-d.ensures.steps c.sample_ext-d.ensures.value c.store.ensures c.reduce_to_single_evaluation-f.ensures
+pub returns-clause-descended : goal.returns-clause-descended
+returns-clause-descended c =
+    descended _ (dec_claims (claims_in c.args.c)) c.sample_ext-mu.ensures.steps c.sample_ext-mu.ensures.value c.store.ensures c.reduce_to_single_evaluation.ensures

@@ -1,6 +1,5 @@
 use Rattle.verifier_round.proofs.Observed.{opened}
-use borrow.Author.Rules.{rules}
 use Rattle.verifier_round.proofs.open_layer.Goals as goal
 
-pub returns : goal.returns
-returns c = opened _ _ _ _ c.args.s c.sample_ext-d.result _ _ _ c.sample_ext-d.ensures.steps c.sample_ext-d.ensures.value c.times.ensures c.plus-claim.ensures c.load-xi.ensures
+pub returns-clause-opened : goal.returns-clause-opened
+returns-clause-opened c = opened _ c.args.s c.sample_ext-lambda.ensures.steps c.sample_ext-lambda.ensures.value c.times.ensures c.plus-claim.ensures c.load-xi.ensures

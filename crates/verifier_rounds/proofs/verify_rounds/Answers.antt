@@ -1,65 +1,33 @@
-use Rattle.transcript.specs.Source.{source}
+use Rattle.std.proofs.Common.{◌∙◌, arith}
+use Rattle.std.proofs.lemmas.Result.{err_from_is_err_and}
+use Rattle.transcript.proofs.Logs.{same_source}
 use Rattle.verifier_rounds.proofs.Alike.{round_done_alike}
-use Rattle.verifier_rounds.proofs.GoingLaws.{going_start, next_read, next_room, going_stop, going_next, space_next, going_end}
-use Rattle.verifier_rounds.specs.Runs.{Going, Space}
-use Prim.Native.Nat.{◌-◌}
-use borrow.Author.Rules.{rules}
-use native.Mathlib.Omega.{arith}
+use Rattle.verifier_rounds.proofs.GoingLaws.{next_read, next_room, next_enough, going_stop, going_next, going_end}
 use Rattle.verifier_rounds.proofs.verify_rounds.Goals as goal
 
-pub loop-round-init : goal.loop-round-init
-loop-round-init c = (going_start _ _ _ _ _ _ _ _ c.requires.read.0 c.requires.read.1 c.requires.clean.0 c.requires.clean.1 c.requires.clean.2, c.requires.room.1)
+pub verify_round-requires-clause-read : goal.verify_round-requires-clause-read
+verify_round-requires-clause-read c = let r = next_read c.loop-round.invariant.1 c.loop-round-test.true in (r.claims_there, r.entry_there)
 
-pub verify_round-requires : goal.verify_round-requires
-verify_round-requires c = let p = c.requires in
-    let i = c.loop-round.invariant.0 in
+pub verify_round-requires-clause-room : goal.verify_round-requires-clause-room
+verify_round-requires-clause-room c = let i = c.loop-round.invariant.1 in
     let t = c.loop-round-test.true in
-    let r = next_read _ _ _ _ _ _ _ _ _ _ _ _ _ _ i t in
-    let q = next_room _ _ _ _ _ _ _ _ _ _ _ _ _ _ i c.loop-round.invariant.1 t in
-    record { read = (r.claims_there, r.entry_there); room = (omega (arith, p.room, i.points, t), q.put, q.enough); clean = (i.clean, i.numer, i.denom); words = (r.claims_canon, r.entry_canon) }
+    (omega (arith, c.requires.room.0, i.points, t), next_room i t)
 
-pub shape_of-point-in-Stopped : goal.shape_of-point-in-Stopped
-shape_of-point-in-Stopped c = omega (arith, c.verify_round.auto, c.loop-round.invariant.0.points)
+pub verify_round-requires-clause-enough : goal.verify_round-requires-clause-enough
+verify_round-requires-clause-enough c = next_enough c.loop-round.invariant.1 c.loop-round-test.true
 
-pub shape_of-log-in-Stopped : goal.shape_of-log-in-Stopped
-shape_of-log-in-Stopped c = omega (arith, c.verify_round.auto, c.loop-round.invariant.0.logs)
+pub verify_round-requires-clause-words : goal.verify_round-requires-clause-words
+verify_round-requires-clause-words c = let r = next_read c.loop-round.invariant.1 c.loop-round-test.true in (r.claims_canon, r.entry_canon)
 
-pub returns-in-Stopped : goal.returns-in-Stopped
-returns-in-Stopped c = going_stop _ _ _ _ _ _ _ _ _ _ _ _ _ _ c.loop-round.invariant.0 _ _ _ c.loop-round-test.true (round_done_alike c.args.challenges.now c.loop-round.invariant.0.drawn c.verify_round.ensures) _ _ c.in-Stopped.is
-
-pub overflow_add-c : goal.overflow_add-c
-overflow_add-c c = let r = next_read _ _ _ _ _ _ _ _ _ _ _ _ _ _ c.loop-round.invariant.0 c.loop-round-test.true in
-    omega (arith, r.claims_there, c.well_formed)
-
-pub overflow_mul-p : goal.overflow_mul-p
-overflow_mul-p c = let r = next_read _ _ _ _ _ _ _ _ _ _ _ _ _ _ c.loop-round.invariant.0 c.loop-round-test.true in
-    omega (arith, r.entry_there, c.verify_round.ensures.counted _ c.in-Next.is, c.well_formed)
-
-pub overflow_add-p : goal.overflow_add-p
-overflow_add-p c = let r = next_read _ _ _ _ _ _ _ _ _ _ _ _ _ _ c.loop-round.invariant.0 c.loop-round-test.true in
-    omega (arith, r.entry_there, c.verify_round.ensures.counted _ c.in-Next.is, c.well_formed)
-
-pub overflow_add-p-in-loop-round : goal.overflow_add-p-in-loop-round
-overflow_add-p-in-loop-round c = let r = next_read _ _ _ _ _ _ _ _ _ _ _ _ _ _ c.loop-round.invariant.0 c.loop-round-test.true in
-    omega (arith, r.entry_there, c.verify_round.ensures.counted _ c.in-Next.is, c.well_formed)
-
-pub overflow_step-round : goal.overflow_step-round
-overflow_step-round c = omega (arith, c.loop-round-test.true, c.requires.room, c.well_formed)
-
-pub loop-round-smaller : goal.loop-round-smaller
-loop-round-smaller c = omega (arith, c.loop-round-test.true)
+pub returns-in_err-s-clause-ended : goal.returns-in_err-s-clause-ended
+returns-in_err-s-clause-ended c = let i = c.loop-round.invariant.1 in
+    let p = err_from_is_err_and c.from_residual.result c.from_residual.ensures.1 in
+    rw (p.1, p.2) (going_stop i c.loop-round-test.true (round_done_alike (same_source i.steps) c.verify_round.ensures.done) _ c.in_err-s.was)
 
 pub loop-round-preserved : goal.loop-round-preserved
-loop-round-preserved c = (
-  going_next _ _ _ _ _ _ _ _ _ _ _ _ _ _ c.loop-round.invariant.0 _ _ _ c.loop-round-test.true (round_done_alike c.args.challenges.now c.loop-round.invariant.0.drawn c.verify_round.ensures) _ c.in-Next.is c.verify_round.auto.point c.verify_round.auto.log,
-  space_next _ _ _ _ _ _ _ _ _ _ _ _ _ _ c.loop-round.invariant.0 _ _ _ c.loop-round-test.true (round_done_alike c.args.challenges.now c.loop-round.invariant.0.drawn c.verify_round.ensures) _ c.in-Next.is c.verify_round.auto.log c.loop-round.invariant.1,
-)
+loop-round-preserved c = let i = c.loop-round.invariant in
+    let v = c.verify_round in
+    (v.ensures.same ∙ i.0, going_next i.1 c.loop-round-test.true (round_done_alike (same_source i.1.steps) v.ensures.done) _ c.in_ok-s.was v.auto.point)
 
-pub shape_of-point : goal.shape_of-point
-shape_of-point c = c.loop-round.invariant.0.points
-
-pub shape_of-log : goal.shape_of-log
-shape_of-log c = c.loop-round.invariant.0.logs
-
-pub returns : goal.returns
-returns c = going_end _ _ _ _ _ _ _ _ _ _ _ _ _ _ c.loop-round.invariant.0 c.loop-round.invariant.1 c.loop-round-test.false
+pub returns-clause-ended : goal.returns-clause-ended
+returns-clause-ended c = going_end c.loop-round.invariant.1 c.loop-round-test.false

@@ -1,14 +1,12 @@
-use Rattle.transcript.specs.Source.{source}
-use Rattle.verifier_rounds.proofs.Alike.{round_done_alike}
-use Rattle.verifier_rounds.proofs.GoingLaws.{going_start, next_read, next_room, going_stop, going_next, space_next, going_end}
-use Rattle.verifier_rounds.specs.Runs.{Going, Space}
-use Prim.Native.Nat.{◌-◌}
-use borrow.Author.Rules.{rules}
-use native.Mathlib.Omega.{arith}
+use Rattle.std.specs.Prelude.{◌≡◌, ◌-◌}
+use Rattle.transcript.specs.Log.{source_of, state}
+use Rattle.verifier_rounds.specs.Runs.{Going}
 use Rattle.verifier_rounds.proofs.verify_rounds.Given as goal
 
 abbrev pub invariant-loop-round : goal.invariant-loop-round
-invariant-loop-round l = Going l.proof l.initial.point l.point l.initial.log l.log (source l.initial.s.pos.drawn l.challenges) l.claims l.c l.polys l.p l.rounds l.round l.initial.s l.s × Space l.log l.lanes l.challenges l.s.pos (l.rounds - l.round) l.round
+invariant-loop-round l =
+    (l.transcript.log.ghost_name ≡ l.initial.transcript.log.ghost_name)
+    × Going l.proof l.initial.point l.point (state l.initial.transcript) (state l.transcript) (source_of (state l.initial.transcript)) l.claims l.c l.polys l.p l.rounds l.round l.initial.s l.s
 
 abbrev pub decreases-loop-round : goal.decreases-loop-round
 decreases-loop-round l = l.rounds - l.round

@@ -1,12 +1,10 @@
-use Rattle.wire.proofs.Steps.{first_go, first_stop, first_end}
-use native.Mathlib.Omega.{arith}
+use Rattle.std.proofs.Common.{rules, leb}
+use Rattle.std.proofs.lemmas.Iterator.{YieldsList-from_slice}
+use Rattle.std.proofs.lemmas.Iterator.Search.{position_from_yields_List}
+use borrow.Author.Tests.{tests}
+use Rattle.field.specs.Base.{P}
+use Rattle.wire.proofs.Searches.{first_not_below}
 use Rattle.wire.proofs.first_bad_word.Goals as goal
 
-pub loop-i-preserved : goal.loop-i-preserved
-loop-i-preserved c = omega (arith, first_go c.args.words.now c.loop-i.i (omega arith) c.if-words-i-ge-ORDER_U32.false)
-
-pub returns-after-loop-i : goal.returns-after-loop-i
-returns-after-loop-i c = omega (arith, first_end c.args.words.now c.loop-i.i (omega arith))
-
-pub returns-then-words-i-ge-ORDER_U32 : goal.returns-then-words-i-ge-ORDER_U32
-returns-then-words-i-ge-ORDER_U32 c = omega (arith, first_stop c.args.words.now c.loop-i.i (omega arith) c.if-words-i-ge-ORDER_U32.true)
+pub returns : goal.returns
+returns c = first_not_below _ _ (position_from_yields_List (λ w. leb P w) _ _ _ c.position.ensures.ran (YieldsList-from_slice c.args.words.now cc) (λ x b q k. search (rules, tests)))

@@ -1,5 +1,4 @@
 use Rattle.columns.proofs.Turns.{base_cell_is}
-use borrow.Author.Rules.{rules}
 use Rattle.columns.proofs.horner.base_at.Goals as goal
 
 pub returns : goal.returns

@@ -1,17 +1,19 @@
-use mathlib.Core.Path.{◌∙◌}
-use Prim.Native.Nat.{◌≤◌}
-use Rattle.field.specs.Element.{dec, Is}
-use Rattle.field.specs.Cells.{cell}
-use Rattle.columns.proofs.Turns.{zero_is, from, horner_start, horner_turn, horner_end}
-use borrow.Author.Rules.{rules}
-use native.Mathlib.Omega.{arith}
+use Rattle.std.proofs.Common.{◌∙◌, ◌-◌, rules, arith}
+use Rattle.field.specs.Element.{dec}
+use Rattle.columns.proofs.Turns.{zero_is, horner_start, horner_turn, horner_end}
 use Rattle.columns.proofs.horner.horner.Goals as goal
 
 pub loop-i-init : goal.loop-i-init
-loop-i-init c = (search rules, record { canon = search rules; value = zero_is ∙ horner_start c.args.n (cell c.args.coeffs.now) (dec c.args.x) })
-
-pub loop-i-preserved : goal.loop-i-preserved
-loop-i-preserved c = (omega arith, record { canon = search rules; value = horner_turn c.args.n c.loop-i.i (cell c.args.coeffs.now) (dec c.args.x) (dec c.loop-i.acc) _ (omega arith) (omega arith) c.loop-i.invariant.1.value c.load.ensures.value c.horner_step-acc.ensures.value })
+loop-i-init g c = (search rules, λ k r. record { canon = search rules; value = zero_is ∙ horner_start c.args.n k (dec c.args.x) })
 
 pub returns : goal.returns
-returns c = record { canon = search rules; value = horner_end c.args.n c.loop-i.i (cell c.args.coeffs.now) (dec c.args.x) (omega arith) c.loop-i.invariant.1.value }
+returns g c = λ k r. let h = c.loop-i.invariant.1 k r in record { canon = h.canon; value = horner_end c.args.n c.loop-i.i k (dec c.args.x) (omega arith) h.value }
+
+pub loop-i-preserved : goal.loop-i-preserved
+loop-i-preserved g c = (
+  search rules,
+  λ k r.
+      let e = r (c.loop-i.i - 1) c.coefficient.result (omega arith) c.coefficient.ensures in
+      let h = c.loop-i.invariant.1 k r in
+      record { canon = search rules; value = horner_turn c.args.n c.loop-i.i k (dec c.args.x) (dec c.loop-i.acc) _ (omega arith) (omega arith) h.value e.value c.horner_step-acc.ensures.value },
+)

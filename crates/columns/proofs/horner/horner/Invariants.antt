@@ -1,14 +1,9 @@
-use mathlib.Core.Path.{◌∙◌}
-use Prim.Native.Nat.{◌≤◌}
-use Rattle.field.specs.Element.{dec, Is}
-use Rattle.field.specs.Cells.{cell}
-use Rattle.columns.proofs.Turns.{zero_is, from, horner_start, horner_turn, horner_end}
-use borrow.Author.Rules.{rules}
-use native.Mathlib.Omega.{arith}
+use Rattle.std.proofs.Common.{ℕ}
+use Rattle.field.specs.Ext as E
+use Rattle.field.specs.Element.{dec, Canon, Is}
+use Rattle.columns.specs.Passes.{Reads}
+use Rattle.columns.proofs.Turns.{from}
 use Rattle.columns.proofs.horner.horner.Given as goal
 
 abbrev pub invariant-loop-i : goal.invariant-loop-i
-invariant-loop-i l = (l.i ≤ l.n) × Is l.acc (from l.n l.i (cell l.coeffs) (dec l.x))
-
-abbrev pub decreases-loop-i : goal.decreases-loop-i
-decreases-loop-i l = l.i
+invariant-loop-i g l = Canon l.acc × ((c : ℕ → E.Ext) → Reads (goal.F-post g l.coefficient) l.n c → Is l.acc (from l.n l.i c (dec l.x)))

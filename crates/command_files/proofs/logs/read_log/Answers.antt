@@ -1,13 +1,5 @@
-use mathlib.Core.Path.{refl}
-use Rattle.command_files.specs.Given.{unread, held}
-use borrow.Author.Rules.{rules}
+use Rattle.command_files.specs.Given.{held}
 use Rattle.command_files.proofs.logs.read_log.Goals as goal
 
-pub returns-in-End : goal.returns-in-End
-returns-in-End g c = record { prefix_len = c.log_of.ensures.prefix_len; given = record { contents = held _; same = c.log_of.ensures.given } }
-
-pub returns-in-Failed : goal.returns-in-Failed
-returns-in-Failed g c = record { prefix_len = search rules; given = record { contents = unread; same = refl } }
-
-pub returns-in-More : goal.returns-in-More
-returns-in-More g c = record { prefix_len = search rules; given = record { contents = unread; same = refl } }
+pub returns-in-Whole-clause-given : goal.returns-in-Whole-clause-given
+returns-in-Whole-clause-given g c = record { contents = held _; same = c.log_of.ensures.given }

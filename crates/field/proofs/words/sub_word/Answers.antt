@@ -6,5 +6,5 @@ use Rattle.field.proofs.words.sub_word.Goals as goal
 pub returns-then-b-a : goal.returns-then-b-a
 returns-then-b-a c = (search rules, diff _ _ (search rules) (search rules))
 
-pub returns : goal.returns
-returns c = (search rules, of_sub _ _ (search rules))
+pub returns-else-b-a : goal.returns-else-b-a
+returns-else-b-a c = (search rules, of_sub _ _ (search rules))

@@ -1,23 +1,22 @@
-use mathlib.Core.Path.{sym, ◌∙◌}
+use Rattle.std.proofs.Common.{sym, length, rules}
+use Rattle.std.proofs.iter.Serving.{serving}
 use Rattle.field.specs.ExtRing.{ExtRing}
-use Rattle.field.specs.Element.{dec}
+use Rattle.field.specs.Element.{dec, Canon}
+use Rattle.field.specs.Cells.{Clean}
 use Rattle.columns.specs.Tables as Tables
-use Rattle.poly.proofs.Answers.{refused, evaluated}
-use lib.ListN.{length}
 use Rattle.columns.specs.Passes.{base_cell}
-use Rattle.poly.proofs.Gates.{horner_base_open}
-use native.Mathlib.Omega.{arith}
-use borrow.Author.Rules.{rules}
+use Rattle.poly.proofs.Gates.{horner_open}
+use Rattle.poly.proofs.Answers.{evaluated}
 use Rattle.poly.proofs.horner.horner_eval_base.Goals as goal
 
-pub horner_base-requires : goal.horner_base-requires
-horner_base-requires c = let g = horner_base_open c.args.coeffs.now c.args.x (sym c.horner_base_refusal.ensures ∙ c.in-Done.is) in
-    record { room = omega arith; clean = (g.list, g.element) }
+pub horner-requires : goal.horner-requires
+horner-requires c =
+    let g = horner_open _ _ c.args.coeffs.now c.args.x (sym c.in_ok-horner_refusal.ensures) in
+    let l : Clean c.args.coeffs.now = g.list in
+    let e : Canon c.args.x = g.element in
+    grind serving
 
-pub returns-in-Refused : goal.returns-in-Refused
-returns-in-Refused c = let s = c.args.coeffs.now in
-    refused (Tables.polynomial ExtRing (length s) (base_cell s) (dec c.args.x)) (sym c.horner_base_refusal.ensures ∙ c.in-Refused.is)
-
-pub returns-in-Done : goal.returns-in-Done
-returns-in-Done c = let s = c.args.coeffs.now in
-    evaluated (Tables.polynomial ExtRing (length s) (base_cell s) (dec c.args.x)) (sym c.horner_base_refusal.ensures ∙ c.in-Done.is) c.horner_base.ensures
+pub returns : goal.returns
+returns c =
+    let s = c.args.coeffs.now in
+    evaluated (Tables.polynomial ExtRing (length s) (base_cell s) (dec c.args.x)) (sym c.in_ok-horner_refusal.ensures) (c.horner.ensures (base_cell s) (λ i e l p. search rules))

@@ -1,7 +1,6 @@
 use Rattle.field.specs.ElementLaws.{answer}
 use Rattle.field.specs.ExtRing.{ExtRing}
 use Rattle.multilinear.specs.Forms as Forms
-use borrow.Author.Rules.{rules}
 use Rattle.poly.proofs.interpolate.interpolate_linear_at_01.Goals as goal
 
 pub returns : goal.returns

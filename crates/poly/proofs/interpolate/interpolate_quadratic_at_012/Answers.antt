@@ -1,7 +1,6 @@
 use Rattle.field.specs.ElementLaws.{answer}
 use Rattle.field.specs.Extension.{Extension}
 use Rattle.multilinear.specs.Interpolate as Interpolate
-use borrow.Author.Rules.{rules}
 use Rattle.poly.proofs.interpolate.interpolate_quadratic_at_012.Goals as goal
 
 pub returns : goal.returns

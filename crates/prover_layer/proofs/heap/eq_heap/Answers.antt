@@ -1,10 +1,8 @@
 use borrow.Author.Rules.{rules}
-use Prim.Native.Nat.{suc, ◌≤◌, ◌-◌, ◌^◌}
+use Prim.Native.Nat.{suc, ◌-◌}
 use mathlib.Core.Path.{◌≡◌, refl, ◌∙◌, ap}
-use lib.ListN.{length}
 use Rattle.field.specs.ElementLaws.{one_is}
 use Rattle.field.specs.Cells.{cell}
-use Rattle.prover_layer.specs.Heap.{Heaped}
 use Rattle.prover_layer.proofs.Weights.{double_le, pow_next}
 use Rattle.prover_layer.proofs.Heaps.{heap_start, heap_next, heap_end, quarter}
 use native.Mathlib.Omega.{arith}

@@ -1,11 +1,6 @@
 use borrow.Author.Rules.{rules}
-use Prim.Native.Nat.{◌*◌, ◌≤◌, ◌-◌}
 use mathlib.Core.Path.{◌≡◌}
-use lib.ListN.{length}
-use Rattle.field.specs.Element.{dec}
-use Rattle.prover_tree.specs.Nodes.{Filled}
 use Rattle.prover_tree.proofs.Memory.{fill_none}
-use Rattle.prover_layer.specs.Heap.{grown}
 use Rattle.prover_layer.proofs.Heaps.{level_next}
 use native.Mathlib.Omega.{arith}
 use Rattle.prover_layer.proofs.heap.grow_level.Goals as goal

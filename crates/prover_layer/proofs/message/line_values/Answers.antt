@@ -1,6 +1,5 @@
 use Rattle.field.specs.Element.{dec}
 use Rattle.prover_layer.proofs.Saying.{line_steps}
-use borrow.Author.Rules.{rules}
 use Rattle.prover_layer.proofs.message.line_values.Goals as goal
 
 pub returns : goal.returns

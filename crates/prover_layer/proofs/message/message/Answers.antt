@@ -1,5 +1,4 @@
 use Rattle.prover_layer.proofs.Saying.{said_is}
-use borrow.Author.Rules.{rules}
 use Rattle.prover_layer.proofs.message.message.Goals as goal
 
 pub returns : goal.returns

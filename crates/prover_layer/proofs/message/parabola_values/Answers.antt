@@ -1,6 +1,5 @@
 use Rattle.field.specs.Element.{dec}
 use Rattle.prover_layer.proofs.Saying.{parabola_1, parabola_steps}
-use borrow.Author.Rules.{rules}
 use Rattle.prover_layer.proofs.message.parabola_values.Goals as goal
 
 pub returns : goal.returns

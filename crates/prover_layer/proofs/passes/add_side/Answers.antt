@@ -1,5 +1,4 @@
 use Rattle.prover_layer.proofs.Passing.{side_added}
-use borrow.Author.Rules.{rules}
 use Rattle.prover_layer.proofs.passes.add_side.Goals as goal
 
 pub returns : goal.returns

@@ -1,8 +1,5 @@
 use borrow.Author.Rules.{rules}
-use Prim.Native.Nat.{◌≤◌, ◌-◌}
 use mathlib.Core.Path.{◌≡◌}
-use lib.ListN.{length}
-use Rattle.prover_layer.specs.Passes.{Risen}
 use Rattle.prover_layer.proofs.Passing.{rises_none, rises_next}
 use native.Mathlib.Omega.{arith}
 use Rattle.prover_layer.proofs.passes.differences.Goals as goal

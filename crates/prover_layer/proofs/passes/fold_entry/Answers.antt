@@ -1,6 +1,5 @@
 use native.Mathlib.Omega.{arith}
 use Rattle.prover_layer.proofs.Passing.{pair_folded}
-use borrow.Author.Rules.{rules}
 use Rattle.prover_layer.proofs.passes.fold_entry.Goals as goal
 
 pub times_plus-requires-3 : goal.times_plus-requires-3

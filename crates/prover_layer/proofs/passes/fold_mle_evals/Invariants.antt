@@ -1,11 +1,8 @@
-use borrow.Author.Rules.{rules}
 use Prim.Native.Nat.{◌≤◌, ◌-◌}
 use mathlib.Core.Path.{◌≡◌}
 use lib.ListN.{length}
 use Rattle.field.specs.Element.{dec}
 use Rattle.prover_layer.specs.Passes.{Folded}
-use Rattle.prover_layer.proofs.Passing.{folds_none, folds_next}
-use native.Mathlib.Omega.{arith}
 use Rattle.prover_layer.proofs.passes.fold_mle_evals.Given as goal
 
 abbrev pub invariant-loop-y : goal.invariant-loop-y

@@ -1,9 +1,6 @@
 use borrow.Author.Rules.{rules}
-use Prim.Native.Nat.{◌≤◌, ◌-◌}
 use mathlib.Core.Path.{◌≡◌}
-use Rattle.field.specs.Element.{Is}
 use Rattle.field.specs.ElementLaws.{zero_is}
-use Rattle.prover_layer.specs.Passes.{side_sum}
 use Rattle.prover_layer.proofs.Passing.{sum_none, sum_next}
 use native.Mathlib.Omega.{arith}
 use Rattle.prover_layer.proofs.passes.side_sum.Goals as goal

@@ -1,7 +1,6 @@
 use mathlib.Core.Path.{◌∙◌}
 use Rattle.prover_layer.proofs.Saying.{said_by}
 use Rattle.prover_layer.proofs.Passing.{lead_is}
-use borrow.Author.Rules.{rules}
 use Rattle.prover_layer.proofs.passes.sumcheck_round_poly_evals.Goals as goal
 
 pub returns : goal.returns

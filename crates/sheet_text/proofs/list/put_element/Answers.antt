@@ -1,15 +1,7 @@
-use Rattle.sheet_text.proofs.Listing.{four_sets}
-use Rattle.std.proofs.Common.{arith, length-set, rules}
+use Rattle.sheet_text.proofs.Placing.{put_words}
+use Rattle.std.proofs.Common.{arith}
+use Rattle.wire.specs.Words.{ext_words}
 use Rattle.sheet_text.proofs.list.put_element.Goals as goal
 
-pub bounds-words-at-2 : goal.bounds-words-at-2
-bounds-words-at-2 c = simp length-set (omega arith)
-
-pub bounds-words-at-3 : goal.bounds-words-at-3
-bounds-words-at-3 c = simp length-set (omega arith)
-
-pub bounds-words-at-4 : goal.bounds-words-at-4
-bounds-words-at-4 c = simp length-set (omega arith)
-
 pub returns : goal.returns
-returns c = four_sets c.args.words.now c.args.at c.args.e
+returns c = put_words c.args.words.now c.args.at _ (ext_words c.args.e) c.requires c.copy_from_slice.ensures.after _ (omega arith)

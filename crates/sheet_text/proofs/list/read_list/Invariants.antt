@@ -1,10 +1,7 @@
-use Rattle.sheet_text.proofs.Listing.{lines_end, line_on, line_other, line_full, put_fits}
-use Rattle.std.proofs.Common.{◌≡◌, ◌-◌, ◌≤◌, length, drop, refl, ◌∙◌, rules}
-use Rattle.sheet_text.specs.Reading.{lines_of, read_lines, list_read}
+use Rattle.std.proofs.Common.{◌≡◌, ◌≤◌, eqb, length, drop}
+use Rattle.std.specs.List.{slice_split}
+use Rattle.sheet_text.specs.Reading.{read_lines, list_read}
 use Rattle.sheet_text.proofs.list.read_list.Given as goal
 
-abbrev pub invariant-loop-at : goal.invariant-loop-at
-invariant-loop-at l = (l.at ≤ length l.text) × (l.line ≤ l.at) × (l.put ≤ length l.words) × (length l.words ≡ length l.initial.words) × (read_lines l.pairs l.line l.put l.words (lines_of (drop l.at l.text)) ≡ list_read l.pairs l.text l.initial.words)
-
-abbrev pub decreases-loop-at : goal.decreases-loop-at
-decreases-loop-at l = length l.text - l.at
+abbrev pub invariant-loop-i : goal.invariant-loop-i
+invariant-loop-i l = (l.put ≤ length l.words) × (read_lines l.pairs (length l.yielded) l.put l.words (drop (length l.yielded) (slice_split (λ b. eqb b 10) l.text)) ≡ list_read l.pairs l.text l.initial.words)

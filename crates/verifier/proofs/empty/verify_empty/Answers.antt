@@ -3,7 +3,6 @@ use mathlib.Core.Bool.{not}
 use native.Mathlib.Omega.{arith}
 use Rattle.field.specs.Base as B
 use Rattle.field.specs.Ext as E
-use borrow.Author.Rules.{rules}
 use Rattle.verifier.proofs.NoRounds.{layers_there, entries_there, not_one, is_one}
 use Rattle.verifier.proofs.empty.verify_empty.Goals as goal
 

@@ -1,2 +1,0 @@
--- The laws of comparing.
-pub mod Answering

@@ -1,5 +1,0 @@
-use Rattle.command.proofs.Folding.{both_are}
-use Rattle.command.proofs.options.fit_verify.Goals as goal
-
-pub returns : goal.returns
-returns c = both_are _ _ _ _ _ c.both.ensures c.fit.ensures c.is_verifiers.ensures

@@ -1,0 +1,79 @@
+// Why a command stops, and how that is told.
+ghost use Rattle.std.specs.Prelude.{◌≡◌};
+ghost use Rattle.command_files.specs.declared.fault.Fault.TheVariants as Fault;
+
+use crate::system::tell;
+use answers::say;
+use command_text::refusals::Refused;
+use refusal::Refusal;
+use std::fmt::Display;
+use std::io::Error;
+
+// What the system did not do at a name, a refusal, a line of a text that is none of its kind, a file with more than is read of it, and a log of so many bytes that are no words.
+#[derive(Drop)]
+pub enum Fault<'a> {
+    Failed {
+        path: &'a [u8],
+        error: Error,
+    },
+    Refused(Refusal),
+    BadLine {
+        path: &'a [u8],
+        line: usize,
+        kind: &'static str,
+    },
+    TooLong {
+        path: &'a [u8],
+        limit: &'static str,
+    },
+    SplitWord {
+        path: &'a [u8],
+        bytes: usize,
+    },
+}
+
+// A refusal is a fault.
+impl From<Refusal> for Fault<'_> {
+    ghost from_gives = { λ refusal fault. fault ≡ Fault.Refused refusal };
+
+    fn from(refusal: Refusal) -> Self {
+        Fault::Refused(refusal)
+    }
+}
+
+// The line of a refusal that names a file, by the bytes of its name, which need be no text: what stands before the name, and after it.
+fn say_of_file(
+    rt: &impl Print,
+    before: impl Display + Drop,
+    path: &[u8],
+    after: impl Display + Drop,
+) {
+    let _ = print!(rt; "refused: {before}");
+    let _ = rt.write_all(path);
+    say(rt, after);
+}
+
+impl Fault<'_> {
+    // Tells it on a line: what the system did not do on standard error, any other on standard output.
+    pub fn tell(self, rt: &impl Print) {
+        match self {
+            Fault::Failed { path, error } => tell(path, error),
+            Fault::Refused(refusal) => say(rt, Refused(refusal)),
+            Fault::BadLine { path, line, kind } => say_of_file(
+                rt,
+                format_args!("line {line} of "),
+                path,
+                format_args!(" is not {kind}"),
+            ),
+            Fault::TooLong { path, limit } => {
+                say_of_file(rt, "", path, format_args!(" has more than {limit}"));
+            }
+            Fault::SplitWord { path, bytes } => say_of_file(
+                rt,
+                "",
+                path,
+                format_args!(" has {bytes} bytes, and each word of a log has 4"),
+            ),
+        }
+    }
+}

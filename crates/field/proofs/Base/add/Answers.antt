@@ -1,7 +1,0 @@
-use mathlib.Core.Path.{ap₂}
-use Rattle.field.specs.Base as B
-use Rattle.field.specs.ElementLaws.{base_answer}
-use Rattle.field.proofs.Base.add.Goals as goal
-
-pub returns : goal.returns
-returns c = base_answer c.add_word.ensures (ap₂ B.add c.rest_word.ensures.1 c.rest_word-2.ensures.1)

@@ -1,6 +1,0 @@
-use mathlib.Core.Path.{refl}
-use Rattle.field.specs.ElementLaws.{base_answer}
-use Rattle.field.proofs.Base.mul.Goals as goal
-
-pub returns : goal.returns
-returns c = base_answer c.mul_word.ensures refl

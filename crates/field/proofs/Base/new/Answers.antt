@@ -1,6 +1,0 @@
-use mathlib.Core.Path.{refl}
-use Rattle.field.specs.ElementLaws.{base_answer}
-use Rattle.field.proofs.Base.new.Goals as goal
-
-pub returns : goal.returns
-returns c = base_answer c.rest_word.ensures refl

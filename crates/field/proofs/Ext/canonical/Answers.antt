@@ -1,5 +1,0 @@
-use Rattle.field.specs.ElementLaws.{enc_of_is}
-use Rattle.field.proofs.Ext.canonical.Goals as goal
-
-pub returns : goal.returns
-returns c = enc_of_is c.reduced.ensures

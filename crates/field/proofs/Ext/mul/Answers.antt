@@ -1,7 +1,0 @@
-use mathlib.Core.Path.{ap₂}
-use Rattle.field.specs.Ext as E
-use Rattle.field.specs.ElementLaws.{answer}
-use Rattle.field.proofs.Ext.mul.Goals as goal
-
-pub returns : goal.returns
-returns c = answer c.times.ensures (ap₂ E.mul c.reduced.ensures.value c.reduced-2.ensures.value)

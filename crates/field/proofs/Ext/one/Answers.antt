@@ -1,7 +1,0 @@
-use mathlib.Core.Path.{refl}
-use Rattle.field.specs.ExtRing.{arithmetic}
-use Rattle.field.proofs.Ext.one.Goals as goal
-
-pub returns : goal.returns
-unfolding arithmetic
-returns c = refl
