@@ -32,6 +32,7 @@ pub fn begin(transcript: &mut Transcript<'_>, asserted: bool, p: Ext)
     requires room { transcript.old.put + cond asserted 0 4 ≤ length transcript.old.log.now }
     requires canon { Canon p }
     ensures same { transcript.new.log.ghost_name ≡ transcript.old.log.ghost_name }
+    ensures sponge { transcript.new.sponge ≡ transcript.old.sponge }
     ensures length { length transcript.new.log.now ≡ length transcript.old.log.now }
     ensures steps { Steps (state transcript.old) (state transcript.new) (cond asserted 0 4) 0 (begun asserted (dec p) (log_of (state transcript.old))) }
 {

@@ -7,6 +7,8 @@ use Rattle.field.specs.Element.{Is}
 use Rattle.field.specs.ElementLaws.{is_unique}
 use Rattle.gkr.specs.Transcripts.{Words}
 use Rattle.field.specs.declared.Ext.{Ext}
+use Rattle.shake.specs.Drawn.{Holds}
+use Rattle.shake.specs.HoldsLaws as Sponges
 use Rattle.transcript.specs.Log.{State, Steps, log_of}
 
 -- the same state, but for the sponge
@@ -18,9 +20,16 @@ pub record SameState (s s' : State) : Type 0 where
   pub challenges : s.challenges ≡ s'.challenges
 
 -- no second start fits
-pub start_unique : {ws ch : List ℕ} {d : Bool} {s s' : State} → (s.buffer ≡ ws) × (s.challenges ≡ ch) × (s.drawn ≡ d) → (s.put ≡ 0) × (s.used ≡ 0) → (s'.buffer ≡ ws) × (s'.challenges ≡ ch) × (s'.drawn ≡ d) → (s'.put ≡ 0) × (s'.used ≡ 0)
-    → SameState s s'
-start_unique b n b' n' = record { buffer = b.0 ∙ sym b'.0; put = n.0 ∙ sym n'.0; used = n.1 ∙ sym n'.1; drawn = b.2 ∙ sym b'.2; challenges = b.1 ∙ sym b'.1 }
+pub start_unique : {ws ch : List ℕ} {d : Bool} {s s' : State} → (s.buffer ≡ ws) × (s.challenges ≡ ch) × (s.drawn ≡ d) → (s.put ≡ 0) × (s.used ≡ 0) × ((m : List ℕ) → Holds s.sponge m)
+    → (s'.buffer ≡ ws) × (s'.challenges ≡ ch) × (s'.drawn ≡ d) → (s'.put ≡ 0) × (s'.used ≡ 0) × ((m : List ℕ) → Holds s'.sponge m) → s ≡ s'
+start_unique b n b' n' = λ i. record {
+  buffer = (b.0 ∙ sym b'.0) i;
+  put = (n.0 ∙ sym n'.0) i;
+  used = (n.1 ∙ sym n'.1) i;
+  sponge = Sponges.start_unique n.2 n'.2 i;
+  drawn = (b.2 ∙ sym b'.2) i;
+  challenges = (b.1 ∙ sym b'.1) i;
+}
 
 -- a buffer is its log, and past it what it held
 pub buffer_unique : (ws : List ℕ) (s s' : State) → s.put ≡ s'.put → log_of s ≡ log_of s' → drop s.put s.buffer ≡ drop s.put ws → drop s'.put s'.buffer ≡ drop s'.put ws → s.buffer ≡ s'.buffer

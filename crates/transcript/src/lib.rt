@@ -94,6 +94,7 @@ impl<'a> Transcript<'a> {
         requires room { self.old.put + 4 ≤ length self.old.log.now }
         requires canon { Canon e }
         ensures same { self.new.log.ghost_name ≡ self.old.log.ghost_name }
+        ensures sponge { self.new.sponge ≡ self.old.sponge }
         ensures steps { Steps (state self.old) (state self.new) 4 0 (Observing.observe (dec e) (log_of (state self.old))) }
     {
         let put = self.put;
@@ -109,6 +110,7 @@ impl<'a> Transcript<'a> {
         requires room { self.old.put + cond sized 4 0 ≤ length self.old.log.now }
         requires small { n < P }
         ensures same { self.new.log.ghost_name ≡ self.old.log.ghost_name }
+        ensures sponge { self.new.sponge ≡ self.old.sponge }
         ensures steps { Steps (state self.old) (state self.new) (cond sized 4 0) 0 (bound sized n (log_of (state self.old))) }
     {
         if sized {

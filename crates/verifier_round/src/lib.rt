@@ -67,6 +67,7 @@ pub fn observe_layer_claims(transcript: &mut Transcript<'_>, c: LayerClaims)
     requires room { transcript.old.put + 16 ≤ length transcript.old.log.now }
     requires canon { CanonClaims (claims_in c) }
     ensures same { transcript.new.log.ghost_name ≡ transcript.old.log.ghost_name }
+    ensures sponge { transcript.new.sponge ≡ transcript.old.sponge }
     ensures steps { Steps (state transcript.old) (state transcript.new) 16 0
         (Gkr.observe_layer_claims Extension Observing (dec_claims (claims_in c)) (log_of (state transcript.old))) }
 {
@@ -81,6 +82,7 @@ pub fn observe_cubic(transcript: &mut Transcript<'_>, m: SubroundEvals)
     requires room { transcript.old.put + 12 ≤ length transcript.old.log.now }
     requires canon { CanonCubic (cubic_in m) }
     ensures same { transcript.new.log.ghost_name ≡ transcript.old.log.ghost_name }
+    ensures sponge { transcript.new.sponge ≡ transcript.old.sponge }
     ensures steps { Steps (state transcript.old) (state transcript.new) 12 0
         (Sumcheck.observe_cubic Extension Observing (dec_cubic (cubic_in m)) (log_of (state transcript.old))) }
 {
