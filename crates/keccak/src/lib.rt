@@ -229,7 +229,7 @@ pub fn permute(a: Lanes) -> Lanes
     s
 }
 
-// The state that stands in an array, and a state put into one: for a caller that keeps its lanes in an array, as one that C lends is.
+// The state that stands in an array: for a caller that keeps its lanes in one, as C does.
 pub fn load(lanes: &[u64; 25]) -> Lanes
     ensures { as_list result ≡ values (λ i. get_or lanes.now i 0) 0 25 }
 {
@@ -262,6 +262,7 @@ pub fn load(lanes: &[u64; 25]) -> Lanes
     }
 }
 
+// A state put into an array.
 pub fn store(lanes: &mut [u64; 25], s: Lanes)
     ensures { lanes.new ≡ as_list s }
 {
