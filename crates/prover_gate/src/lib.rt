@@ -4,7 +4,7 @@
 ghost use Rattle.std.specs.Prelude.{◌≡◌, ◌*◌, ◌≤◌, length};
 ghost use Rattle.field.specs.Cells.{Clean};
 ghost use Rattle.refusal.specs.Limits.{max_rounds};
-ghost use Rattle.sizes.specs.Sizes.{row_count};
+ghost use Rattle.sizes.specs.Sizes.{row_count, rounds_of, is_size};
 ghost use Rattle.prover_gate.specs.Refusals.{short_room, lowest_row, call, first_refusal, as_gate};
 
 use field::Field;
@@ -17,6 +17,15 @@ pub struct Rooms {
     pub point: usize,
     pub log: usize,
     pub work: usize,
+}
+
+// Whether there are no rows, or as many as their rounds take.
+#[tactic(auto, unfolding(sizes::specs::Sizes::is_size))]
+fn fills(count: usize, n: usize) -> bool
+    requires { (n ≡ rounds_of count) × (n ≤ max_rounds) }
+    ensures { result ≡ is_size count }
+{
+    count == 0 || count == sizes::rows_of(n)
 }
 
 // Whether a room is too short for n rounds.
@@ -61,10 +70,10 @@ pub fn first_refusal(
     if refusal::MAX_ROWS < count {
         return Err(Refusal::TooManyRows);
     }
-    if !sizes::is_size(count) {
+    let n = sizes::rounds_of(count);
+    if !fills(count, n) {
         return Err(Refusal::NotPowerOfTwo);
     }
-    let n = sizes::rounds_of(count);
     let need = sizes::needed_words(modes.drawn, n);
     let needed = challenges.get(..need).ok_or(Refusal::ShortChallenges)?;
     if short_room(modes, n, rooms) {

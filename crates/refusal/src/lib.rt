@@ -203,6 +203,7 @@ impl From<Refusal> for Report {
 }
 
 // Whether n is 1, 2, 4, 8, ..
+#[tactic(auto, using(crate::proofs::Bits::bits_say), unfolding(crate::specs::Powers::any_power))]
 pub fn power_of_two(n: usize) -> bool
     ensures { result ≡ power_of_two n }
 {

@@ -1,6 +1,6 @@
 -- Words and elements at a place of a text.
 -- Assumes nothing.
-use Rattle.std.specs.Prelude.{ℕ, ◌+◌, ◌-◌, ◌*◌, ◌%◌, min, Bool, true, cond, ◌&&◌, List, [], ◌∷◌, length, drop, ◌==◌, nat_lt, slice_index, Option, Some, None, option_and_then}
+use Rattle.std.specs.Prelude.{ℕ, ◌+◌, ◌-◌, ◌*◌, ◌%◌, min, Bool, true, cond, ◌&&◌, List, [], ◌∷◌, length, drop, ◌==◌, nat_lt, slice_index, is_ok, Result, Ok, Err}
 use Rattle.field.specs.Base.{P}
 use Rattle.sheet_text.specs.declared.Number.{Number}
 use Rattle.sheet_text.specs.declared.Word.{Word}
@@ -42,25 +42,33 @@ after_byte b text at = cond (nat_lt at (length text)) (cond (slice_index text at
 unfoldable pub signed_word : Bool → ℕ → ℕ
 signed_word minus v = cond minus ((P - v % P) % P) (v % P)
 
--- what follows a part, if the part is there
-infixl 10 ◌>>=◌
-abbrev pub ◌>>=◌ : {A B : Type 0} → Option A → (A → Option B) → Option B
-o >>= f = option_and_then f o
-
 -- there are digits, and their number is below the prime
 abbrev pub is_word : ℕ → Number → Bool
 is_word from n = nat_lt from n.at && nat_lt n.value P
 
-abbrev pub word_of : ℕ → ℕ → Number → Option Word
-word_of at from n = cond (is_word from n) (Some (record { value = signed_word (nat_lt at from) n.value; at = n.at })) None
+-- a value that is read, and whether it is good
+abbrev pub found : {A : Type 0} → Bool → A → Result A A
+found good v = cond good (Ok v) (Err v)
 
--- a word, if one stands at a place
-unfoldable pub word_at : List ℕ → ℕ → Option Word
+-- what is read, good or not
+abbrev pub told : {A : Type 0} → Result A A → A
+told (Ok v) = v
+told (Err v) = v
+
+abbrev pub word_of : ℕ → ℕ → Number → Result Word Word
+word_of at from n = found (is_word from n) (record { value = signed_word (nat_lt at from) n.value; at = n.at })
+
+-- the word at a place, good if one stands there
+unfoldable pub word_at : List ℕ → ℕ → Result Word Word
 word_at text at = word_of at (after_byte 45 text at) (number_at text (after_byte 45 text at))
 
--- the word after another one and a comma
-unfoldable pub next_word : List ℕ → Word → Option Word
-next_word text w = cond (nat_lt w.at (after_byte 44 text w.at)) (word_at text (after_byte 44 text w.at)) None
+-- a word that begins at a place beyond another one
+abbrev pub after : Result Word Word → ℕ → Result Word Word → Result Word Word
+after w from n = found ((is_ok w && nat_lt (told w).at from) && is_ok n) (told n)
+
+-- the word after another one and a comma, good where all of this is there
+unfoldable pub next_word : List ℕ → Result Word Word → Result Word Word
+next_word text w = after w (after_byte 44 text (told w).at) (word_at text (after_byte 44 text (told w).at))
 
 abbrev pub single : Word → Element
 single a = record { value = record { c0 = a.value; c1 = 0; c2 = 0; c3 = 0 }; at = a.at }
@@ -68,16 +76,16 @@ single a = record { value = record { c0 = a.value; c1 = 0; c2 = 0; c3 = 0 }; at 
 abbrev pub four : Word → Word → Word → Word → Element
 four a b c d = record { value = record { c0 = a.value; c1 = b.value; c2 = c.value; c3 = d.value }; at = d.at }
 
--- a word with the three after it
-unfoldable pub four_from : List ℕ → Word → Option Element
-four_from text a = do
-  b ← next_word text a
-  c ← next_word text b
-  d ← next_word text c
-  Some (four a b c d)
+-- a word with the three after it, good where all four are
+abbrev pub four_from : List ℕ → Result Word Word → Result Element Element
+four_from text a =
+    let b : Result Word Word = next_word text a in
+    let c : Result Word Word = next_word text b in
+    let d : Result Word Word = next_word text c in
+    found (is_ok d) (four (told a) (told b) (told c) (told d))
 
 -- one word, or four with commas between them
-unfoldable pub element_at : List ℕ → ℕ → Option Element
-element_at text at = do
-  a ← word_at text at
-  cond (after_byte 44 text a.at == a.at) (Some (single a)) (four_from text a)
+unfoldable pub element_at : List ℕ → ℕ → Result Element Element
+element_at text at =
+    let a : Result Word Word = word_at text at in
+    cond (after_byte 44 text (told a).at == (told a).at) (found (is_ok a) (single (told a))) (four_from text a)

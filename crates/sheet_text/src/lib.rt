@@ -17,7 +17,7 @@ pub struct Number {
     pub at: usize,
 }
 
-// A word or an element, and the place after it.
+// A word or an element, and the place after it: what a reader answers, by Ok where one stands there, and by Err where none does.
 #[derive(Clone, Copy)]
 pub struct Word {
     pub value: u32,

@@ -14,13 +14,13 @@ pub fn read_line(line: &[u8]) -> Option<Line>
     if line.len() <= start || line[start] == b'#' {
         return Some(Line::Skipped);
     }
-    let p = element_at(line, start)?;
+    let p = element_at(line, start).ok()?;
     let gap = skip_spaces(line, p.at);
     if line.len() <= gap {
         return Some(Line::Single(p.value));
     }
     let from = skip_spaces(line, after(line, gap, b'/'));
-    let q = element_at(line, from)?;
+    let q = element_at(line, from).ok()?;
     let end = skip_spaces(line, q.at);
     if p.at < from && line.len() <= end {
         Some(Line::Fraction {

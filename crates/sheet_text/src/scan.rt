@@ -1,7 +1,7 @@
 // Words and elements at a place of a text. Each function takes any place, and answers where the text goes on.
 ghost use Rattle.std.specs.Prelude.{◌≡◌, ◌≤◌};
 ghost use Rattle.field.specs.Base.{P};
-ghost use Rattle.sheet_text.specs.Scan.{digit_of, grown, number_at, is_space, spaces_at, after_byte, signed_word, word_at, next_word, element_at};
+ghost use Rattle.sheet_text.specs.Scan.{digit_of, grown, number_at, is_space, spaces_at, after_byte, signed_word, found, told, word_at, next_word, element_at};
 
 use crate::{Element, Number, Word};
 use field::{Base, Ext};
@@ -83,63 +83,77 @@ fn signed(minus: bool, v: u64) -> u32
     }
 }
 
-// A word: digits of a number below the prime, after a minus or none.
+// A value that is read, and whether it is good.
+fn found<T>(good: bool, value: T) -> Result<T, T>
+    ensures { result ≡ found good value }
+{
+    if good { Ok(value) } else { Err(value) }
+}
+
+// What is read, good or not.
+fn told<T>(read: Result<T, T>) -> T
+    ensures { result ≡ told read }
+{
+    match read {
+        Ok(value) | Err(value) => value,
+    }
+}
+
+// A word: digits of a number below the prime, after a minus or none. Where none stands, what the digits there say, and the place after them.
 #[tactic(auto, unfolding(crate::specs::Scan::word_at))]
-pub fn word_at(text: &[u8], at: usize) -> Option<Word>
+pub fn word_at(text: &[u8], at: usize) -> Result<Word, Word>
     ensures { result ≡ word_at text.now at }
 {
     let from = after(text, at, b'-');
     let n = number_at(text, from);
-    if from < n.at && n.value < Base::ORDER_U64 {
-        Some(Word {
-            value: signed(at < from, n.value),
-            at: n.at,
-        })
-    } else {
-        None
-    }
+    let word = Word {
+        value: signed(at < from, n.value),
+        at: n.at,
+    };
+    found(from < n.at && n.value < Base::ORDER_U64, word)
 }
 
-// The word that follows another one and a comma.
+// The word that follows another one and a comma, good where all of this is there.
 #[tactic(auto, unfolding(crate::specs::Scan::next_word))]
-fn next_word(text: &[u8], w: Word) -> Option<Word>
+fn next_word(text: &[u8], w: Result<Word, Word>) -> Result<Word, Word>
     ensures { result ≡ next_word text.now w }
 {
-    let from = after(text, w.at, b',');
-    if w.at < from {
-        word_at(text, from)
-    } else {
-        None
-    }
+    let end = told(w).at;
+    let from = after(text, end, b',');
+    let n = word_at(text, from);
+    found(w.is_ok() && end < from && n.is_ok(), told(n))
 }
 
-// An element: one word, or four with commas between them.
-#[tactic(auto, unfolding(crate::specs::Scan::element_at, crate::specs::Scan::four_from))]
-pub fn element_at(text: &[u8], at: usize) -> Option<Element>
+// An element: one word, or four with commas between them. Where none stands, what the words there say, and the place after them.
+#[tactic(auto, unfolding(crate::specs::Scan::element_at))]
+pub fn element_at(text: &[u8], at: usize) -> Result<Element, Element>
     ensures { result ≡ element_at text.now at }
 {
-    let a = word_at(text, at)?;
-    if after(text, a.at, b',') == a.at {
-        return Some(Element {
+    let a = word_at(text, at);
+    let first = told(a);
+    if after(text, first.at, b',') == first.at {
+        let single = Element {
             value: Ext {
-                c0: a.value,
+                c0: first.value,
                 c1: 0,
                 c2: 0,
                 c3: 0,
             },
-            at: a.at,
-        });
+            at: first.at,
+        };
+        return found(a.is_ok(), single);
     }
-    let b = next_word(text, a)?;
-    let c = next_word(text, b)?;
-    let d = next_word(text, c)?;
-    Some(Element {
+    let b = next_word(text, a);
+    let c = next_word(text, b);
+    let d = next_word(text, c);
+    let four = Element {
         value: Ext {
-            c0: a.value,
-            c1: b.value,
-            c2: c.value,
-            c3: d.value,
+            c0: first.value,
+            c1: told(b).value,
+            c2: told(c).value,
+            c3: told(d).value,
         },
-        at: d.at,
-    })
+        at: told(d).at,
+    };
+    found(d.is_ok(), four)
 }

@@ -85,7 +85,7 @@ impl Frac {
 
 impl Entry {
     // An operation on all five columns.
-    fn zip<F: Fn(Ext, Ext) -> Ext + Copy>(self, other: Entry, f: F) -> Entry
+    pub fn zip<F: Fn(Ext, Ext) -> Ext + Copy>(self, other: Entry, f: F) -> Entry
         requires { F.pre f self.e other.e × F.pre f self.l.p other.l.p × F.pre f self.l.q other.l.q × F.pre f self.r.p other.r.p × F.pre f self.r.q other.r.q }
         ensures e { F.post f self.e other.e result.e }
         ensures l { F.post f self.l.p other.l.p result.l.p × F.post f self.l.q other.l.q result.l.q }
