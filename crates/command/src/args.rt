@@ -141,7 +141,7 @@ fn read_command(args: &[u8]) -> Option<Command<'_>> {
 }
 
 // Does what the arguments ask for, each ended by a byte 0, or says how they are used.
-pub fn run(rt: &(impl Files + Print), args: &[u8]) {
+pub fn run(rt: &impl Files, args: &[u8]) {
     let Some(command) = read_command(args) else {
         return usage();
     };

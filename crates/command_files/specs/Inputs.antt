@@ -1,9 +1,9 @@
--- What was read of a file.
+-- How much was read of a file.
 -- Assumes nothing.
-use Rattle.std.specs.Prelude.{List, ℕ}
+use Rattle.std.specs.Prelude.{ℕ}
 use Rattle.command_files.specs.declared.Input.{Input}
 use Rattle.command_files.specs.declared.Input.TheVariants.{Whole, Front}
 
-abbrev pub bytes_read : Input → List ℕ
-bytes_read (Whole bytes) = bytes.now
-bytes_read (Front bytes) = bytes.now
+abbrev pub bytes_read : Input → ℕ
+bytes_read (Whole n) = n
+bytes_read (Front n) = n

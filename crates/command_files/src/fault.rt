@@ -3,19 +3,21 @@ ghost use Rattle.std.specs.Prelude.{◌≡◌};
 ghost use Rattle.command_files.specs.declared.fault.Fault.TheVariants as Fault;
 
 use crate::system::tell;
-use answers::say;
+use answers::{print, say};
 use command_text::refusals::Refused;
 use refusal::Refusal;
 use std::fmt::Display;
 use std::io::Error;
 
-// What the system did not do at a name, a refusal, a line of a text that is none of its kind, a file with more than is read of it, and a log of so many bytes that are no words.
+// What the system did not do at a name, and the same where it is told already; a refusal, a line of a text that is none of its kind, a file with more than is read of it (how
+// much that is stands after the name, up to the line's end), and a log of so many bytes that are no words.
 #[derive(Drop)]
 pub enum Fault<'a> {
     Failed {
         path: &'a [u8],
         error: Error,
     },
+    Told,
     Refused(Refusal),
     BadLine {
         path: &'a [u8],
@@ -41,38 +43,30 @@ impl From<Refusal> for Fault<'_> {
     }
 }
 
-// The line of a refusal that names a file, by the bytes of its name, which need be no text: what stands before the name, and after it.
-fn say_of_file(
-    rt: &impl Print,
-    before: impl Display + Drop,
-    path: &[u8],
-    after: impl Display + Drop,
-) {
-    let _ = print!(rt; "refused: {before}");
-    let _ = rt.write_all(path);
-    say(rt, after);
+// The line of a refusal that names a file, by the bytes of its name, which need be no text: what stands before the name, and after it, with the line's end.
+fn say_of_file(before: impl Display + Drop, path: &[u8], after: impl Display + Drop) {
+    print(before);
+    io::write_all(1, path);
+    print(after);
 }
 
 impl Fault<'_> {
     // Tells it on a line: what the system did not do on standard error, any other on standard output.
-    pub fn tell(self, rt: &impl Print) {
+    pub fn tell(self) {
         match self {
             Fault::Failed { path, error } => tell(path, error),
-            Fault::Refused(refusal) => say(rt, Refused(refusal)),
+            Fault::Told => {}
+            Fault::Refused(refusal) => say(Refused(refusal)),
             Fault::BadLine { path, line, kind } => say_of_file(
-                rt,
-                format_args!("line {line} of "),
+                format_args!("refused: line {line} of "),
                 path,
-                format_args!(" is not {kind}"),
+                format_args!(" is not {kind}\n"),
             ),
-            Fault::TooLong { path, limit } => {
-                say_of_file(rt, "", path, format_args!(" has more than {limit}"));
-            }
+            Fault::TooLong { path, limit } => say_of_file("refused: ", path, limit),
             Fault::SplitWord { path, bytes } => say_of_file(
-                rt,
-                "",
+                "refused: ",
                 path,
-                format_args!(" has {bytes} bytes, and each word of a log has 4"),
+                format_args!(" has {bytes} bytes, and each word of a log has 4\n"),
             ),
         }
     }

@@ -29,7 +29,7 @@ pub fn read_sheet<'a>(rt: &impl Files, path: &'a [u8], rows: &mut [u32]) -> Resu
 {
     let mut bytes = [0u8; 32771];
     match read(rt, path, &mut bytes)? {
-        Input::Whole(sheet) => rows_of(sheet, rows),
+        Input::Whole(n) => rows_of(&bytes[..n], rows),
         Input::Front(_) => Err(Fault::Refused(Refusal::TooManyRows)),
     }
 }
@@ -56,7 +56,7 @@ fn read_elements<'a>(rt: &impl Files, path: &'a [u8], words: &mut [u32]) -> Resu
 {
     let mut bytes = [0u8; 65536];
     match read(rt, path, &mut bytes)? {
-        Input::Whole(text) | Input::Front(text) => elements_of(path, text, words),
+        Input::Whole(n) | Input::Front(n) => elements_of(path, &bytes[..n], words),
     }
 }
 

@@ -1,11 +1,12 @@
 // A file read whole into a buffer, and a file written whole or not at all.
 #![tactic(auto)]
 
-ghost use Rattle.std.specs.Prelude.{◌≤◌, length, IfSome, IfOk};
+ghost use Rattle.std.specs.Prelude.{◌≡◌, ◌≤◌, min, length, IfSome, IfOk};
+ghost use Rattle.io.specs.Counts.{IsPrefixLen};
 ghost use Rattle.command_files.specs.Inputs.{bytes_read};
 
 use crate::fault::Fault;
-use crate::system::{create_temp, fill, invalid, open_read, read_full, remove, rename};
+use crate::system::{create_temp, fill, invalid, open_read, read_full, remove, rename, tell};
 use std::io::{Error, Read};
 use std::rt::Files;
 
@@ -14,36 +15,38 @@ pub mod inputs; // rows and challenges as words
 pub mod logs; // a run's log
 pub mod system; // the system's files, by their names in bytes
 
-// The bytes of a file: all of them, or those that the buffer takes.
+// How many bytes of a file were read: all of them, or those that the buffer takes.
 #[derive(Clone, Copy)]
-pub enum Input<'a> {
-    Whole(&'a [u8]),
-    Front(&'a [u8]),
+pub enum Input {
+    Whole(usize),
+    Front(usize),
 }
 
-fn read_from<'a>(rt: &impl Files, path: &[u8], buffer: &'a mut [u8]) -> Result<Input<'a>, Error>
-    ensures { IfOk result (λ input. length (bytes_read input) ≤ length buffer.old) }
+fn read_from(rt: &impl Files, path: &[u8], buffer: &mut [u8]) -> Result<Input, Error>
+    ensures { IfOk result (λ input. IsPrefixLen (bytes_read input) buffer.new) }
 {
     let mut file = open_read(rt, path)?;
     let count = read_full(&mut file, buffer);
     let more = file.read(&mut [0u8; 1])? != 0;
-    let bytes = &buffer[..count];
     if more {
-        Ok(Input::Front(bytes))
+        Ok(Input::Front(count))
     } else {
-        Ok(Input::Whole(bytes))
+        Ok(Input::Whole(count))
     }
 }
 
 // The file from its start into the front of the buffer.
-pub fn read<'a, 'b>(
-    rt: &impl Files,
-    path: &'a [u8],
-    buffer: &'b mut [u8],
-) -> Result<Input<'b>, Fault<'a>>
-    ensures { IfOk result (λ input. length (bytes_read input) ≤ length buffer.old) }
+pub fn read<'a>(rt: &impl Files, path: &'a [u8], buffer: &mut [u8]) -> Result<Input, Fault<'a>>
+    ensures { IfOk result (λ input. IsPrefixLen (bytes_read input) buffer.new) }
 {
     read_from(rt, path, buffer).map_err(|error| Fault::Failed { path, error })
+}
+
+// The front of a room: so many bytes, or all there are.
+pub fn front(n: usize, room: &[u8]) -> usize
+    ensures { (result ≡ min n (length room.now)) × IsPrefixLen result room.now }
+{
+    n.min(room.len())
 }
 
 // The path with .XXXXXX after it, in the same folder, in the front of the name; none where that does not fit.
@@ -68,23 +71,28 @@ fn fill_and_name<R: Files>(
     rename(rt, temporary, path)
 }
 
-// Where the bytes do not get the name, no file stays behind.
-fn put_new(rt: &impl Files, path: &[u8], name: &mut [u8], bytes: &[u8]) -> Result<(), Error> {
-    let file = create_temp(rt, name)?;
-    let done = fill_and_name(rt, file, bytes, name, path);
-    if done.is_err() {
+// Where the bytes do not get the name, that is told, and then no file stays behind.
+fn put_new<'a>(
+    rt: &impl Files,
+    path: &'a [u8],
+    name: &mut [u8],
+    bytes: &[u8],
+) -> Result<(), Fault<'a>> {
+    let file = create_temp(rt, name).map_err(|error| Fault::Failed { path, error })?;
+    if let Err(error) = fill_and_name(rt, file, bytes, name, path) {
+        tell(path, error);
         let _ = remove(rt, name);
+        return Err(Fault::Told);
     }
-    done
-}
-
-fn replace_file(rt: &impl Files, path: &[u8], bytes: &[u8]) -> Result<(), Error> {
-    let mut name = [0u8; 4096];
-    let n = temporary_name(path, &mut name).ok_or_else(invalid)?;
-    put_new(rt, path, &mut name[..n], bytes)
+    Ok(())
 }
 
 // The bytes go to a new file of the same folder, which then takes the name: a file that had it is as it was until then.
 pub fn replace<'a>(rt: &impl Files, path: &'a [u8], bytes: &[u8]) -> Result<(), Fault<'a>> {
-    replace_file(rt, path, bytes).map_err(|error| Fault::Failed { path, error })
+    let mut name = [0u8; 4096];
+    let Some(n) = temporary_name(path, &mut name) else {
+        let error = invalid();
+        return Err(Fault::Failed { path, error });
+    };
+    put_new(rt, path, &mut name[..n], bytes)
 }

@@ -1,18 +1,29 @@
 // A log in a file: its words one after the other, four bytes each, the highest first.
-ghost use Rattle.std.specs.Prelude.{◌≡◌, ◌≤◌, length, IfOk};
+ghost use Rattle.std.specs.Prelude.{◌≡◌, ◌≤◌, ◌*◌, ◌++◌, min, length, drop, IfOk};
 ghost use Rattle.std.specs.Result.{result_ok};
 ghost use Rattle.io.specs.Counts.{IsPrefixLen};
+ghost use Rattle.wire.specs.Bytes.{words_from};
 ghost use Rattle.command_files.specs.Given.{FromFile};
 ghost use Rattle.command_files.specs.Logs.{log_of, log_given};
 
 use crate::fault::Fault;
-use crate::{Input, read, replace};
+use crate::{Input, front, read, replace};
 use std::rt::Files;
+
+// The first n words of the bytes go to the front of the words.
+fn copy_log(bytes: &[u8], words: &mut [u32], n: usize)
+    requires { (4 * n ≤ length bytes.now) × (n ≤ length words.old) }
+    ensures { words.new ≡ words_from n bytes.now ++ drop n words.old }
+{
+    for i in 0..n {
+        words[i] = wire::word_at(bytes, 4 * i);
+    }
+}
 
 fn too_long(path: &[u8]) -> Fault<'_> {
     Fault::TooLong {
         path,
-        limit: "3856 bytes, and no verifier logs more than 964 words",
+        limit: " has more than 3856 bytes, and no verifier logs more than 964 words\n",
     }
 }
 
@@ -31,7 +42,7 @@ fn log_of<'a>(path: &'a [u8], bytes: &[u8], words: &mut [u32]) -> Result<usize, 
     if words.len() < n {
         return Err(too_long(path));
     }
-    wire::copy_words(bytes, 0, words, n);
+    copy_log(bytes, words, n);
     Ok(n)
 }
 
@@ -42,29 +53,34 @@ pub fn read_log<'a>(rt: &impl Files, path: &'a [u8], words: &mut [u32]) -> Resul
 {
     let mut bytes = [0u8; 3856];
     match read(rt, path, &mut bytes)? {
-        Input::Whole(log) => log_of(path, log, words),
+        Input::Whole(n) => log_of(path, &bytes[..n], words),
         Input::Front(_) => Err(too_long(path)),
     }
+}
+
+// So many words of a log, as many as there are, and no more than any run writes.
+fn log_front(words: usize, log: &[u32]) -> usize
+    ensures { (result ≡ min words (min (length log.now) 968)) × IsPrefixLen result log.now × (result ≤ 968) }
+{
+    words.min(log.len().min(968))
 }
 
 fn write_log<'a>(rt: &impl Files, path: &'a [u8], log: &[u32]) -> Result<(), Fault<'a>>
     requires { length log.now ≤ 968 }
 {
     let mut bytes = [0u8; 3872];
-    let end = wire::put_words(&mut bytes, 0, log).min(bytes.len());
-    replace(rt, path, &bytes[..end])
+    let end = wire::put_words(&mut bytes, 0, log);
+    let n = front(end, &bytes);
+    replace(rt, path, &bytes[..n])
 }
 
-// The first words of a log go to a file, as many as there are, and no more than any run writes; an empty name stands for none.
-pub fn keep_log<'a>(
-    rt: &impl Files,
-    path: &'a [u8],
-    log: &[u32],
-    words: usize,
-) -> Result<(), Fault<'a>> {
+// The first words of a log go to a file; an empty name stands for none. What fails is told.
+pub fn keep_log(rt: &impl Files, path: &[u8], log: &[u32], words: usize) {
     if path.is_empty() {
-        return Ok(());
+        return;
     }
-    let n = words.min(log.len()).min(968);
-    write_log(rt, path, &log[..n])
+    let n = log_front(words, log);
+    if let Err(fault) = write_log(rt, path, &log[..n]) {
+        fault.tell();
+    }
 }

@@ -1,8 +1,9 @@
 // The claims of an accepted proof beside a sheet's own values at the point.
-ghost use Rattle.std.specs.Prelude.{◌≡◌, if◌then◌else◌, ◌^◌, ◌==◌, nat_lt};
+ghost use Rattle.std.specs.Prelude.{◌≡◌, if◌then◌else◌, ◌*◌, ◌^◌, ◌==◌, min, nat_lt, length};
+ghost use Rattle.io.specs.Counts.{IsPrefixLen};
 ghost use Rattle.refusal.specs.Limits.{max_rounds};
 
-use answers::{Accepted, say};
+use answers::{Accepted, print, say};
 use command_files::fault::Fault;
 use command_files::inputs::read_sheet;
 use std::fmt;
@@ -36,6 +37,13 @@ impl fmt::Display for Sizes {
     }
 }
 
+// The words of the point of so many rounds, as far as it goes.
+fn point_words(point: &[u32], rounds: usize) -> usize
+    ensures { (result ≡ min (4 * rounds) (length point.now)) × IsPrefixLen result point.now }
+{
+    rounds.saturating_mul(4).min(point.len())
+}
+
 // Whether the claims are those of the rows; none where the sizes do not fit. One row has no rounds either.
 fn compare(rows: &[u32], accepted: Accepted<'_>) -> Option<bool> {
     let Accepted {
@@ -46,31 +54,34 @@ fn compare(rows: &[u32], accepted: Accepted<'_>) -> Option<bool> {
     if rounds == 0 && !rows.is_empty() {
         return None;
     }
-    let n = rounds.saturating_mul(4).min(point.len());
+    let n = point_words(point, rounds);
     claims::compare(rows, &point[..n], stated).ok()
 }
 
-// The name of the sheet, an empty one for none, and an accepted proof.
-pub fn compare_sheet<'a>(
-    rt: &(impl Files + Print),
+fn compare_file<'a>(
+    rt: &impl Files,
     sheet: &'a [u8],
     accepted: Accepted<'_>,
 ) -> Result<(), Fault<'a>> {
-    if sheet.is_empty() {
-        return Ok(());
-    }
     let mut rows = [0u32; 8192];
     let n = read_sheet(rt, sheet, &mut rows)?;
     match compare(&rows[..n], accepted) {
-        Some(true) => say(rt, "claims match the sheet"),
-        Some(false) => say(rt, "refused: the claims are not the sheet's"),
-        None => say(
-            rt,
-            Sizes {
-                rows: n / 8,
-                rounds: accepted.rounds,
-            },
-        ),
+        Some(true) => print("claims match the sheet\n"),
+        Some(false) => print("refused: the claims are not the sheet's\n"),
+        None => say(Sizes {
+            rows: n / 8,
+            rounds: accepted.rounds,
+        }),
     }
     Ok(())
+}
+
+// The name of the sheet, an empty one for none, and an accepted proof. What stops the comparison is told.
+pub fn compare_sheet(rt: &impl Files, sheet: &[u8], accepted: Accepted<'_>) {
+    if sheet.is_empty() {
+        return;
+    }
+    if let Err(fault) = compare_file(rt, sheet, accepted) {
+        fault.tell();
+    }
 }

@@ -1,18 +1,14 @@
 // What an answer does not show by itself, told after it.
-use answers::say;
+use answers::print;
 
 // A sum over zero, whose numerator says nothing about the rows; and counted challenges, which everybody knows beforehand.
-pub fn say_notes(rt: &impl Print, over_zero: bool, counted: bool) {
+pub fn say_notes(over_zero: bool, counted: bool) {
     if over_zero {
-        say(
-            rt,
-            "note: the denominator of the sum is zero, so that the proof says nothing about the rows",
+        print(
+            "note: the denominator of the sum is zero, so that the proof says nothing about the rows\n",
         );
     }
     if counted {
-        say(
-            rt,
-            "note: the challenges are counted, for demonstrations only",
-        );
+        print("note: the challenges are counted, for demonstrations only\n");
     }
 }

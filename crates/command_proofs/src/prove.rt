@@ -5,7 +5,7 @@ use answers::{Proved, say};
 use command_files::fault::Fault;
 use command_files::inputs::read_sheet;
 use command_files::logs::keep_log;
-use command_files::replace;
+use command_files::{front, replace};
 use field::Field;
 use prover::Done;
 use refusal::Proving;
@@ -33,12 +33,7 @@ pub struct Asked<'a> {
 
 impl<'a> Asked<'a> {
     // The rows of the sheet, over lent challenges. Where the proof gets no file nothing else is kept or told.
-    fn run(
-        self,
-        rt: &(impl Files + Print),
-        rows: &[u32],
-        challenges: &[u32],
-    ) -> Result<(), Fault<'a>> {
+    fn run(self, rt: &impl Files, rows: &[u32], challenges: &[u32]) -> Result<(), Fault<'a>> {
         let mut proof = [0u8; 2832];
         let mut point = [0u32; 40];
         let mut log = [0u32; 968];
@@ -47,25 +42,20 @@ impl<'a> Asked<'a> {
             rows, self.modes, challenges, &mut proof, &mut point, &mut log, &mut work,
         );
         let Done { rounds, sum } = proved.answer?;
-        let n = proof_length(rounds).min(proof.len());
+        let n = front(proof_length(rounds), &proof);
         replace(rt, self.proof, &proof[..n])?;
-        say(
-            rt,
-            Proved {
-                rows: rows.len() / 8,
-                rounds,
-                sum,
-            },
-        );
-        if let Err(fault) = keep_log(rt, self.log, &log, proved.used.words) {
-            fault.tell(rt);
-        }
+        say(Proved {
+            rows: rows.len() / 8,
+            rounds,
+            sum,
+        });
+        keep_log(rt, self.log, &log, proved.used.words);
         let counted = are_counted(self.challenges, self.modes.drawn);
-        say_notes(rt, sum.q.is_zero(), counted);
+        say_notes(sum.q.is_zero(), counted);
         Ok(())
     }
 
-    fn read_and_run(self, rt: &(impl Files + Print)) -> Result<(), Fault<'a>> {
+    fn read_and_run(self, rt: &impl Files) -> Result<(), Fault<'a>> {
         let mut rows = [0u32; 8192];
         let n = read_sheet(rt, self.sheet, &mut rows)?;
         let mut words = [0u32; 256];
@@ -75,8 +65,8 @@ impl<'a> Asked<'a> {
 }
 
 // Proves, and says what stops it.
-pub fn prove(rt: &(impl Files + Print), asked: Asked<'_>) {
+pub fn prove(rt: &impl Files, asked: Asked<'_>) {
     if let Err(fault) = asked.read_and_run(rt) {
-        fault.tell(rt);
+        fault.tell();
     }
 }

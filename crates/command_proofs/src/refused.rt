@@ -15,37 +15,31 @@ fn read_counts(proof: &[u8], from: usize, counts: &mut [usize]) {
     }
 }
 
-fn say_place(rt: &impl Print, proof: &[u8], place: usize) {
+fn say_place(proof: &[u8], place: usize) {
     match stored::read_shape(proof) {
         Ok(outline) => {
             let mut counts = [0usize; 255];
             read_counts(proof, outline.polys, &mut counts);
-            say(
-                rt,
-                Named {
-                    place,
-                    layers: outline.layers,
-                    counts: &counts,
-                },
-            );
+            say(Named {
+                place,
+                layers: outline.layers,
+                counts: &counts,
+            });
         }
-        Err(refusal) => say(rt, Refused(refusal)),
+        Err(refusal) => say(Refused(refusal)),
     }
 }
 
 // What was refused of these bytes of a proof: a bad word of its own by its name, and its first byte says which word of a log a place is.
-pub fn say_refused(rt: &impl Print, proof: &[u8], refusal: Refusal) {
+pub fn say_refused(proof: &[u8], refusal: Refusal) {
     match refusal {
         Refusal::BadWord {
             place,
             list: Words::Proof,
-        } => say_place(rt, proof, place),
-        _ => say(
-            rt,
-            Replayed {
-                refusal,
-                sized: stored::is_sized(proof),
-            },
-        ),
+        } => say_place(proof, place),
+        _ => say(Replayed {
+            refusal,
+            sized: stored::is_sized(proof),
+        }),
     }
 }

@@ -9,7 +9,7 @@ use std::rt::Files;
 use step::Frac;
 use verifier_round::Claims;
 
-fn replay_bytes(rt: &impl Print, proof: &[u8], rounds: usize, modes: Verifying, log: &[u32]) {
+fn replay_bytes(proof: &[u8], rounds: usize, modes: Verifying, log: &[u32]) {
     let mut point = [0u32; 40];
     let replayed = log_replay::replay(proof, rounds, modes, log, &mut point);
     match replayed.verdict {
@@ -19,36 +19,30 @@ fn replay_bytes(rt: &impl Print, proof: &[u8], rounds: usize, modes: Verifying, 
                 point: &point,
                 rounds,
             };
-            say_good(rt, proof, accepted, replayed.used, false);
+            say_good(proof, accepted, replayed.used, false);
         }
-        Err(refusal) => say_bad(rt, proof, refusal, replayed.used),
+        Err(refusal) => say_bad(proof, refusal, replayed.used),
     }
 }
 
 fn replay_files<'a>(
-    rt: &(impl Files + Print),
+    rt: &impl Files,
     proof: &'a [u8],
     rounds: usize,
     modes: Verifying,
     log: &'a [u8],
 ) -> Result<(), Fault<'a>> {
     let mut bytes = [0u8; 65536];
-    let proof = read_proof(rt, proof, &mut bytes)?;
+    let length = read_proof(rt, proof, &mut bytes)?;
     let mut words = [0u32; 964];
     let n = read_log(rt, log, &mut words)?;
-    replay_bytes(rt, proof, rounds, modes, &words[..n]);
+    replay_bytes(&bytes[..length], rounds, modes, &words[..n]);
     Ok(())
 }
 
 // The names of the proof and of the log.
-pub fn replay(
-    rt: &(impl Files + Print),
-    proof: &[u8],
-    rounds: usize,
-    modes: Verifying,
-    log: &[u8],
-) {
+pub fn replay(rt: &impl Files, proof: &[u8], rounds: usize, modes: Verifying, log: &[u8]) {
     if let Err(fault) = replay_files(rt, proof, rounds, modes, log) {
-        fault.tell(rt);
+        fault.tell();
     }
 }

@@ -1,5 +1,6 @@
 // `verify PROOF ROUNDS`: the verdict, the two claims and the point are told, and whether the claims are a sheet's; the run's log goes to a file where one is named.
-ghost use Rattle.std.specs.Prelude.{◌≤◌, length, IfOk};
+ghost use Rattle.std.specs.Prelude.{IfOk};
+ghost use Rattle.io.specs.Counts.{IsPrefixLen};
 
 use crate::challenges::{are_counted, lend_challenges};
 use crate::compare::compare_sheet;
@@ -27,19 +28,12 @@ pub struct Asked<'a> {
 
 impl<'a> Asked<'a> {
     // The bytes of the proof, over lent challenges.
-    fn run(
-        self,
-        rt: &(impl Files + Print),
-        proof: &[u8],
-        challenges: &[u32],
-    ) -> Result<(), Fault<'a>> {
+    fn run(self, rt: &impl Files, proof: &[u8], challenges: &[u32]) {
         let Asked { rounds, modes, .. } = self;
         let mut point = [0u32; 40];
         let mut log = [0u32; 964];
         let verified = verifier::verify_gkr(proof, rounds, modes, challenges, &mut point, &mut log);
-        if let Err(fault) = keep_log(rt, self.log, &log, verified.used.words) {
-            fault.tell(rt);
-        }
+        keep_log(rt, self.log, &log, verified.used.words);
         match verified.verdict {
             Ok(Claims { numer, denom }) => {
                 let accepted = Accepted {
@@ -48,45 +42,39 @@ impl<'a> Asked<'a> {
                     rounds,
                 };
                 let counted = are_counted(self.challenges, modes.drawn);
-                say_good(rt, proof, accepted, verified.used, counted);
-                compare_sheet(rt, self.sheet, accepted)
+                say_good(proof, accepted, verified.used, counted);
+                compare_sheet(rt, self.sheet, accepted);
             }
-            Err(refusal) => {
-                say_bad(rt, proof, refusal, verified.used);
-                Ok(())
-            }
+            Err(refusal) => say_bad(proof, refusal, verified.used),
         }
     }
 
-    fn read_and_run(self, rt: &(impl Files + Print)) -> Result<(), Fault<'a>> {
+    fn read_and_run(self, rt: &impl Files) -> Result<(), Fault<'a>> {
         let mut bytes = [0u8; 65536];
-        let proof = read_proof(rt, self.proof, &mut bytes)?;
+        let length = read_proof(rt, self.proof, &mut bytes)?;
         let mut words = [0u32; 256];
         let n = lend_challenges(rt, self.challenges, self.modes.drawn, &mut words)?;
-        self.run(rt, proof, &words[..n])
+        self.run(rt, &bytes[..length], &words[..n]);
+        Ok(())
     }
 }
 
-// The bytes of a proof. A file that is longer than any proof of ten rounds by far is not read to its end, and has no number.
-pub fn read_proof<'a, 'b>(
-    rt: &impl Files,
-    path: &'a [u8],
-    bytes: &'b mut [u8],
-) -> Result<&'b [u8], Fault<'a>>
-    ensures { IfOk result (λ proof. length proof.now ≤ length bytes.old) }
+// The bytes of a proof, in the front of the buffer. A file that is longer than any proof of ten rounds by far is not read to its end, and has no number.
+pub fn read_proof<'a>(rt: &impl Files, path: &'a [u8], bytes: &mut [u8]) -> Result<usize, Fault<'a>>
+    ensures { IfOk result (λ n. IsPrefixLen n bytes.new) }
 {
     match read(rt, path, bytes)? {
-        Input::Whole(proof) => Ok(proof),
+        Input::Whole(n) => Ok(n),
         Input::Front(_) => Err(Fault::TooLong {
             path,
-            limit: "65536 bytes, and a proof of 10 rounds has 2832",
+            limit: " has more than 65536 bytes, and a proof of 10 rounds has 2832\n",
         }),
     }
 }
 
 // Verifies, and says what stops it.
-pub fn verify(rt: &(impl Files + Print), asked: Asked<'_>) {
+pub fn verify(rt: &impl Files, asked: Asked<'_>) {
     if let Err(fault) = asked.read_and_run(rt) {
-        fault.tell(rt);
+        fault.tell();
     }
 }

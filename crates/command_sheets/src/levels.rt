@@ -2,7 +2,7 @@
 ghost use Rattle.std.specs.Prelude.{◌*◌, ◌≤◌, length};
 ghost use Rattle.field.specs.Cells.{Clean};
 
-use answers::say;
+use answers::{print, say};
 use command_text::Fraction;
 use field::Ext;
 use std::fmt;
@@ -34,30 +34,30 @@ impl fmt::Display for Level<'_> {
 }
 
 // The tree over so many rows, by its nodes: node 1 is the root, and the level of so many nodes begins at the node of that number.
-fn say_levels(rt: &impl Print, nodes: &[[u32; 8]], size: usize)
+fn say_levels(nodes: &[[u32; 8]], size: usize)
     requires { (1 ≤ size) × (2 * size ≤ length nodes.now) }
 {
-    say(rt, format_args!("rows:{}", Level(&nodes[size..2 * size])));
+    say(format_args!("rows:{}", Level(&nodes[size..2 * size])));
     let mut first = size / 2;
     while 1 < first {
         let level = Level(&nodes[first..2 * first]);
-        say(rt, format_args!("sums of {} rows:{level}", size / first));
+        say(format_args!("sums of {} rows:{level}", size / first));
         first /= 2;
     }
-    say(rt, format_args!("sum:{}", Level(&nodes[1..2])));
+    say(format_args!("sum:{}", Level(&nodes[1..2])));
 }
 
 // The tree of the rows, a power of two of them or none.
-pub fn show_rows(rt: &impl Print, rows: &[u32])
+pub fn show_rows(rows: &[u32])
     requires room { length rows.now ≤ 8192 }
     requires clean { Clean rows.now }
 {
     let count = rows.len() / 8;
     if count == 0 {
-        return say(rt, "rows:\nsum: 0/1");
+        return print("rows:\nsum: 0/1\n");
     }
     let mut work = [0u32; 16384];
     prover_run::sum_rows(rows, count, &mut work);
     let (nodes, _) = work.as_chunks();
-    say_levels(rt, nodes, count);
+    say_levels(nodes, count);
 }

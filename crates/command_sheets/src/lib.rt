@@ -7,7 +7,7 @@ use crate::levels::show_rows;
 use answers::say;
 use command_files::fault::Fault;
 use command_files::inputs::read_sheet;
-use command_files::{Input, read, replace};
+use command_files::{Input, front, read, replace};
 use refusal::Refusal;
 use sheet_text::ListError;
 use sheet_text::list::read_list;
@@ -15,17 +15,17 @@ use std::rt::Files;
 
 pub mod levels; // the fraction tree, level by level
 
-fn show_file<'a>(rt: &(impl Files + Print), sheet: &'a [u8]) -> Result<(), Fault<'a>> {
+fn show_file<'a>(rt: &impl Files, sheet: &'a [u8]) -> Result<(), Fault<'a>> {
     let mut rows = [0u32; 8192];
     let n = read_sheet(rt, sheet, &mut rows)?;
-    show_rows(rt, &rows[..n]);
+    show_rows(&rows[..n]);
     Ok(())
 }
 
 // The name of the sheet.
-pub fn show(rt: &(impl Files + Print), sheet: &[u8]) {
+pub fn show(rt: &impl Files, sheet: &[u8]) {
     if let Err(fault) = show_file(rt, sheet) {
-        fault.tell(rt);
+        fault.tell();
     }
 }
 
@@ -45,32 +45,29 @@ fn read_rows<'a>(name: &'a [u8], list: &[u8], rows: &mut [u32]) -> Result<usize,
 
 fn keep_sheet<'a>(rt: &impl Files, rows: &[u32], path: &'a [u8]) -> Result<(), Fault<'a>> {
     let mut sheet = [0u8; 32771];
-    let n = stored_sheet::write_sheet(rows, &mut sheet)?.min(sheet.len());
+    let bytes = stored_sheet::write_sheet(rows, &mut sheet)?;
+    let n = front(bytes, &sheet);
     replace(rt, path, &sheet[..n])
 }
 
-fn make_file<'a>(
-    rt: &(impl Files + Print),
-    text: &'a [u8],
-    sheet: &'a [u8],
-) -> Result<(), Fault<'a>> {
+fn make_file<'a>(rt: &impl Files, text: &'a [u8], sheet: &'a [u8]) -> Result<(), Fault<'a>> {
     let mut bytes = [0u8; 262144];
-    let Input::Whole(list) = read(rt, text, &mut bytes)? else {
+    let Input::Whole(length) = read(rt, text, &mut bytes)? else {
         return Err(Fault::TooLong {
             path: text,
-            limit: "262144 bytes",
+            limit: " has more than 262144 bytes\n",
         });
     };
     let mut rows = [0u32; 8192];
-    let n = read_rows(text, list, &mut rows)?;
+    let n = read_rows(text, &bytes[..length], &mut rows)?;
     keep_sheet(rt, &rows[..n], sheet)?;
-    say(rt, format_args!("rows {}", n / 8));
+    say(format_args!("rows {}", n / 8));
     Ok(())
 }
 
 // The names of the text and of the sheet.
-pub fn make(rt: &(impl Files + Print), text: &[u8], sheet: &[u8]) {
+pub fn make(rt: &impl Files, text: &[u8], sheet: &[u8]) {
     if let Err(fault) = make_file(rt, text, sheet) {
-        fault.tell(rt);
+        fault.tell();
     }
 }

@@ -4,6 +4,16 @@ use crate::places::{ElementWord, ProofWord, RowWord, SubroundAt};
 use refusal::Words;
 use std::fmt;
 
+// The word at the end of a name.
+#[derive(Clone, Copy)]
+pub struct AtWord(pub usize);
+
+impl fmt::Display for AtWord {
+    fn fmt<W: fmt::Write>(&self, f: &mut fmt::Formatter<W>) -> fmt::Result {
+        write!(f, ", word {}", self.0)
+    }
+}
+
 impl fmt::Display for SubroundAt {
     fn fmt<W: fmt::Write>(&self, f: &mut fmt::Formatter<W>) -> fmt::Result {
         write!(f, "layer {}, sub-round {}", self.layer, self.subround)
@@ -13,11 +23,11 @@ impl fmt::Display for SubroundAt {
 impl fmt::Display for ProofWord {
     fn fmt<W: fmt::Write>(&self, f: &mut fmt::Formatter<W>) -> fmt::Result {
         match *self {
-            ProofWord::Root { word } => write!(f, "q0, word {word}"),
+            ProofWord::Root { word } => write!(f, "q0{}", AtWord(word)),
             ProofWord::Claim { layer, claim, word } => {
-                write!(f, "layer {layer}, {claim}, word {word}")
+                write!(f, "layer {layer}{claim}{}", AtWord(word))
             }
-            ProofWord::Sum { at, sum, word } => write!(f, "{at}, {sum}, word {word}"),
+            ProofWord::Sum { at, sum, word } => write!(f, "{at}{sum}{}", AtWord(word)),
         }
     }
 }
@@ -26,7 +36,7 @@ impl fmt::Display for RowWord {
     fn fmt<W: fmt::Write>(&self, f: &mut fmt::Formatter<W>) -> fmt::Result {
         write!(
             f,
-            "row {}, counted from 0, word {} of its {}",
+            "row {}, counted from 0, word {}{}",
             self.row, self.word, self.side
         )
     }

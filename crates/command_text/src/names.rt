@@ -23,11 +23,12 @@ impl Side {
     }
 }
 
+// After the word of a row.
 impl fmt::Display for Side {
     fn fmt<W: fmt::Write>(&self, f: &mut fmt::Formatter<W>) -> fmt::Result {
         f.write_str(match self {
-            Side::P => "p",
-            Side::Q => "q",
+            Side::P => " of its p",
+            Side::Q => " of its q",
         })
     }
 }
@@ -55,13 +56,14 @@ impl Claim {
     }
 }
 
+// After the layer.
 impl fmt::Display for Claim {
     fn fmt<W: fmt::Write>(&self, f: &mut fmt::Formatter<W>) -> fmt::Result {
         f.write_str(match self {
-            Claim::P0 => "p0",
-            Claim::Q0 => "q0",
-            Claim::P1 => "p1",
-            Claim::Q1 => "q1",
+            Claim::P0 => ", p0",
+            Claim::Q0 => ", q0",
+            Claim::P1 => ", p1",
+            Claim::Q1 => ", q1",
         })
     }
 }
@@ -87,12 +89,13 @@ impl Sum {
     }
 }
 
+// After the sub-round.
 impl fmt::Display for Sum {
     fn fmt<W: fmt::Write>(&self, f: &mut fmt::Formatter<W>) -> fmt::Result {
         f.write_str(match self {
-            Sum::S1 => "s(1)",
-            Sum::S2 => "s(2)",
-            Sum::S3 => "s(3)",
+            Sum::S1 => ", s(1)",
+            Sum::S2 => ", s(2)",
+            Sum::S3 => ", s(3)",
         })
     }
 }

@@ -5,7 +5,7 @@ use field::{Ext, Field};
 use refusal::{Refusal, Report};
 use std::fmt;
 
-// What was expected and what is there.
+// What was expected and what is there, after what was counted.
 #[derive(Clone, Copy)]
 struct Counts {
     expected: usize,
@@ -14,7 +14,7 @@ struct Counts {
 
 impl fmt::Display for Counts {
     fn fmt<W: fmt::Write>(&self, f: &mut fmt::Formatter<W>) -> fmt::Result {
-        write!(f, "expected {}, actual {}", self.expected, self.actual)
+        write!(f, ": expected {}, actual {}", self.expected, self.actual)
     }
 }
 
@@ -29,7 +29,7 @@ impl fmt::Display for Elements {
     fn fmt<W: fmt::Write>(&self, f: &mut fmt::Formatter<W>) -> fmt::Result {
         write!(
             f,
-            "expected {}, actual {}",
+            ": expected {}, actual {}",
             Short(self.expected),
             Short(self.actual)
         )
@@ -49,10 +49,10 @@ impl fmt::Display for Meaning {
                 "RaggedRows: the words of the rows are no multiple of eight"
             ),
             Refusal::TooManyRows => write!(f, "TooManyRows: more than 1024 rows"),
-            Refusal::NotPowerOfTwo => write!(
-                f,
-                "NotPowerOfTwo: the number of rows is neither 0 nor a power of two (rows 0/1 can be added, they leave the sum as it is)"
-            ),
+            Refusal::NotPowerOfTwo => {
+                f.write_str("NotPowerOfTwo: the number of rows is neither 0 nor a power of two")?;
+                f.write_str(" (rows 0/1 can be added, they leave the sum as it is)")
+            }
             Refusal::ShortChallenges => write!(
                 f,
                 "ShortChallenges: there are fewer challenges than the rounds need"
@@ -85,17 +85,17 @@ impl fmt::Display for Meaning {
             ),
             Refusal::IncorrectLayerCount { expected, actual } => write!(
                 f,
-                "IncorrectLayerCount: the number of layers in the proof: {}",
+                "IncorrectLayerCount: the number of layers in the proof{}",
                 Counts { expected, actual }
             ),
             Refusal::IncorrectSumcheckPolyCount { expected, actual } => write!(
                 f,
-                "IncorrectSumcheckPolyCount: the number of polynomial entries in the proof: {}",
+                "IncorrectSumcheckPolyCount: the number of polynomial entries in the proof{}",
                 Counts { expected, actual }
             ),
             Refusal::ZeroCheckFailed { actual } => write!(
                 f,
-                "ZeroCheckFailed: the numerator of the sum: {}",
+                "ZeroCheckFailed: the numerator of the sum{}",
                 Elements {
                     expected: Ext::ZERO,
                     actual
@@ -103,7 +103,7 @@ impl fmt::Display for Meaning {
             ),
             Refusal::RootConsistencyCheckFailed { expected, actual } => write!(
                 f,
-                "RootConsistencyCheckFailed: the denominator of the sum, as stated and as layer 0 has it: {}",
+                "RootConsistencyCheckFailed: the denominator of the sum, as stated and as layer 0 has it{}",
                 Elements { expected, actual }
             ),
             Refusal::IncorrectSubroundCount {
@@ -112,7 +112,7 @@ impl fmt::Display for Meaning {
                 actual,
             } => write!(
                 f,
-                "IncorrectSubroundCount: the number of sub-rounds in round {round}: {}",
+                "IncorrectSubroundCount: the number of sub-rounds in round {round}{}",
                 Counts { expected, actual }
             ),
             Refusal::LayerConsistencyCheckFailed {
@@ -121,12 +121,12 @@ impl fmt::Display for Meaning {
                 actual,
             } => write!(
                 f,
-                "LayerConsistencyCheckFailed: the claim of round {round}, as its layer has it and as its sub-rounds reach it: {}",
+                "LayerConsistencyCheckFailed: the claim of round {round}, as its layer has it and as its sub-rounds reach it{}",
                 Elements { expected, actual }
             ),
             Refusal::InvalidZeroRoundValue { actual } => write!(
                 f,
-                "InvalidZeroRoundValue: the denominator of the sum of no rows: {}",
+                "InvalidZeroRoundValue: the denominator of the sum of no rows{}",
                 Elements {
                     expected: Ext::ONE,
                     actual
@@ -193,9 +193,8 @@ pub struct Named<'a> {
 impl fmt::Display for Named<'_> {
     fn fmt<W: fmt::Write>(&self, f: &mut fmt::Formatter<W>) -> fmt::Result {
         let word = places::proof_word(self.layers, self.counts, self.place);
-        write!(
-            f,
-            "refused 6 BadWord: {word}, counted from 0, is not below 2013265921"
-        )
+        f.write_str("refused 6 ")?;
+        write!(f, "BadWord: {word}, counted from 0")?;
+        f.write_str(", is not below 2013265921")
     }
 }

@@ -22,8 +22,8 @@ const SHEETS: [&str; 14] = [
     "long.sheet",
 ];
 
-fn show_file(rt: &(impl Files + Print), name: &str) {
-    say(rt, name);
+fn show_file(rt: &impl Files, name: &str) {
+    say(name);
     match open_read(rt, name.as_bytes()) {
         Ok(mut file) => {
             let mut sheet = [0u8; 2051];
@@ -31,7 +31,7 @@ fn show_file(rt: &(impl Files + Print), name: &str) {
             let mut work = [0u32; 2048];
             let n = read_full(&mut file, &mut sheet);
             let more = read_full(&mut file, &mut [0u8; 1]) != 0;
-            show::show_input(rt, &sheet[..n], more, &mut rows, &mut work);
+            show::show_input(&sheet[..n], more, &mut rows, &mut work);
         }
         Err(error) => tell(name.as_bytes(), error),
     }

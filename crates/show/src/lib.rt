@@ -10,21 +10,18 @@ use step::Frac;
 use verifier_round::{Claims, Verdict};
 
 // `refused` and the refusal's number.
-pub fn say_refusal(rt: &impl Print, refusal: Refusal) {
-    say(rt, format_args!("refused {}", Report::from(refusal).number));
+pub fn say_refusal(refusal: Refusal) {
+    say(format_args!("refused {}", Report::from(refusal).number));
 }
 
-fn say_verdict(rt: &impl Print, verdict: Verdict, point: &[u32], rounds: usize) {
+fn say_verdict(verdict: Verdict, point: &[u32], rounds: usize) {
     match verdict {
-        Ok(Claims { numer, denom }) => say(
-            rt,
-            Accepted {
-                stated: Frac { p: numer, q: denom },
-                point,
-                rounds,
-            },
-        ),
-        Err(refusal) => say(rt, format_args!("verdict {}", Report::from(refusal).number)),
+        Ok(Claims { numer, denom }) => say(Accepted {
+            stated: Frac { p: numer, q: denom },
+            point,
+            rounds,
+        }),
+        Err(refusal) => say(format_args!("verdict {}", Report::from(refusal).number)),
     }
 }
 
@@ -62,40 +59,32 @@ fn prove(rows: &[u32], work: &mut [u32], point_again: &mut [u32; 24]) -> Result<
 }
 
 // What was proved and the verdict on it, or why there is no proof.
-fn show_rows(
-    rt: &impl Print,
-    sheet: &[u8],
-    rows: &mut [u32],
-    work: &mut [u32],
-) -> Result<(), Refusal> {
+fn show_rows(sheet: &[u8], rows: &mut [u32], work: &mut [u32]) -> Result<(), Refusal> {
     let count = stored_sheet::read_sheet(sheet, rows)?;
     let mut point = [0u32; 24];
     let joint = prove(&rows[..8 * count], work, &mut point)?;
     let Done { rounds, sum } = joint.done;
-    say(
-        rt,
-        Proved {
-            rows: count,
-            rounds,
-            sum,
-        },
-    );
-    say_verdict(rt, joint.verified.verdict, &point, rounds);
+    say(Proved {
+        rows: count,
+        rounds,
+        sum,
+    });
+    say_verdict(joint.verified.verdict, &point, rounds);
     Ok(())
 }
 
 // A sheet of at most 64 rows, read into lent words and proved in a lent workspace.
-pub fn show_sheet(rt: &impl Print, sheet: &[u8], rows: &mut [u32], work: &mut [u32]) {
-    if let Err(refusal) = show_rows(rt, sheet, rows, work) {
-        say_refusal(rt, refusal);
+pub fn show_sheet(sheet: &[u8], rows: &mut [u32], work: &mut [u32]) {
+    if let Err(refusal) = show_rows(sheet, rows, work) {
+        say_refusal(refusal);
     }
 }
 
 // What a reader of at most 2,051 bytes, 64 rows, was given: all of it, or less than that.
-pub fn show_input(rt: &impl Print, sheet: &[u8], more: bool, rows: &mut [u32], work: &mut [u32]) {
+pub fn show_input(sheet: &[u8], more: bool, rows: &mut [u32], work: &mut [u32]) {
     if more {
-        say_refusal(rt, Refusal::TooManyRows);
+        say_refusal(Refusal::TooManyRows);
     } else {
-        show_sheet(rt, sheet, rows, work);
+        show_sheet(sheet, rows, work);
     }
 }
