@@ -37,6 +37,7 @@ pub struct SubroundEvals {
 }
 
 // Whether so many polynomial entries use up the bytes from a place on.
+#[tactic(auto, using(crate::proofs::ShapeLaws::fitting_end))]
 fn entries_fit(proof: &[u8], from: usize, count: usize) -> bool
     requires { from ≤ length proof.now }
     ensures { result ≡ entries_fit count (drop from proof.now) }

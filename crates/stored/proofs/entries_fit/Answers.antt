@@ -1,5 +1,4 @@
-use Rattle.stored.proofs.ShapeLaws.{fitting_none, fitting_short, fitting_next, fitting_end}
-use mathlib.Core.Path.{◌∙◌}
+use Rattle.stored.proofs.ShapeLaws.{fitting_none, fitting_short, fitting_next}
 use Rattle.stored.proofs.entries_fit.Goals as goal
 
 pub returns-in_default : goal.returns-in_default
@@ -10,6 +9,3 @@ returns-then-after-size c = fitting_short _ _ _ _ _ _ _ _ c.loop-k.invariant c.l
 
 pub loop-k-preserved : goal.loop-k-preserved
 loop-k-preserved c = fitting_next _ _ _ _ _ _ _ _ c.loop-k.invariant c.loop-k-test.true c.in-Some.ensures.cases.0 c.from-size.ensures c.if-after-size.false
-
-pub returns : goal.returns
-returns c = c.is_empty.ensures ∙ fitting_end _ _ _ _ _ c.loop-k.invariant c.loop-k-test.false
