@@ -25,6 +25,13 @@ pub fn leave_point(verdict: Verdict, xi: &[u32], point: &mut [u32], n: usize)
     }
 }
 
+// A verdict, and what its run used up.
+pub fn answer(verdict: Verdict, used: Used) -> Ending
+    ensures { result ≡ ending verdict used }
+{
+    Ending { verdict, used }
+}
+
 // A verdict without a run.
 pub fn at_once(verdict: Verdict) -> Ending
     ensures { result ≡ ending verdict unused }

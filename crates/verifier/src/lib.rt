@@ -23,6 +23,7 @@ pub struct Ending {
 }
 
 // The words of the proof, then the challenges.
+#[tactic(auto, using(crate::proofs::GateLaws::words_shut, crate::proofs::GateLaws::needs_shut, crate::proofs::GateLaws::words_open))]
 fn check_words(proof: &[u8], outline: Outline, needs: &[u32]) -> Result<Outline, Refusal>
     requires { Shaped proof.now outline }
     ensures { result ≡ words_gate proof.now outline needs.now }
@@ -170,10 +171,7 @@ fn run(
     let mut xi = [0u32; 4 * refusal::MAX_ROUNDS];
     let verdict = verify_counted(proof, rounds, outline, &mut xi, &mut transcript);
     end::leave_point(verdict, &xi, point, 4 * rounds);
-    Ending {
-        verdict,
-        used: transcript.used_up(),
-    }
+    end::answer(verdict, transcript.used_up())
 }
 
 // What is not refused before: no rounds, or the run.

@@ -1,10 +1,10 @@
-use Rattle.std.proofs.Common.{refl, sym, ◌∙◌, arith, ◌*◌, length, length-take-le}
+use Rattle.std.proofs.Common.{refl, sym, ap, ◌∙◌, arith, ◌*◌, length, length-take-le}
 use Rattle.std.proofs.lemmas.Grind.{common_steps}
 use Rattle.field.specs.CellLaws.{clean_zeros}
 use Rattle.refusal.specs.Limits.{max_rounds}
 use Rattle.transcript.specs.Log.{state}
 use Rattle.verifier.specs.Gates.{sandbox}
-use Rattle.verifier.specs.Verified.{asked, lent}
+use Rattle.verifier.specs.Verified.{asked, lent, outcome}
 use Rattle.verifier.proofs.GateLaws.{passes}
 use Rattle.verifier.proofs.EndLaws.{ready_of, point_fits, run_is}
 use Rattle.verifier.proofs.run.Goals as goal
@@ -30,5 +30,6 @@ pub returns : goal.returns
 returns c = let N = c.new-transcript.ensures in
     let v = c.verify_counted-verdict in
     let same = sym (v.ensures.same ∙ N.same) in
+    ap (λ r. outcome r.verdict r.used c.leave_point.new.point c.log-1.given.0) c.answer.ensures ∙
     run_is (asked c.args.proof.now c.args.rounds (sandbox c.args.drawn) c.args.challenges.now) (lent c.args.point.now c.args.log.now) _ (state c.new-transcript.result) (state v.new.transcript) v.new.xi
     N.buffers.0 N.buffers.1 N.buffers.2 c.requires refl c.needed_words-needs.ensures v.ensures.counted (point_fits _ _ (passes c.requires).few v.auto.xi) c.leave_point.ensures c.used_up.ensures (grind (arith, common_steps, same))
