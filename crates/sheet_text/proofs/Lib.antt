@@ -3,3 +3,4 @@ pub mod Scanning
 pub mod Finding
 pub mod Placing
 pub mod Listing
+pub mod Good
