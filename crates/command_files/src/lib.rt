@@ -5,7 +5,7 @@ ghost use Rattle.std.specs.Prelude.{◌≡◌, ◌≤◌, min, length, IfSome, I
 ghost use Rattle.io.specs.Counts.{IsPrefixLen};
 ghost use Rattle.command_files.specs.Inputs.{bytes_read};
 
-use crate::fault::Fault;
+use crate::fault::{Fault, Stop};
 use crate::system::{create_temp, fill, invalid, open_read, read_full, remove, rename, tell};
 use std::io::{Error, Read};
 use std::rt::Files;
@@ -71,28 +71,49 @@ fn fill_and_name<R: Files>(
     rename(rt, temporary, path)
 }
 
-// Where the bytes do not get the name, that is told, and then no file stays behind.
-fn put_new<'a>(
-    rt: &impl Files,
-    path: &'a [u8],
-    name: &mut [u8],
-    bytes: &[u8],
-) -> Result<(), Fault<'a>> {
-    let file = create_temp(rt, name).map_err(|error| Fault::Failed { path, error })?;
-    if let Err(error) = fill_and_name(rt, file, bytes, name, path) {
-        tell(path, error);
+// Where the bytes do not get the name, no file stays behind.
+fn put_new(rt: &impl Files, path: &[u8], name: &mut [u8], bytes: &[u8]) -> Result<(), Error> {
+    let file = create_temp(rt, name)?;
+    let done = fill_and_name(rt, file, bytes, name, path);
+    if done.is_err() {
         let _ = remove(rt, name);
-        return Err(Fault::Told);
     }
-    Ok(())
+    done
+}
+
+fn replace_file(rt: &impl Files, path: &[u8], bytes: &[u8]) -> Result<(), Error> {
+    let mut name = [0u8; 4096];
+    let n = temporary_name(path, &mut name).ok_or_else(invalid)?;
+    put_new(rt, path, &mut name[..n], bytes)
 }
 
 // The bytes go to a new file of the same folder, which then takes the name: a file that had it is as it was until then.
 pub fn replace<'a>(rt: &impl Files, path: &'a [u8], bytes: &[u8]) -> Result<(), Fault<'a>> {
+    replace_file(rt, path, bytes).map_err(|error| Fault::Failed { path, error })
+}
+
+// As `put_new`, but where the bytes do not get the name that is told, before the file goes.
+fn put_new_or_tell<'a>(
+    rt: &impl Files,
+    path: &'a [u8],
+    name: &mut [u8],
+    bytes: &[u8],
+) -> Result<(), Stop<'a>> {
+    let file = create_temp(rt, name).map_err(|error| Fault::Failed { path, error })?;
+    if let Err(error) = fill_and_name(rt, file, bytes, name, path) {
+        tell(path, error);
+        let _ = remove(rt, name);
+        return Err(Stop::Told);
+    }
+    Ok(())
+}
+
+// As `replace`, but what fails once the new file is there is told, before that file goes.
+pub fn replace_or_tell<'a>(rt: &impl Files, path: &'a [u8], bytes: &[u8]) -> Result<(), Stop<'a>> {
     let mut name = [0u8; 4096];
     let Some(n) = temporary_name(path, &mut name) else {
         let error = invalid();
-        return Err(Fault::Failed { path, error });
+        return Err(Stop::Untold(Fault::Failed { path, error }));
     };
-    put_new(rt, path, &mut name[..n], bytes)
+    put_new_or_tell(rt, path, &mut name[..n], bytes)
 }

@@ -6,8 +6,8 @@ ghost use Rattle.wire.specs.Bytes.{words_from};
 ghost use Rattle.command_files.specs.Given.{FromFile};
 ghost use Rattle.command_files.specs.Logs.{log_of, log_given};
 
-use crate::fault::Fault;
-use crate::{Input, front, read, replace};
+use crate::fault::{Fault, Stop};
+use crate::{Input, front, read, replace_or_tell};
 use std::rt::Files;
 
 // The first n words of the bytes go to the front of the words.
@@ -65,13 +65,13 @@ fn log_front(words: usize, log: &[u32]) -> usize
     words.min(log.len().min(968))
 }
 
-fn write_log<'a>(rt: &impl Files, path: &'a [u8], log: &[u32]) -> Result<(), Fault<'a>>
+fn write_log<'a>(rt: &impl Files, path: &'a [u8], log: &[u32]) -> Result<(), Stop<'a>>
     requires { length log.now ≤ 968 }
 {
     let mut bytes = [0u8; 3872];
     let end = wire::put_words(&mut bytes, 0, log);
     let n = front(end, &bytes);
-    replace(rt, path, &bytes[..n])
+    replace_or_tell(rt, path, &bytes[..n])
 }
 
 // The first words of a log go to a file; an empty name stands for none. What fails is told.
@@ -80,7 +80,7 @@ pub fn keep_log(rt: &impl Files, path: &[u8], log: &[u32], words: usize) {
         return;
     }
     let n = log_front(words, log);
-    if let Err(fault) = write_log(rt, path, &log[..n]) {
-        fault.tell();
+    if let Err(stop) = write_log(rt, path, &log[..n]) {
+        stop.tell();
     }
 }

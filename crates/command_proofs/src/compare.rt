@@ -58,11 +58,15 @@ fn compare(rows: &[u32], accepted: Accepted<'_>) -> Option<bool> {
     claims::compare(rows, &point[..n], stated).ok()
 }
 
-fn compare_file<'a>(
+// The name of the sheet, an empty one for none, and an accepted proof.
+pub fn compare_sheet<'a>(
     rt: &impl Files,
     sheet: &'a [u8],
     accepted: Accepted<'_>,
 ) -> Result<(), Fault<'a>> {
+    if sheet.is_empty() {
+        return Ok(());
+    }
     let mut rows = [0u32; 8192];
     let n = read_sheet(rt, sheet, &mut rows)?;
     match compare(&rows[..n], accepted) {
@@ -76,12 +80,9 @@ fn compare_file<'a>(
     Ok(())
 }
 
-// The name of the sheet, an empty one for none, and an accepted proof. What stops the comparison is told.
-pub fn compare_sheet(rt: &impl Files, sheet: &[u8], accepted: Accepted<'_>) {
-    if sheet.is_empty() {
-        return;
-    }
-    if let Err(fault) = compare_file(rt, sheet, accepted) {
+// As `compare_sheet`, and what stops the comparison is told.
+pub fn compare_or_tell(rt: &impl Files, sheet: &[u8], accepted: Accepted<'_>) {
+    if let Err(fault) = compare_sheet(rt, sheet, accepted) {
         fault.tell();
     }
 }

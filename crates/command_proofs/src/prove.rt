@@ -2,10 +2,10 @@
 use crate::challenges::{are_counted, lend_challenges};
 use crate::notes::say_notes;
 use answers::{Proved, say};
-use command_files::fault::Fault;
+use command_files::fault::Stop;
 use command_files::inputs::read_sheet;
 use command_files::logs::keep_log;
-use command_files::{front, replace};
+use command_files::{front, replace_or_tell};
 use field::Field;
 use prover::Done;
 use refusal::Proving;
@@ -33,7 +33,7 @@ pub struct Asked<'a> {
 
 impl<'a> Asked<'a> {
     // The rows of the sheet, over lent challenges. Where the proof gets no file nothing else is kept or told.
-    fn run(self, rt: &impl Files, rows: &[u32], challenges: &[u32]) -> Result<(), Fault<'a>> {
+    fn run(self, rt: &impl Files, rows: &[u32], challenges: &[u32]) -> Result<(), Stop<'a>> {
         let mut proof = [0u8; 2832];
         let mut point = [0u32; 40];
         let mut log = [0u32; 968];
@@ -43,7 +43,7 @@ impl<'a> Asked<'a> {
         );
         let Done { rounds, sum } = proved.answer?;
         let n = front(proof_length(rounds), &proof);
-        replace(rt, self.proof, &proof[..n])?;
+        replace_or_tell(rt, self.proof, &proof[..n])?;
         say(Proved {
             rows: rows.len() / 8,
             rounds,
@@ -55,7 +55,7 @@ impl<'a> Asked<'a> {
         Ok(())
     }
 
-    fn read_and_run(self, rt: &impl Files) -> Result<(), Fault<'a>> {
+    fn read_and_run(self, rt: &impl Files) -> Result<(), Stop<'a>> {
         let mut rows = [0u32; 8192];
         let n = read_sheet(rt, self.sheet, &mut rows)?;
         let mut words = [0u32; 256];
@@ -66,7 +66,7 @@ impl<'a> Asked<'a> {
 
 // Proves, and says what stops it.
 pub fn prove(rt: &impl Files, asked: Asked<'_>) {
-    if let Err(fault) = asked.read_and_run(rt) {
-        fault.tell();
+    if let Err(stop) = asked.read_and_run(rt) {
+        stop.tell();
     }
 }

@@ -3,7 +3,7 @@ ghost use Rattle.std.specs.Prelude.{IfOk};
 ghost use Rattle.io.specs.Counts.{IsPrefixLen};
 
 use crate::challenges::{are_counted, lend_challenges};
-use crate::compare::compare_sheet;
+use crate::compare::compare_or_tell;
 use crate::verdict::{say_bad, say_good};
 use answers::Accepted;
 use command_files::fault::Fault;
@@ -43,7 +43,7 @@ impl<'a> Asked<'a> {
                 };
                 let counted = are_counted(self.challenges, modes.drawn);
                 say_good(proof, accepted, verified.used, counted);
-                compare_sheet(rt, self.sheet, accepted);
+                compare_or_tell(rt, self.sheet, accepted);
             }
             Err(refusal) => say_bad(proof, refusal, verified.used),
         }

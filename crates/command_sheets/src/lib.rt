@@ -5,9 +5,9 @@ ghost use Rattle.std.specs.Prelude.{◌≤◌, length, IfOk};
 
 use crate::levels::show_rows;
 use answers::say;
-use command_files::fault::Fault;
+use command_files::fault::{Fault, Stop};
 use command_files::inputs::read_sheet;
-use command_files::{Input, front, read, replace};
+use command_files::{Input, front, read, replace_or_tell};
 use refusal::Refusal;
 use sheet_text::ListError;
 use sheet_text::list::read_list;
@@ -43,20 +43,20 @@ fn read_rows<'a>(name: &'a [u8], list: &[u8], rows: &mut [u32]) -> Result<usize,
     })
 }
 
-fn keep_sheet<'a>(rt: &impl Files, rows: &[u32], path: &'a [u8]) -> Result<(), Fault<'a>> {
+fn keep_sheet<'a>(rt: &impl Files, rows: &[u32], path: &'a [u8]) -> Result<(), Stop<'a>> {
     let mut sheet = [0u8; 32771];
     let bytes = stored_sheet::write_sheet(rows, &mut sheet)?;
     let n = front(bytes, &sheet);
-    replace(rt, path, &sheet[..n])
+    replace_or_tell(rt, path, &sheet[..n])
 }
 
-fn make_file<'a>(rt: &impl Files, text: &'a [u8], sheet: &'a [u8]) -> Result<(), Fault<'a>> {
+fn make_file<'a>(rt: &impl Files, text: &'a [u8], sheet: &'a [u8]) -> Result<(), Stop<'a>> {
     let mut bytes = [0u8; 262144];
     let Input::Whole(length) = read(rt, text, &mut bytes)? else {
-        return Err(Fault::TooLong {
+        return Err(Stop::Untold(Fault::TooLong {
             path: text,
             limit: " has more than 262144 bytes\n",
-        });
+        }));
     };
     let mut rows = [0u32; 8192];
     let n = read_rows(text, &bytes[..length], &mut rows)?;
@@ -67,7 +67,7 @@ fn make_file<'a>(rt: &impl Files, text: &'a [u8], sheet: &'a [u8]) -> Result<(),
 
 // The names of the text and of the sheet.
 pub fn make(rt: &impl Files, text: &[u8], sheet: &[u8]) {
-    if let Err(fault) = make_file(rt, text, sheet) {
-        fault.tell();
+    if let Err(stop) = make_file(rt, text, sheet) {
+        stop.tell();
     }
 }

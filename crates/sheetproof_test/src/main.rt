@@ -11,6 +11,9 @@ use field::{Ext, Field};
 use refusal::{Refusal, Words};
 use std::rt::Files;
 
+#[cfg(test)]
+mod calls;
+
 // The line with a byte 0 for each space and after it.
 fn split(line: &[u8], args: &mut [u8]) -> usize
     ensures { IsPrefixLen result args.new }
