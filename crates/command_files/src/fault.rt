@@ -10,8 +10,8 @@ use refusal::Refusal;
 use std::fmt::Display;
 use std::io::Error;
 
-// What the system did not do at a name, a refusal, a line of a text that is none of its kind, a file with more than is read of it (how much that is stands after the name, up to
-// the line's end), and a log of so many bytes that are no words.
+// What the system did not do at a name, a refusal, a line of a text that is none of its kind, a file with more than is read of it (`limit` is all that is told after the name,
+// with the line's end), and a log of so many bytes that are no words.
 #[derive(Drop)]
 pub enum Fault<'a> {
     Failed {
@@ -52,10 +52,10 @@ pub enum Stop<'a> {
 
 // A fault that is not told yet.
 impl<'a> From<Fault<'a>> for Stop<'a> {
-    ghost from_gives = { λ fault stop. stop ≡ Stop.Untold fault };
+    ghost from_gives = { λ untold stop. stop ≡ Stop.Untold untold };
 
-    fn from(fault: Fault<'a>) -> Self {
-        Stop::Untold(fault)
+    fn from(untold: Fault<'a>) -> Self {
+        Stop::Untold(untold)
     }
 }
 

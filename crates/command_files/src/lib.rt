@@ -92,7 +92,7 @@ pub fn replace<'a>(rt: &impl Files, path: &'a [u8], bytes: &[u8]) -> Result<(), 
     replace_file(rt, path, bytes).map_err(|error| Fault::Failed { path, error })
 }
 
-// As `put_new`, but where the bytes do not get the name that is told, before the file goes.
+// As `put_new`, but a failure after the file is made is told before that file goes.
 fn put_new_or_tell<'a>(
     rt: &impl Files,
     path: &'a [u8],
@@ -108,7 +108,7 @@ fn put_new_or_tell<'a>(
     Ok(())
 }
 
-// As `replace`, but what fails once the new file is there is told, before that file goes.
+// As `replace`, but a failure after the new file is made is told, before that file goes.
 pub fn replace_or_tell<'a>(rt: &impl Files, path: &'a [u8], bytes: &[u8]) -> Result<(), Stop<'a>> {
     let mut name = [0u8; 4096];
     let Some(n) = temporary_name(path, &mut name) else {

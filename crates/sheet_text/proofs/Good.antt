@@ -1,4 +1,4 @@
--- What the readers answer where something stands: a word, or an element of one word or of four.
+-- For a caller that takes what is good alone, by `ok`: the word, and the element of one word or of four, that stands at a place, if one does.
 -- Assumes nothing.
 use Rattle.std.proofs.Common.{◌≡◌, refl, ap, arith, ◌∙◌, ℕ, Bool, true, false, List}
 use Rattle.std.specs.Prelude.{cond, ◌&&◌, ◌==◌, nat_lt, Option, Some, None, Result, Ok, Err, is_ok, option_and_then}
@@ -27,7 +27,7 @@ bad_or : (b : Bool) (e : Element) (f : Result Element Element) → result_ok f �
 bad_or true e f h = refl
 bad_or false e f h = h
 
--- three words, each got from the one before
+-- the element of a word and three after it, each got from the one before
 module _ (next : Word → Option Word) where
   abbrev pub three_after : Word → Option Element
   three_after a = do

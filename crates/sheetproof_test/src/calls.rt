@@ -1,4 +1,4 @@
-// Calls that no command makes, each once: `replace`, whose failure is for the caller to tell, and `compare_sheet` likewise.
+// Calls that answer what fails and leave it to their caller to tell: the commands have forms of them that tell it.
 use answers::Accepted;
 use command_files::fault::Fault;
 use command_files::system::open_read;
@@ -19,7 +19,7 @@ fn replaces(rt: HostRuntime) {
 
 // The folder itself cannot be replaced; the file that was to take its name is gone again.
 #[test]
-fn tells_what_failed(rt: HostRuntime) {
+fn answers_what_failed(rt: HostRuntime) {
     let failed = matches!(
         replace(&rt, b".", b""),
         Err(Fault::Failed { path: b".", .. })

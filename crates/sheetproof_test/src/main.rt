@@ -12,7 +12,7 @@ use refusal::{Refusal, Words};
 use std::rt::Files;
 
 #[cfg(test)]
-mod calls;
+mod calls; // tests of what no command line shows
 
 // The line with a byte 0 for each space and after it.
 fn split(line: &[u8], args: &mut [u8]) -> usize
